@@ -1,0 +1,9 @@
+pub mod Prelude
+pub mod Members
+pub mod State
+pub mod Steps
+pub mod Records
+pub mod Runs
+pub mod Claim
+pub mod Ranges
+pub mod Trials

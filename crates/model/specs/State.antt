@@ -1,0 +1,115 @@
+-- The cluster (document 01: row): registry, replicas, controller, logs, receipts, and the opening. Cited by Steps. Assumes nothing.
+use mathlib.Core.Bool.{Bool, true, false, cond}
+use mathlib.Core.List.{List, []}
+use mathlib.Core.Logic.{_↔_}
+use mathlib.Core.Path.{_≡_, sym, subst}
+use Prim.Native.Nat.{ℕ}
+use lib.Dec.{T, eqb, eqb→eq, eqb-refl}
+use Rattle.model.specs.Members.{Members, isReplica, none, only}
+
+-- What an entry is: made of a value and the term of the replica that appends it, with a test for equality.
+-- No rule and no proof looks inside an entry.
+pub record Entries : Type 1 where
+  pub Entry : Type 0
+  pub make : ℕ → ℕ → Entry
+  pub same : Entry → Entry → Bool
+  pub exact : (x y : Entry) → T (same x y) ↔ (x ≡ y)
+
+-- "Entry: a 32-bit unsigned value. Two entries are equal if their values are."
+abbrev pub values : Entries
+values = record {
+  Entry = ℕ;
+  make = λ value term. value;
+  same = eqb;
+  exact = λ x y. (eqb→eq x y, λ e. subst (λ z. T (eqb x z)) e (eqb-refl x));
+}
+
+-- Epoch, leader epoch (term), leader (0: none) and members: as the registry holds them, or as a replica or the controller last took them.
+pub record View : Type 0 where
+  pub epoch : ℕ
+  pub term : ℕ
+  pub leader : ℕ
+  pub members : Members
+
+pub data Status : Type 0 where
+  normal waiting choosing : Status
+
+pub data Stage : Type 0 where
+  idle leader boards choosing : Stage
+
+pub record Registry : Type 0 where
+  pub view : View
+  pub status : Status
+
+-- A heard length is kept as 0 for none and n + 1 for the length n ("None is below 0").
+pub record Controller : Type 0 where
+  pub view : View
+  pub stage : Stage
+  pub heard : ℕ → ℕ
+  pub heardJoined : ℕ → ℕ
+
+-- By replica: its view; the term whose leader's log its own log last followed (joined); its counts, one for each replica (acked);
+-- its log. For the whole cluster: the receipts (committed).
+pub record State (E : Type 0) : Type 0 where
+  pub registry : Registry
+  pub controller : Controller
+  pub view : ℕ → View
+  pub joined : ℕ → ℕ
+  pub acked : ℕ → ℕ → ℕ
+  pub log : ℕ → List E
+  pub committed : List E
+
+abbrev pub isNormal : Status → Bool
+isNormal normal = true
+isNormal waiting = false
+isNormal Status.choosing = false
+
+abbrev pub isWaiting : Status → Bool
+isWaiting normal = false
+isWaiting waiting = true
+isWaiting Status.choosing = false
+
+abbrev pub isChoosing : Status → Bool
+isChoosing normal = false
+isChoosing waiting = false
+isChoosing Status.choosing = true
+
+-- A stage by its place in document 01's list: idle, leader, boards, choosing.
+abbrev pub stageNumber : Stage → ℕ
+stageNumber idle = 0
+stageNumber leader = 1
+stageNumber boards = 2
+stageNumber Stage.choosing = 3
+
+-- Step 10: "stage is idle, leader or choosing for normal, waiting or choosing".
+abbrev pub stageOf : Status → Stage
+stageOf normal = idle
+stageOf waiting = leader
+stageOf Status.choosing = Stage.choosing
+
+abbrev pub zeros : ℕ → ℕ
+zeros x = 0
+
+-- What a number that is no replica holds.
+abbrev pub noView : View
+noView = record { epoch = 0; term = 0; leader = 0; members = none }
+
+-- "Opening with board b: every epoch, leader epoch and joined is 1, every leader b, all members {b}, status normal, stage idle,
+-- lists empty, counts 0, heard lengths none."
+abbrev pub firstView : ℕ → View
+firstView b = record { epoch = 1; term = 1; leader = b; members = only b }
+
+abbrev pub opened : {E : Type 0} → ℕ → State E
+opened b = record {
+  registry = record { view = firstView b; status = normal };
+  controller = record { view = firstView b; stage = idle; heard = zeros; heardJoined = zeros };
+  view = λ x. cond (isReplica x) (firstView b) noView;
+  joined = λ x. cond (isReplica x) 1 0;
+  acked = λ x. zeros;
+  log = λ x. [];
+  committed = [];
+}
+
+-- The opening's answer: 1 for a board outside 1 to 8.
+abbrev pub openAnswer : ℕ → ℕ
+openAnswer b = cond (isReplica b) 0 1

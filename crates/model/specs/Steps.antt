@@ -1,0 +1,285 @@
+-- The fifteen steps of document 01: the checks in the order written, each with its refusal, and the state after acceptance.
+-- Cited by Records and Runs. Assumes nothing.
+use mathlib.Core.Bool.{Bool, true, false, cond, not, _&&_, _||_}
+use mathlib.Core.List.{List, [], _∷_, _++_}
+use Prim.Native.Nat.{ℕ, suc}
+use lib.Dec.{leb, ltb, eqb}
+use lib.ListN.{length, getD}
+use Rattle.model.specs.Prelude.{upd, Check, _else_, firstFailed, passes}
+use Rattle.model.specs.Members.{Members, isReplica, _∩_, size, hasQuorum, lowest}
+use Rattle.model.specs.State.{Entries, View, Status, normal, waiting, Stage, idle, boards, Registry, Controller, State, isNormal, isChoosing, stageNumber, stageOf, zeros}
+
+-- The steps 1 to 15 in order, and what is no step.
+pub data Step : Type 0 where
+  append : (b value : ℕ) → Step
+  commit add remove : (b : ℕ) → Step
+  changeLeader : Step
+  refresh join receive : (b : ℕ) → Step
+  acknowledge : (a b : ℕ) → Step
+  refreshController readLeader : Step
+  read : (b : ℕ) → Step
+  setNormal : Step
+  hear install : (b : ℕ) → Step
+  malformed : Step
+
+-- "Raise adds 1 to the registry epoch, refused [7] at 4,000 as the last check."
+abbrev pub raise : Registry → Check
+raise r = ltb (r .view .epoch) 4000 else 7
+
+-- The three majority questions, each as the set of those that qualify.
+
+-- Step 2: counts above the receipts' length n.
+abbrev pub behindCommit : (ℕ → ℕ) → ℕ → Members
+behindCommit acked n x = ltb n (acked x)
+
+-- Step 13: heard, at a length not below the leader's heard one.
+abbrev pub behindNormal : Controller → Members
+behindNormal c x = leb 1 (c .heard x) && leb (c .heard (c .view .leader)) (c .heard x)
+
+-- "Installing ranks boards by joined epoch first, then length": x ranks above b.
+abbrev pub above : Controller → ℕ → ℕ → Bool
+above c b x =
+    ltb (c .heardJoined b) (c .heardJoined x) || (eqb (c .heardJoined b) (c .heardJoined x) && ltb (c .heard b) (c .heard x))
+
+-- Step 15: heard, not ranked above b.
+abbrev pub behindInstall : Controller → ℕ → Members
+behindInstall c b x = leb 1 (c .heard x) && not (above c b x)
+
+-- Registries after a raise.
+
+-- Step 3.
+abbrev pub added : Registry → ℕ → Registry
+added r b = record {
+  view = record { epoch = suc (r .view .epoch); term = r .view .term; leader = r .view .leader; members = upd (r .view .members) b true };
+  status = waiting;
+}
+
+-- Step 4.
+abbrev pub removed : Registry → ℕ → Registry
+removed r b = record {
+  view = record { epoch = suc (r .view .epoch); term = r .view .term; leader = r .view .leader; members = upd (r .view .members) b false };
+  status = cond (eqb (size (upd (r .view .members) b false)) 1) normal waiting;
+}
+
+-- Step 5, "if exactly one is left".
+abbrev pub succeeded : Registry → Members → Registry
+succeeded r left = record {
+  view = record { epoch = suc (r .view .epoch); term = suc (r .view .epoch); leader = lowest left; members = left };
+  status = normal;
+}
+
+-- Step 5, "otherwise".
+abbrev pub vacated : Registry → Members → Registry
+vacated r left = record {
+  view = record { epoch = suc (r .view .epoch); term = r .view .term; leader = 0; members = left };
+  status = Status.choosing;
+}
+
+-- Step 13.
+abbrev pub settled : Registry → Registry
+settled r = record {
+  view = record { epoch = suc (r .view .epoch); term = r .view .term; leader = r .view .leader; members = r .view .members };
+  status = normal;
+}
+
+-- Step 15.
+abbrev pub installed : Registry → ℕ → Registry
+installed r b = record {
+  view = record { epoch = suc (r .view .epoch); term = suc (r .view .epoch); leader = b; members = r .view .members };
+  status = waiting;
+}
+
+-- Controllers.
+
+-- The stage g, nothing heard.
+abbrev pub deaf : View → Stage → Controller
+deaf v g = record { view = v; stage = g; heard = zeros; heardJoined = zeros }
+
+-- The length n and the joined epoch j heard of b.
+abbrev pub heardOf : Controller → Stage → ℕ → ℕ → ℕ → Controller
+heardOf c g b n j = record {
+  view = c .view;
+  stage = g;
+  heard = upd (c .heard) b (suc n);
+  heardJoined = upd (c .heardJoined) b j;
+}
+
+-- The longest beginning shared by two lists (document 01, step 7).
+abbrev pub shared : {E : Type 0} → (E → E → Bool) → List E → List E → List E
+shared same [] ys = []
+shared same (x ∷ xs) [] = []
+shared same (x ∷ xs) (y ∷ ys) = cond (same x y) (x ∷ shared same xs ys) []
+
+-- A state with one part changed.
+module _ {E : Type 0} (s : State E) where
+  open State s using (registry, controller, view, joined, acked, log, committed)
+
+  abbrev pub withRegistry : Registry → State E
+  withRegistry r = record { registry = r; controller = controller; view = view; joined = joined; acked = acked; log = log; committed = committed }
+
+  abbrev pub withController : Controller → State E
+  withController c = record { registry = registry; controller = c; view = view; joined = joined; acked = acked; log = log; committed = committed }
+
+  abbrev pub withView : ℕ → View → State E
+  withView b v = record { registry = registry; controller = controller; view = upd view b v; joined = joined; acked = acked; log = log; committed = committed }
+
+  abbrev pub withJoined : ℕ → ℕ → State E
+  withJoined b j = record { registry = registry; controller = controller; view = view; joined = upd joined b j; acked = acked; log = log; committed = committed }
+
+  abbrev pub withAcked : ℕ → (ℕ → ℕ) → State E
+  withAcked b n = record { registry = registry; controller = controller; view = view; joined = joined; acked = upd acked b n; log = log; committed = committed }
+
+  abbrev pub withLog : ℕ → List E → State E
+  withLog b l = record { registry = registry; controller = controller; view = view; joined = joined; acked = acked; log = upd log b l; committed = committed }
+
+  abbrev pub withCommitted : List E → State E
+  withCommitted l = record { registry = registry; controller = controller; view = view; joined = joined; acked = acked; log = log; committed = l }
+
+module _ (𝓔 : Entries) where
+  open Entries 𝓔 using (Entry, make, same)
+
+  module _ (s : State Entry) where
+    open State s using (registry, controller, view, joined, acked, log, committed)
+
+    -- The entry at a place of b's log. (Where it is cited the place is inside the log.)
+    abbrev pub entryAt : ℕ → ℕ → Entry
+    entryAt b n = getD (log b) n (make 0 0)
+
+    -- "b's leader is b".
+    abbrev leads : ℕ → Bool
+    leads b = eqb (view b .leader) b
+
+    -- "its leader is neither 0 nor b".
+    abbrev follows : ℕ → Bool
+    follows b = not (eqb (view b .leader) 0) && not (eqb (view b .leader) b)
+
+    -- Joined equals its own leader epoch.
+    abbrev hasJoined : ℕ → Bool
+    hasJoined b = eqb (joined b) (view b .term)
+
+    abbrev sameTerm : ℕ → ℕ → Bool
+    sameTerm a b = eqb (view a .term) (view b .term)
+
+    abbrev atStage : Stage → Bool
+    atStage g = eqb (stageNumber (controller .stage)) (stageNumber g)
+
+    -- Controller and registry epochs are equal.
+    abbrev upToDate : Bool
+    upToDate = eqb (controller .view .epoch) (registry .view .epoch)
+
+    -- The heard length of b is below its log's length.
+    abbrev unheard : ℕ → Bool
+    unheard b = ltb (controller .heard b) (suc (length (log b)))
+
+    -- The checks, in the order written. "1 before a step's own checks."
+    abbrev pub checks : Step → List Check
+    checks (append b value) = (isReplica b else 1)
+        ∷ (leads b else 8)
+        ∷ (ltb (length (log b)) 512 else 13) ∷ []
+    checks (commit b) = (isReplica b else 1)
+        ∷ (leads b else 8)
+        ∷ (ltb (length committed) (length (log b)) else 12)
+        ∷ (hasQuorum (view b .members) (behindCommit (acked b) (length committed)) else 14) ∷ []
+    checks (add b) = (isReplica b else 1)
+        ∷ (not (isChoosing (registry .status)) else 4)
+        ∷ (not (registry .view .members b) else 5)
+        ∷ raise registry ∷ []
+    checks (remove b) = (isReplica b else 1)
+        ∷ (not (isChoosing (registry .status)) else 4)
+        ∷ (registry .view .members b else 5)
+        ∷ (not (eqb b (registry .view .leader)) else 6)
+        ∷ raise registry ∷ []
+    checks changeLeader =
+        (isNormal (registry .status) else 4)
+        ∷ (leb 2 (size (registry .view .members)) else 6)
+        ∷ raise registry ∷ []
+    checks (refresh b) = (isReplica b else 1)
+        ∷ (ltb (view b .epoch) (registry .view .epoch) else 12) ∷ []
+    checks (join b) = (isReplica b else 1)
+        ∷ (follows b else 9)
+        ∷ (view b .members b else 5)
+        ∷ (sameTerm b (view b .leader) else 10)
+        ∷ (not (hasJoined b) else 11) ∷ []
+    checks (receive b) = (isReplica b else 1)
+        ∷ (follows b else 9)
+        ∷ (view b .members b && view (view b .leader) .members b else 5)
+        ∷ (sameTerm b (view b .leader) else 10)
+        ∷ (hasJoined b else 11)
+        ∷ (ltb (length (log b)) (length (log (view b .leader))) else 12) ∷ []
+    checks (acknowledge a b) = (isReplica a && isReplica b && not (eqb a b) else 1)
+        ∷ (leads a else 8)
+        ∷ (view b .members b else 5)
+        ∷ (sameTerm a b else 10)
+        ∷ (hasJoined b else 11)
+        ∷ (ltb (acked a b) (length (log b)) else 12) ∷ []
+    checks refreshController =
+        (ltb (controller .view .epoch) (registry .view .epoch) else 12) ∷ []
+    checks readLeader =
+        (atStage Stage.leader else 15)
+        ∷ (eqb (view (controller .view .leader) .epoch) (controller .view .epoch) else 16) ∷ []
+    checks (read b) = (isReplica b else 1)
+        ∷ (atStage boards else 15)
+        ∷ (not (eqb b (controller .view .leader)) else 6)
+        ∷ (controller .view .members b else 5)
+        ∷ (eqb (joined b) (controller .view .term) else 11)
+        ∷ (unheard b else 12) ∷ []
+    checks setNormal =
+        (atStage boards else 15)
+        ∷ (upToDate else 16)
+        ∷ (hasQuorum (controller .view .members) (behindNormal controller) else 14)
+        ∷ raise registry ∷ []
+    checks (hear b) = (isReplica b else 1)
+        ∷ (atStage Stage.choosing else 15)
+        ∷ (controller .view .members b else 5)
+        ∷ (eqb (view b .epoch) (controller .view .epoch) else 16)
+        ∷ (unheard b else 12) ∷ []
+    checks (install b) = (isReplica b else 1)
+        ∷ (atStage Stage.choosing else 15)
+        ∷ (controller .view .members b else 5)
+        ∷ (upToDate else 16)
+        ∷ (leb 1 (controller .heard b) && hasQuorum (controller .view .members) (behindInstall controller b) else 14)
+        ∷ raise registry ∷ []
+    checks malformed = (false else 1) ∷ []
+
+    -- The state after an accepted step.
+    abbrev pub next : Step → State Entry
+    next (append b value) =
+        withAcked (withLog s b (log b ++ (make value (view b .term) ∷ []))) b (upd (acked b) b (suc (length (log b))))
+    next (commit b) = withCommitted s (committed ++ (entryAt b (length committed) ∷ []))
+    next (add b) = withRegistry s (added registry b)
+    next (remove b) = withRegistry s (removed registry b)
+    next changeLeader =
+        let left = upd (registry .view .members) (registry .view .leader) false in
+        withRegistry s (cond (eqb (size left) 1) (succeeded registry left) (vacated registry left))
+    next (refresh b) =
+        let changed = not (eqb (view b .term) (registry .view .term)) in
+        withAcked
+        (withJoined (withView s b (registry .view)) b (cond (changed && eqb (registry .view .leader) b) (registry .view .term) (joined b)))
+        b (cond changed (upd zeros b (length (log b))) (acked b))
+    next (join b) = withJoined (withLog s b (shared same (log b) (log (view b .leader)))) b (view b .term)
+    next (receive b) = withLog s b (log b ++ (entryAt (view b .leader) (length (log b)) ∷ []))
+    next (acknowledge a b) = withAcked s a (upd (acked a) b (length (log b)))
+    next refreshController = withController s (deaf (registry .view) (stageOf (registry .status)))
+    next readLeader =
+        withController s (heardOf controller boards (controller .view .leader) (length (log (controller .view .leader))) 0)
+    next (read b) = withController s (heardOf controller (controller .stage) b (length (log b)) 0)
+    next setNormal =
+        let v = controller .view in
+        withController (withRegistry s (settled registry))
+        (deaf (record { epoch = suc (registry .view .epoch); term = v .term; leader = v .leader; members = v .members }) idle)
+    next (hear b) = withController s (heardOf controller (controller .stage) b (length (log b)) (joined b))
+    next (install b) =
+        let e = suc (registry .view .epoch) in
+        withController (withRegistry s (installed registry b))
+        (deaf (record { epoch = e; term = e; leader = b; members = controller .view .members }) Stage.leader)
+    next malformed = s
+
+    -- "Accepted, or refused with the first failing check"; "a refused step returns its number, row, store and receipts untouched".
+    abbrev pub accepts : Step → Bool
+    accepts st = passes (checks st)
+
+    abbrev pub answer : Step → ℕ
+    answer st = firstFailed (checks st)
+
+    abbrev pub step : Step → State Entry
+    step st = cond (accepts st) (next st) s

@@ -1,0 +1,134 @@
+-- The trials of document 01 marked P as one table, and the others that are quick to compute. Cited by the promise of `trials`. Assumes nothing.
+use mathlib.Core.Bool.{Bool, true, false, cond, _&&_}
+use mathlib.Core.List.{List, [], _∷_, _++_}
+use mathlib.Core.Path.{_≡_}
+use Prim.Native.Nat.{ℕ, zero, suc}
+use lib.Dec.{T, eqb}
+use lib.ListN.{length, replicate}
+use Rattle.model.specs.Members.{isReplica, size, quorum}
+use Rattle.model.specs.State.{values, State, opened, openAnswer, isNormal}
+use Rattle.model.specs.Records.{Record}
+use Rattle.model.specs.Runs.{run, answers}
+
+-- Records, by the number of their step: of no board, of a board, of two boards, of a board and a value.
+abbrev pub step : ℕ → Record
+step n = record { step = n; board = 0; other = 0; spare = 0; value = 0 }
+
+abbrev pub of : ℕ → ℕ → Record
+of n b = record { step = n; board = b; other = 0; spare = 0; value = 0 }
+
+abbrev pub ofBoth : ℕ → ℕ → ℕ → Record
+ofBoth n a b = record { step = n; board = a; other = b; spare = 0; value = 0 }
+
+abbrev pub ofValue : ℕ → ℕ → ℕ → Record
+ofValue n b v = record { step = n; board = b; other = 0; spare = 0; value = v }
+
+abbrev pub sameList : List ℕ → List ℕ → Bool
+sameList [] [] = true
+sameList [] (y ∷ ys) = false
+sameList (x ∷ xs) [] = false
+sameList (x ∷ xs) (y ∷ ys) = eqb x y && sameList xs ys
+
+-- A row of the table.
+pub data Trial : Type 0 where
+  -- the majority of n boards
+  majority : (n is : ℕ) → Trial
+  -- the opening call's answer
+  opening : (b answer : ℕ) → Trial
+  -- opened with b: the records, their answers, and what is seen of the state then
+  running : (b : ℕ) → List Record → List ℕ → (State ℕ → Bool) → Trial
+
+unfoldable pub holds : Trial → Bool
+unfolding run answers
+holds (majority n is) = eqb (quorum n) is
+holds (opening b answer) = eqb (openAnswer b) answer
+holds (running b rs ns seen) = isReplica b && sameList (answers values (opened b) rs) ns && seen (run values (opened b) rs)
+
+unfoldable pub allHold : List Trial → Bool
+unfolding holds
+allHold [] = true
+allHold (t ∷ ts) = holds t && allHold ts
+
+-- Nothing is said of the state.
+abbrev unseen : State ℕ → Bool
+unseen s = true
+
+-- P7's records, which P8 and P9 go on from: add 2; change; read leader; controller news; read leader; board 1 news; read leader.
+abbrev p7 : List Record
+p7 = of 3 2 ∷ step 5 ∷ step 11 ∷ step 10 ∷ step 11 ∷ of 6 1 ∷ step 11 ∷ []
+
+abbrev p7answers : List ℕ
+p7answers = 0 ∷ 4 ∷ 15 ∷ 0 ∷ 16 ∷ 0 ∷ 0 ∷ []
+
+-- P8: set normal; read 2; set normal.
+abbrev p8 : List Record
+p8 = p7 ++ (step 13 ∷ of 12 2 ∷ step 13 ∷ [])
+
+abbrev p8answers : List ℕ
+p8answers = p7answers ++ (14 ∷ 0 ∷ 0 ∷ [])
+
+-- "leader 2, members 2, epoch and leader epoch 4, normal"
+abbrev p9seen : State ℕ → Bool
+p9seen s =
+    eqb (s .registry .view .leader) 2 && eqb (size (s .registry .view .members)) 1 && s .registry .view .members 2
+    && eqb (s .registry .view .epoch) 4 && eqb (s .registry .view .term) 4 && isNormal (s .registry .status)
+
+abbrev pub table : List Trial
+table =
+    -- P1
+    majority 1 1 ∷ majority 2 2 ∷ majority 3 2 ∷ majority 4 3 ∷ majority 5 3 ∷ majority 6 4 ∷ majority 7 4 ∷ majority 8 5
+    -- P2
+    ∷ opening 0 1 ∷ opening 9 1 ∷ opening 8 0
+    -- P3: receipt by 1; append 41; receipt
+    ∷ running 1 (of 2 1 ∷ ofValue 1 1 41 ∷ of 2 1 ∷ []) (12 ∷ 0 ∷ 0 ∷ []) unseen
+    -- P4: append on 2
+    ∷ running 1 (ofValue 1 2 41 ∷ []) (8 ∷ []) unseen
+    -- P5: change; remove 1; remove 2
+    ∷ running 1 (step 5 ∷ of 4 1 ∷ of 4 2 ∷ []) (6 ∷ 6 ∷ 5 ∷ []) unseen
+    -- P6: add 2 twice
+    ∷ running 1 (of 3 2 ∷ of 3 2 ∷ []) (0 ∷ 5 ∷ []) unseen
+    -- P7
+    ∷ running 1 p7 p7answers unseen
+    -- P8: "epoch 3"
+    ∷ running 1 p8 p8answers (λ s. eqb (s .registry .view .epoch) 3)
+    -- P9: change
+    ∷ running 1 (p8 ++ (step 5 ∷ [])) (p8answers ++ (0 ∷ [])) p9seen
+    ∷ []
+
+-- "Append 512 accepted, 513 gives 13."
+abbrev full : Trial
+full = running 1 (replicate 513 (ofValue 1 1 7)) (replicate 512 0 ++ (13 ∷ [])) (λ s. eqb (length (s .log 1)) 512)
+
+-- x and y in turn, n times each
+abbrev pub inTurn : {A : Type 0} → ℕ → A → A → List A
+inTurn zero x y = []
+inTurn (suc n) x y = x ∷ y ∷ inTurn n x y
+
+-- "Adding and removing 2 in turn 3,999 times reaches epoch 4,000; the next gives 7."
+abbrev worn : Trial
+worn = running 1 (inTurn 2000 (of 3 2) (of 4 2)) (replicate 3999 0 ++ (7 ∷ [])) (λ s. eqb (s .registry .view .epoch) 4000)
+
+-- "Members 1 to 4, leader 1, normal, news taken, logs empty."
+abbrev fourReady : List Record
+fourReady =
+    of 3 2 ∷ of 3 3 ∷ of 3 4 ∷ step 10 ∷ of 6 1 ∷ step 11 ∷ of 12 2 ∷ of 12 3 ∷ step 13
+    ∷ of 6 1 ∷ of 6 2 ∷ of 6 3 ∷ of 6 4 ∷ []
+
+-- "1 appends 41, only 4 receives it. Change; 2, 3 and the controller take news; 2 and 3 are heard; 2 is installed, takes news,
+-- appends 42. Board 4 takes news; 2 counting 4 gives 11; 4 joins and its log is empty."
+abbrev four : Trial
+four = running 1
+    (fourReady ++ (ofValue 1 1 41 ∷ of 8 4 ∷ step 5 ∷ of 6 2 ∷ of 6 3 ∷ step 10 ∷ of 14 2 ∷ of 14 3 ∷ of 15 2 ∷ of 6 2 ∷ ofValue 1 2 42
+    ∷ of 6 4 ∷ ofBoth 9 2 4 ∷ of 7 4 ∷ []))
+    (replicate 25 0 ++ (11 ∷ 0 ∷ []))
+    (λ s. eqb (length (s .log 4)) 0)
+
+abbrev pub others : List Trial
+others = full ∷ worn ∷ four ∷ []
+
+-- The P trials: one table, one statement.
+unfoldable pub TrialsHold : Type 0
+TrialsHold = T (allHold table)
+
+unfoldable pub OthersHold : Type 0
+OthersHold = T (allHold others)
