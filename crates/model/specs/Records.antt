@@ -32,11 +32,11 @@ boards r st = unused (r .spare ∷ r .value ∷ []) (st (r .board) (r .other))
 abbrev pub valued : Record → (ℕ → ℕ → Step) → Step
 valued r st = unused (r .other ∷ r .spare ∷ []) (st (r .board) (r .value))
 
--- The step of a record: the rule at its number, from 0 on. Step 0 stands first in a sheet and nowhere else, and above 15 is no step.
+-- The rules by number, from 0 on. Step 0 stands first in a sheet and nowhere else.
 -- Boards outside 1 to 8, and a equal to b, are refused by the steps' first checks.
-abbrev pub stepOf : Record → Step
-stepOf r = getD
-    (malformed
+abbrev pub rules : Record → List Step
+rules r =
+    malformed
     ∷ valued r append
     ∷ board r commit
     ∷ board r add
@@ -52,5 +52,8 @@ stepOf r = getD
     ∷ alone r setNormal
     ∷ board r hear
     ∷ board r install
-    ∷ [])
-    (r .step) malformed
+    ∷ []
+
+-- The step of a record: the rule at its number. Above 15 is no step.
+abbrev pub stepOf : Record → Step
+stepOf r = getD (rules r) (r .step) malformed

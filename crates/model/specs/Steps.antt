@@ -210,8 +210,7 @@ module _ (𝓔 : Entries) where
         ∷ (leads a else 8)
         ∷ (view b .members b else 5)
         ∷ (sameTerm a b else 10)
-        ∷ (hasJoined b else 11)
-        ∷ (ltb (acked a b) (length (log b)) else 12) ∷ []
+        ∷ (hasJoined b else 11) ∷ (ltb (acked a b) (length (log b)) else 12) ∷ []
     checks refreshController =
         (ltb (controller .view .epoch) (registry .view .epoch) else 12) ∷ []
     checks readLeader =

@@ -1,6 +1,18 @@
+ghost use Rattle.model.specs.Claim.{DemandThree};
+ghost use Rattle.model.specs.Ranges.{RunsInRange};
 ghost use Rattle.model.specs.Trials.{TrialsHold, OthersHold};
 
-// The trials of document 01 hold of the definitions: P1 to P9, and the three longer ones. Nothing to run.
+// Demand 3, for every opening and every list of records. Nothing to run: the promise is the statement.
+pub fn claim()
+    ensures { λ r. ⌜ DemandThree ⌝ }
+{}
+
+// No state of a run is one that refusal 1 would turn away.
+pub fn ranges()
+    ensures { λ r. ⌜ RunsInRange ⌝ }
+{}
+
+// The trials of document 01 hold of the definitions: P1 to P9, and the three longer ones.
 pub fn trials()
     ensures { λ r. ⌜ TrialsHold × OthersHold ⌝ }
 {}

@@ -1,0 +1,14 @@
+pub mod Tests
+pub mod Prefix
+pub mod Quorum
+pub mod Invariant
+pub mod Static
+pub mod Replicas
+pub mod Commit
+pub mod Control
+pub mod Raise
+pub mod Succession
+pub mod Change
+pub mod Install
+pub mod Theorem
+pub mod Bounds

@@ -1,0 +1,238 @@
+-- Demand 3: the invariant holds after the opening and after every list of records, and says what is claimed. Assumes nothing.
+use mathlib.Core.Bool.{Bool, true, false, not, cond, _&&_}
+use mathlib.Core.List.{List, [], _∷_, _++_, append-assoc, append-nil}
+use mathlib.Core.Logic.{_≢_}
+use mathlib.Core.Path.{_≡_, refl, sym, subst, ap, _∙_}
+use Prim.Native.Nat.{ℕ, zero, suc, _+_, _≤_, _<_}
+use native.Mathlib.Nat.{zero-add}
+use native.Mathlib.Omega.{arith}
+use lib.Dec.{T, leb, eqb, eqb→eq, eqb-refl}
+use lib.ListN.{length, getD}
+use borrow.Author.Tests.{ne-eqb}
+use Rattle.model.specs.Prelude.{passes, _⊑_}
+use Rattle.model.specs.Members.{isReplica, only, size}
+use Rattle.model.specs.State.{Entries, values, State, opened, firstView, noView}
+use Rattle.model.specs.Steps.{Step, append, commit, add, remove, changeLeader, refresh, join, receive, acknowledge, refreshController, readLeader, read, setNormal, hear, install, malformed, checks, next, accepts, step, entryAt}
+use Rattle.model.specs.Records.{Record, unused, rules, stepOf}
+use Rattle.model.specs.Runs.{run, gives, given}
+use Rattle.model.specs.Claim.{LeadsUnder, after, receipts, Safe, Safety, DemandThree}
+use Rattle.model.proofs.Tests.{Holds, facts, by-test, by-cond, is-true, is-false, upd-idle, eqb-same}
+use Rattle.model.proofs.Prefix.{begins-refl, begins-nil, begins-more}
+use Rattle.model.proofs.Quorum.{by-replica, replica-ne}
+use Rattle.model.proofs.Invariant.{ViewOk, Firm, vacant, settled, reads, Stale, Inv}
+use Rattle.model.proofs.Static.{acting, named-only, Later, later}
+use Rattle.model.proofs.Replicas.{append-keeps, refresh-keeps, join-keeps, receive-keeps, acknowledge-keeps}
+use Rattle.model.proofs.Commit.{commit-keeps}
+use Rattle.model.proofs.Control.{refresh-controller-keeps, read-leader-keeps, read-keeps, hear-keeps}
+use Rattle.model.proofs.Raise.{add-keeps, remove-keeps, set-normal-keeps}
+use Rattle.model.proofs.Change.{change-keeps}
+use Rattle.model.proofs.Install.{install-keeps}
+
+-- a property of the elements of a list, by their place from k on
+abbrev All : {A : Type 0} → (ℕ → A → Type 0) → ℕ → List A → Type 0
+All P k [] = Unit {0}
+All P k (x ∷ xs) = P k x × All P (suc k) xs
+
+nth : {A : Type 0} (P : ℕ → A → Type 0) (d : A) → ((m : ℕ) → P m d) → (xs : List A) (k n : ℕ) → All P k xs → P (k + n) (getD xs n d)
+nth P d out [] k n a = out (k + n)
+nth P d out (x ∷ xs) k zero a = subst (λ m. P m x) (omega arith) (a .0)
+nth P d out (x ∷ xs) k (suc n) a = subst (λ m. P m (getD xs n d)) (omega arith) (nth P d out xs (suc k) n (a .1))
+
+-- The opening: b was named under every term so far, and nobody is stale.
+pub opened-inv : {E : Type 0} (b : ℕ) → T (isReplica b) → Inv {E = E} (λ _. b) (opened b)
+opened-inv {E} b k = record {
+  real = λ _. k;
+  registry = record { term = omega arith; named = refl; member = λ _. eqb-refl b };
+  views = λ x. by-test (isReplica x)
+      (λ t. rw (is-true (isReplica x) t) (record { epoch = omega arith; term = omega arith; joined = omega arith; current = λ _. refl; led = λ _. refl }))
+      (λ t. rw (is-false (isReplica x) t) (record { epoch = omega arith; term = omega arith; joined = omega arith; current = λ e. absurd (omega arith); led = λ n. absurd (n refl) }));
+  controller = record { epoch = omega arith; current = λ _. refl; stage = λ _. tt };
+  logs = record {
+    own = λ a _. by-test (isReplica a) (λ t. rw (is-true (isReplica a) t)) (λ t. rw (is-false (isReplica a) t));
+    taken = λ x. rw (is-true (isReplica b) k) (by-cond (λ j. j ≤ 1) (isReplica x) (λ _. omega arith) (λ _. omega arith));
+    follows = λ _ _. begins-refl [];
+    counts = λ _ _ _. record { early = λ _. refl; now = λ _. omega arith };
+  };
+  leader = record {
+    joined = rw (is-true (isReplica b) k);
+    took = λ _. rw (is-true (isReplica b) k);
+    whole = λ f. absurd (loose f);
+  };
+  heard = record { read = λ _ _ x _ h. absurd (omega arith); heard = λ _ _ x _ h. absurd (omega arith) };
+  safe = record { begins = begins-refl []; backed = λ f. absurd (loose f) };
+  outvoted = λ a st. absurd (fresh a st);
+}
+  where
+    alone : size (only b) ≡ 1
+    alone = by-replica (λ x. size (only x) ≡ 1) refl refl refl refl refl refl refl refl b k
+
+    loose : Firm (opened {E = E} b .registry) (opened {E = E} b .controller) → ⊥
+    loose (vacant t) = t
+    loose (settled t n) = omega (arith, alone)
+    loose (reads t) = t
+
+    fresh : (a : ℕ) → Stale 1 (cond (isReplica a) (firstView b) noView) a → ⊥
+    fresh a st = by-test (isReplica a)
+        (λ t. let lt : 1 < 1 = rw (is-true (isReplica a) t) at (st .old) in omega arith)
+        (λ t. let e : 0 ≡ a = rw (is-false (isReplica a) t) at (st .leads) in st .real (sym e))
+
+module _ (𝓔 : Entries) where
+  open Entries 𝓔 using (Entry, make)
+
+  -- Every accepted step keeps it,
+  pub keeps : {L : ℕ → ℕ} {s : State Entry} → Inv L s → (st : Step) → Holds (checks 𝓔 s st) → Later L s (next 𝓔 s st)
+  keeps i (append b v) h = later (append-keeps 𝓔 i b v h) (omega arith)
+  keeps i (commit b) h = later (commit-keeps 𝓔 i b h) (omega arith)
+  keeps i (add b) h = later (add-keeps 𝓔 i b h) (omega arith)
+  keeps i (remove b) h = later (remove-keeps 𝓔 i b h) (omega arith)
+  keeps i changeLeader h = change-keeps 𝓔 i h
+  keeps i (refresh b) h = later (refresh-keeps 𝓔 i b h) (omega arith)
+  keeps i (join b) h = later (join-keeps 𝓔 i b h) (omega arith)
+  keeps i (receive b) h = later (receive-keeps 𝓔 i b h) (omega arith)
+  keeps i (acknowledge a b) h = later (acknowledge-keeps 𝓔 i a b h) (omega arith)
+  keeps i refreshController h = later (refresh-controller-keeps 𝓔 i h) (omega arith)
+  keeps i readLeader h = later (read-leader-keeps 𝓔 i h) (omega arith)
+  keeps i (read b) h = later (read-keeps 𝓔 i b h) (omega arith)
+  keeps i setNormal h = later (set-normal-keeps 𝓔 i h) (omega arith)
+  keeps i (hear b) h = later (hear-keeps 𝓔 i b h) (omega arith)
+  keeps i (install b) h = install-keeps 𝓔 i b h
+  keeps i malformed h = absurd (h .0)
+
+  -- and so does every record, and every list of records.
+  pub step-keeps : {L : ℕ → ℕ} {s : State Entry} → Inv L s → (st : Step) → Later L s (step 𝓔 s st)
+  step-keeps {L} {s} i st = by-cond (Later L s) (accepts 𝓔 s st) (λ t. keeps i st (facts (checks 𝓔 s st) t)) (λ _. later i (omega arith))
+
+  pub run-keeps : {L : ℕ → ℕ} {s : State Entry} → Inv L s → (rs : List Record) → Later L s (run 𝓔 s rs)
+  unfolding run
+  run-keeps {s} i [] = later i (omega arith)
+  run-keeps {s} i (r ∷ rs) =
+      let k = step-keeps i (stepOf r) in
+      let m = run-keeps (k .inv) rs in
+      record {
+        history = m .history;
+        inv = m .inv;
+        grows = omega (arith, k .grows, m .grows);
+        same = λ t h. m .same t (omega (arith, k .grows)) ∙ k .same t h;
+      }
+
+  -- Receipts: the list that is kept is the list that was given.
+
+  -- st gives the list xs where it is accepted.
+  abbrev Gives : State Entry → List Entry → Step → Type 0
+  Gives s xs st = step 𝓔 s st .committed ≡ s .committed ++ cond (accepts 𝓔 s st) xs []
+
+  if-accepted : (s : State Entry) (xs : List Entry) (st : Step) → next 𝓔 s st .committed ≡ s .committed ++ xs → Gives s xs st
+  if-accepted s xs st e = by-test (accepts 𝓔 s st)
+      (λ t. rw (is-true (accepts 𝓔 s st) t) e) (λ t. rw (is-false (accepts 𝓔 s st) t) (sym (append-nil (s .committed))))
+
+  by-unused : (P : Step → Type 0) → P malformed → (ns : List ℕ) (st : Step) → P st → P (unused ns st)
+  by-unused P bad [] st good = good
+  by-unused P bad (n ∷ ns) st good = by-cond P (eqb n 0) (λ _. by-unused P bad ns st good) (λ _. bad)
+
+  module _ (s : State Entry) (r : Record) where
+    -- what the rule number n gives
+    abbrev gift : ℕ → List Entry
+    gift n = cond (eqb n 2) (entryAt 𝓔 s (r .board) (length (s .committed)) ∷ []) []
+
+    rule : (xs : List Entry) (ns : List ℕ) (st : Step) → next 𝓔 s st .committed ≡ s .committed ++ xs → Gives s xs (unused ns st)
+    rule xs ns st e = by-unused (Gives s xs) (sym (append-nil (s .committed))) ns st (if-accepted s xs st e)
+
+    quiet : (ns : List ℕ) (st : Step) → next 𝓔 s st .committed ≡ s .committed → Gives s [] (unused ns st)
+    quiet ns st e = rule [] ns st (e ∙ sym (append-nil (s .committed)))
+
+    -- The rules, in order: the second alone gives something.
+    by-rule : All (λ n. Gives s (gift n)) 0 (rules r)
+    by-rule =
+        let b = r .other ∷ r .spare ∷ r .value ∷ [] in
+        let a = r .board ∷ b in (
+          quiet [] malformed refl,
+          (
+            quiet (r .other ∷ r .spare ∷ []) (append (r .board) (r .value)) refl,
+            (
+              rule (gift 2) b (commit (r .board)) refl,
+              (
+                quiet b (add (r .board)) refl,
+                (
+                  quiet b (remove (r .board)) refl,
+                  (
+                    quiet a changeLeader refl,
+                    (
+                      quiet b (refresh (r .board)) refl,
+                      (
+                        quiet b (join (r .board)) refl,
+                        (
+                          quiet b (receive (r .board)) refl,
+                          (
+                            quiet (r .spare ∷ r .value ∷ []) (acknowledge (r .board) (r .other)) refl,
+                            (
+                              quiet a refreshController refl,
+                              (
+                                quiet a readLeader refl,
+                                (
+                                  quiet b (read (r .board)) refl,
+                                  (
+                                    quiet a setNormal refl,
+                                    (quiet b (hear (r .board)) refl, (quiet b (install (r .board)) refl, tt)),
+                                  ),
+                                ),
+                              ),
+                            ),
+                          ),
+                        ),
+                      ),
+                    ),
+                  ),
+                ),
+              ),
+            ),
+          ),
+        )
+
+    step-gives : step 𝓔 s (stepOf r) .committed ≡ s .committed ++ gives 𝓔 s r
+    step-gives = nth (λ n. Gives s (gift n)) malformed (λ _. sym (append-nil (s .committed))) (rules r) 0 (r .step) by-rule
+        ∙ ap (λ n. s .committed ++ cond (accepts 𝓔 s (stepOf r)) (gift n) []) (zero-add (r .step))
+        ∙ ap (λ xs. s .committed ++ xs) (both _ (accepts 𝓔 s (stepOf r)) (eqb (r .step) 2))
+      where
+        both : (xs : List Entry) (a b : Bool) → cond a (cond b xs []) [] ≡ cond (b && a) xs []
+        both xs true true = refl
+        both xs true false = refl
+        both xs false true = refl
+        both xs false false = refl
+
+  run-given : (s : State Entry) (rs : List Record) → run 𝓔 s rs .committed ≡ s .committed ++ given 𝓔 s rs
+  unfolding run given
+  run-given s [] = sym (append-nil (s .committed))
+  run-given s (r ∷ rs) = run-given (step 𝓔 s (stepOf r)) rs ∙ ap (λ xs. xs ++ given 𝓔 (step 𝓔 s (stepOf r)) rs) (step-gives s r) ∙ append-assoc (s .committed) (gives 𝓔 s r) _
+
+  run-append : (s : State Entry) (rs more : List Record) → run 𝓔 s (rs ++ more) ≡ run 𝓔 (run 𝓔 s rs) more
+  unfolding run
+  run-append s [] more = refl
+  run-append s (r ∷ rs) more = run-append (step 𝓔 s (stepOf r)) rs more
+
+  given-append : (s : State Entry) (rs more : List Record) → given 𝓔 s (rs ++ more) ≡ given 𝓔 s rs ++ given 𝓔 (run 𝓔 s rs) more
+  unfolding run given
+  given-append s [] more = refl
+  given-append s (r ∷ rs) more = ap (λ xs. gives 𝓔 s r ++ xs) (given-append (step 𝓔 s (stepOf r)) rs more) ∙ sym (append-assoc (gives 𝓔 s r) _ _)
+
+  module _ (b : ℕ) (real : T (isReplica b)) (rs : List Record) where
+    -- the history and the invariant after rs
+    reached : Later (λ _. b) (opened b) (after 𝓔 b rs)
+    reached = run-keeps (opened-inv b real) rs
+
+    -- Who holds itself leader under t is the one that the history names for t.
+    led : (x t : ℕ) → LeadsUnder (after 𝓔 b rs) x t → reached .history t ≡ x
+    led x t k = subst (λ u. reached .history u ≡ x) (k .2) (acting (reached .inv) x (replica-ne x (k .0)) (k .1))
+
+    pub safe : Safe 𝓔 b rs
+    safe = record {
+      leading = λ n. subst (λ x. receipts 𝓔 b rs ⊑ after 𝓔 b rs .log x) (sym (named-only (reached .inv) n)) (subst (λ xs. xs ⊑ after 𝓔 b rs .log (reached .history (after 𝓔 b rs .registry .view .term))) (run-given (opened b) rs) (reached .inv .safe .begins));
+      lasting = λ more. subst (λ xs. receipts 𝓔 b rs ⊑ xs) (sym (given-append (opened b) rs more)) (begins-more (receipts 𝓔 b rs) _);
+      alone = λ x y t k m. sym (led x t k) ∙ led y t m;
+      aloneLater = λ more x y t k m.
+          let j = run-keeps (reached .inv) more in
+          let l : LeadsUnder (run 𝓔 (after 𝓔 b rs) more) y t = subst (λ s. LeadsUnder s y t) (run-append (opened b) rs more) m in
+          let v = reached .inv .views x in
+          sym (led x t k) ∙ sym (j .same t (omega (arith, k .2, v .term, reached .inv .registry .term)))
+          ∙ subst (λ u. j .history u ≡ y) (l .2) (acting (j .inv) y (replica-ne y (l .0)) (l .1));
+      kept = run-given (opened b) rs;
+    }
