@@ -1,0 +1,87 @@
+ghost use mathlib.Core.Path.{_≡_};
+ghost use mathlib.Core.Bool.{true, false};
+ghost use Prim.Native.Nat.{_≤_};
+ghost use Rattle.model.specs.Prelude.{upd};
+ghost use Rattle.model.specs.Members as M;
+ghost use Rattle.model.specs.Members.{_∩_};
+ghost use Rattle.members.specs.Mask.{bits};
+
+// A set of replicas as a mask, replica 1 the lowest bit. Callers see to it that b is a replica, 1 to 8.
+
+// Whether b is in the set.
+pub fn has(m: u8, b: u8) -> bool
+    requires { ⌜ (1 ≤ b) × (b ≤ 8) ⌝ }
+    ensures { λ r. ⌜ r ≡ bits m b ⌝ }
+{
+    (m >> (b - 1)) % 2 == 1
+}
+
+// b alone.
+pub fn single(b: u8) -> u8
+    requires { ⌜ (1 ≤ b) × (b ≤ 8) ⌝ }
+    ensures { λ r. ⌜ bits r ≡ M.only b ⌝ }
+{
+    1u8 << (b - 1)
+}
+
+// The set with b.
+pub fn insert(m: u8, b: u8) -> u8
+    requires { ⌜ (1 ≤ b) × (b ≤ 8) ⌝ }
+    ensures { λ r. ⌜ bits r ≡ upd (bits m) b true ⌝ }
+{
+    put(m, b, true)
+}
+
+// The set without b.
+pub fn remove(m: u8, b: u8) -> u8
+    requires { ⌜ (1 ≤ b) × (b ≤ 8) ⌝ }
+    ensures { λ r. ⌜ bits r ≡ upd (bits m) b false ⌝ }
+{
+    put(m, b, false)
+}
+
+// The set with b if present, without b if not.
+pub fn put(m: u8, b: u8, present: bool) -> u8
+    requires { ⌜ (1 ≤ b) × (b ≤ 8) ⌝ }
+    ensures { λ r. ⌜ bits r ≡ upd (bits m) b present ⌝ }
+{
+    m & !(1u8 << (b - 1)) | ((present as u8) << (b - 1))
+}
+
+// How many replicas the set has.
+pub fn size(m: u8) -> u8
+    ensures { λ r. ⌜ r ≡ M.size (bits m) ⌝ }
+{
+    u8::count_ones(m) as u8
+}
+
+// How many make a majority of the set.
+pub fn majority(m: u8) -> u8
+    ensures { λ r. ⌜ r ≡ M.quorum (M.size (bits m)) ⌝ }
+{
+    size(m) / 2 + 1
+}
+
+// The replicas in both sets.
+pub fn both(m: u8, q: u8) -> u8
+    ensures { λ r. ⌜ bits r ≡ bits m ∩ bits q ⌝ }
+{
+    m & q
+}
+
+// Whether some majority of m lies in q.
+pub fn has_quorum(m: u8, q: u8) -> bool
+    ensures { λ r. ⌜ r ≡ M.hasQuorum (bits m) (bits q) ⌝ }
+{
+    majority(m) <= size(both(m, q))
+}
+
+// The lowest replica of the set, 0 for the empty set.
+pub fn lowest(m: u8) -> u8
+    ensures { λ r. ⌜ r ≡ M.lowest (bits m) ⌝ }
+{
+    if m == 0 {
+        return 0;
+    }
+    (u8::trailing_zeros(m) as u8) + 1
+}
