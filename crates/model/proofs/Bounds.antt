@@ -11,12 +11,13 @@ use lib.ListN.{length}
 use borrow.Author.Tests.{ne-eqb}
 use Rattle.model.specs.Prelude.{upd}
 use Rattle.model.specs.Members.{isReplica, size}
-use Rattle.model.specs.State.{Entries, View, Status, normal, waiting, Stage, Registry, Controller, State, opened, isChoosing, stageNumber, stageOf, zeros}
-use Rattle.model.specs.Steps.{Step, append, commit, add, remove, changeLeader, refresh, join, receive, acknowledge, refreshController, readLeader, read, setNormal, hear, install, malformed, checks, next, accepts, step, shared, heardOf, succeeded, vacated}
+use Rattle.model.specs.State.{outline, Entries, View, Status, normal, waiting, Stage, Registry, Controller, State, opened, isChoosing, stageNumber, stageOf, zeros}
+use Rattle.model.specs.Steps.{Step, append, commit, add, remove, changeLeader, refresh, join, receive, acknowledge, refreshController, readLeader, read, setNormal, hear, install, malformed, checks, next, accepted, step, shared, heardOf, succeeded, vacated}
 use Rattle.model.specs.Records.{Record, stepOf}
 use Rattle.model.specs.Runs.{run}
 use Rattle.model.specs.Claim.{after}
-use Rattle.model.specs.Ranges.{IsEpoch, ViewInRange, InRange}
+use Rattle.model.specs.Ranges.{inRange}
+use Rattle.model.proofs.Range.{IsEpoch, ViewInRange, InRange, from-ranges}
 use Rattle.model.proofs.Tests.{Holds, facts, by-test, by-cond, at-or, eqb-same, eq-or-ne, is-true}
 use Rattle.model.proofs.Prefix.{begins-length, length-snoc, shared-length}
 use Rattle.model.proofs.Quorum.{replica-range, replica-ne}
@@ -98,16 +99,16 @@ module _ {E : Type 0} {L : ℕ → ℕ} {s : State E} (i : Inv L s) (k : Bounds 
   named-in : T (not (isChoosing (registry .status))) → registry .view .leader ≢ 0
   named-in t e = replica-ne (o i) (i .real (registry .view .term)) (sym (Static.named i t) ∙ e)
 
-  pub all-in : InRange s
+  pub all-in : InRange (outline s)
   all-in = record {
     registry = registry-in;
     controller = k .controller .view;
     views = view-in;
     joined = joined-in;
-    heard = k .controller .heard;
-    heardJoined = k .controller .heardJoined;
-    acked = k .logs .acked;
-    logs = k .logs .log;
+    heard = λ b _. k .controller .heard b;
+    heardJoined = λ b _. k .controller .heardJoined b;
+    acked = λ a b _ _. k .logs .acked a b;
+    logs = λ b _. k .logs .log b;
     committed = omega (arith, begins-length (i .safe .begins), k .logs .log (o i));
     named = named-in;
     reads = k .controller .reads;
@@ -144,7 +145,7 @@ module _ (𝓔 : Entries) where
       readsOn = q;
     }
 
-    pub bounds-keep : (st : Step) → Holds (checks 𝓔 s st) → Bounds (next 𝓔 s st)
+    pub bounds-keep : (st : Step) → Holds (checks (outline s) st) → Bounds (next 𝓔 s st)
     bounds-keep (append b v) h = record {
       registry = k .registry;
       controller = k .controller;
@@ -270,12 +271,14 @@ module _ (𝓔 : Entries) where
     bounds-keep malformed h = absurd (h .0)
 
     pub step-bounds : (st : Step) → Bounds (step 𝓔 s st)
-    step-bounds st = by-cond Bounds (accepts 𝓔 s st) (λ t. bounds-keep st (facts (checks 𝓔 s st) t)) (λ _. k)
+    step-bounds st = by-cond Bounds (accepted (outline s) st) (λ t. bounds-keep st (facts (checks (outline s) st) t)) (λ _. k)
 
   pub run-bounds : {L : ℕ → ℕ} {s : State Entry} → Inv L s → Bounds s → (rs : List Record) → Bounds (run 𝓔 s rs)
   unfolding run
   run-bounds i k [] = k
   run-bounds i k (r ∷ rs) = run-bounds (step-keeps 𝓔 i (stepOf r) .inv) (step-bounds i k (stepOf r)) rs
 
-  pub in-range : (b : ℕ) → T (isReplica b) → (rs : List Record) → InRange (after 𝓔 b rs)
-  in-range b real rs = all-in (run-keeps 𝓔 (opened-inv b real) rs .inv) (run-bounds (opened-inv b real) (opened-bounds b real) rs)
+  pub in-range : (b : ℕ) → T (isReplica b) → (rs : List Record) → T (inRange (outline (after 𝓔 b rs)))
+  in-range b real rs =
+      from-ranges (outline (after 𝓔 b rs))
+      (all-in (run-keeps 𝓔 (opened-inv b real) rs .inv) (run-bounds (opened-inv b real) (opened-bounds b real) rs))

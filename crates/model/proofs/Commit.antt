@@ -10,7 +10,7 @@ use lib.ListN.{length, take, getD}
 use lib.Seq.{length-take-le}
 use Rattle.model.specs.Prelude.{_⊑_}
 use Rattle.model.specs.Members.{Members, _∩_, size, hasQuorum}
-use Rattle.model.specs.State.{Entries, State}
+use Rattle.model.specs.State.{outline, Entries, State}
 use Rattle.model.specs.Steps.{commit, checks, next, behindCommit, entryAt}
 use Rattle.model.proofs.Tests.{Holds, le-or-lt}
 use Rattle.model.proofs.Prefix.{begins-trans, begins-take, begins-length, begins-compare, begins-next, begins-at, length-snoc}
@@ -21,7 +21,7 @@ use Rattle.model.proofs.Static.{o, acting, counted, to-holding, ok-less
 module _ (𝓔 : Entries) where
   open Entries 𝓔 using (Entry, make)
 
-  module _ {L : ℕ → ℕ} {s : State Entry} (i : Inv L s) (b : ℕ) (h : Holds (checks 𝓔 s (commit b))) where
+  module _ {L : ℕ → ℕ} {s : State Entry} (i : Inv L s) (b : ℕ) (h : Holds (checks (outline s) (commit b))) where
     open State s using (registry, controller, view, joined, acked, log, committed)
 
     abbrev n : ℕ

@@ -9,7 +9,7 @@ use native.Mathlib.Omega.{arith}
 use lib.Dec.{T, eqb, eqb→eq, ltb→lt, T-not}
 use lib.ListN.{length}
 use borrow.Author.Tests.{ne-eqb}
-use Rattle.model.specs.State.{Entries, View, Status, normal, waiting, Stage, idle, leader, boards, Registry, Controller, State, isWaiting, isChoosing, stageNumber, stageOf}
+use Rattle.model.specs.State.{outline, Entries, View, Status, normal, waiting, Stage, idle, leader, boards, Registry, Controller, State, isWaiting, isChoosing, stageNumber, stageOf}
 use Rattle.model.specs.Steps.{refreshController, readLeader, read, hear, checks, next, withController, heardOf, deaf}
 use Rattle.model.proofs.Tests.{Holds, split-and, join-and, by-test, at-or, eqb-same, eq-test, upd-idle, is-true}
 use Rattle.model.proofs.Prefix.{begins-length}
@@ -94,7 +94,7 @@ module _ (𝓔 : Entries) where
     abbrev r : View
     r = registry .view
 
-    pub refresh-controller-keeps : Holds (checks 𝓔 s refreshController) → Inv L (next 𝓔 s refreshController)
+    pub refresh-controller-keeps : Holds (checks (outline s) refreshController) → Inv L (next 𝓔 s refreshController)
     refresh-controller-keeps h = with-controller i c′
         (record { epoch = omega arith; current = λ _. refl; stage = λ _. fits-stageOf (registry .status) }) (same-leader i c′ firm)
         (record { read = λ _ _ b _ k. absurd (omega arith); heard = λ _ _ b _ k. absurd (omega arith) })
@@ -112,7 +112,7 @@ module _ (𝓔 : Entries) where
         go (held k) = held k
         go (Invariant.read t _) = absurd (omega (arith, ltb→lt (c .epoch) (r .epoch) (h .0), eqb→eq (c .epoch) (r .epoch) (split-and (eqb (c .epoch) (r .epoch)) (eqb (stageNumber (controller .stage)) 2) t .0)))
 
-    pub read-keeps : (b : ℕ) → Holds (checks 𝓔 s (read b)) → Inv L (next 𝓔 s (read b))
+    pub read-keeps : (b : ℕ) → Holds (checks (outline s) (read b)) → Inv L (next 𝓔 s (read b))
     read-keeps b h = one-heard i b 0 (ltb→lt (controller .heard b) (suc (length (log b))) (h .1 .1 .1 .1 .1 .0)) (record {
       read = λ e g. at-or b
           (λ m k. (eqb→eq (joined b) (c .term) (h .1 .1 .1 .1 .0) ∙ ap (λ v. v .term) (i .controller .current e), rw (eqb-same b) (omega arith)))
@@ -120,7 +120,7 @@ module _ (𝓔 : Entries) where
       heard = λ e g. absurd (omega (arith, eqb→eq (stageNumber (controller .stage)) 2 (h .1 .0)));
     })
 
-    pub hear-keeps : (b : ℕ) → Holds (checks 𝓔 s (hear b)) → Inv L (next 𝓔 s (hear b))
+    pub hear-keeps : (b : ℕ) → Holds (checks (outline s) (hear b)) → Inv L (next 𝓔 s (hear b))
     hear-keeps b h = one-heard i b (joined b) (ltb→lt (controller .heard b) (suc (length (log b))) (h .1 .1 .1 .1 .0)) (record {
       read = λ e g. absurd (g (eqb→eq (stageNumber (controller .stage)) 3 (h .1 .0)));
       heard = λ e g. at-or b
@@ -129,7 +129,7 @@ module _ (𝓔 : Entries) where
     })
 
     -- Read leader: the controller has its length, and its view is the registry's.
-    module _ (h : Holds (checks 𝓔 s readLeader)) where
+    module _ (h : Holds (checks (outline s) readLeader)) where
       abbrev lead : ℕ
       lead = c .leader
 

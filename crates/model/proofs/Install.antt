@@ -9,7 +9,7 @@ use lib.Dec.{T, leb, ltb, eqb, eqb→eq, leb→le, nltb→le, eqb-refl, T-not}
 use lib.ListN.{length}
 use Rattle.model.specs.Prelude.{upd, _⊑_}
 use Rattle.model.specs.Members.{Members, isReplica, only, _∩_, size, hasQuorum, lowest}
-use Rattle.model.specs.State.{Entries, View, Status, normal, waiting, Stage, idle, leader, Registry, Controller, State, isNormal, isChoosing, stageNumber}
+use Rattle.model.specs.State.{outline, Entries, View, Status, normal, waiting, Stage, idle, leader, Registry, Controller, State, isNormal, isChoosing, stageNumber}
 use Rattle.model.specs.Steps.{changeLeader, install, checks, next, withRegistry, succeeded, vacated, above, behindInstall, deaf}
 use Rattle.model.proofs.Tests.{Holds, split-and, join-and, by-test, by-cond, not-left, not-right, not-both, eqb-same, eq-test, ne-fact, le-or-lt, eq-or-ne, upd-same, upd-other, upd-twice, upd-idle, is-true, is-false}
 use Rattle.model.proofs.Prefix.{begins-refl, begins-trans, begins-length, begins-compare}
@@ -26,7 +26,7 @@ module _ (𝓔 : Entries) where
   module _ {L : ℕ → ℕ} {s : State Entry} (i : Inv L s) where
     open State s using (registry, controller, view, joined, acked, log, committed)
 
-    module _ (b : ℕ) (h : Holds (checks 𝓔 s (install b))) where
+    module _ (b : ℕ) (h : Holds (checks (outline s) (install b))) where
       abbrev m : Members
       m = registry .view .members
 

@@ -11,4 +11,5 @@ pub mod Succession
 pub mod Change
 pub mod Install
 pub mod Theorem
+pub mod Range
 pub mod Bounds

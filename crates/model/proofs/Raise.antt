@@ -10,7 +10,7 @@ use lib.Dec.{T, leb, eqb, eqb→eq, leb→le, T-not}
 use lib.ListN.{length}
 use Rattle.model.specs.Prelude.{upd, _⊑_}
 use Rattle.model.specs.Members.{Members, isReplica, _∩_, size, hasQuorum}
-use Rattle.model.specs.State.{Entries, View, Status, normal, waiting, Stage, idle, Registry, Controller, State, isNormal, isChoosing, stageNumber}
+use Rattle.model.specs.State.{outline, Entries, View, Status, normal, waiting, Stage, idle, Registry, Controller, State, isNormal, isChoosing, stageNumber}
 use Rattle.model.specs.Steps as Steps
 use Rattle.model.specs.Steps.{add, remove, setNormal, checks, next, withRegistry, behindNormal, deaf}
 use Rattle.model.proofs.Tests.{Holds, split-and, join-and, by-test, by-cond, eq-test, ne-fact, upd-other, upd-idle, is-true}
@@ -117,10 +117,10 @@ module _ (𝓔 : Entries) where
   module _ {L : ℕ → ℕ} {s : State Entry} (i : Inv L s) where
     open State s using (registry, controller, view, joined, acked, log, committed)
 
-    pub add-keeps : (b : ℕ) → Holds (checks 𝓔 s (add b)) → Inv L (next 𝓔 s (add b))
+    pub add-keeps : (b : ℕ) → Holds (checks (outline s) (add b)) → Inv L (next 𝓔 s (add b))
     add-keeps b h = loosened i _ waiting (h .1 .0) tt (by-cond T (eqb (o i) b) (λ _. tt) (λ _. i .registry .member (h .1 .0))) (λ t. absurd t)
 
-    pub remove-keeps : (b : ℕ) → Holds (checks 𝓔 s (remove b)) → Inv L (next 𝓔 s (remove b))
+    pub remove-keeps : (b : ℕ) → Holds (checks (outline s) (remove b)) → Inv L (next 𝓔 s (remove b))
     remove-keeps b h = loosened i left _ (h .1 .0) (by-cond (λ g. T (not (isChoosing g))) (eqb (size left) 1) (λ _. tt) (λ _. tt))
         (subst T (sym (upd-other (registry .view .members) b false (o i) (λ e. ne-fact b (registry .view .leader) (h .1 .1 .1 .0) (sym e ∙ sym (Static.named i (h .1 .0)))))) (i .registry .member (h .1 .0)))
         (by-cond (λ g. T (isNormal g) → 2 ≤ size left → ⊥) (eqb (size left) 1) (λ t _ two. omega (arith, eqb→eq (size left) 1 t)) (λ _ t. absurd t))
@@ -129,7 +129,7 @@ module _ (𝓔 : Entries) where
         left = upd (registry .view .members) b false
 
     -- Set normal: a quorum of the members holds what the controller read of the leader.
-    module _ (h : Holds (checks 𝓔 s setNormal)) where
+    module _ (h : Holds (checks (outline s) setNormal)) where
       at-boards : stageNumber (controller .stage) ≡ 2
       at-boards = eqb→eq (stageNumber (controller .stage)) 2 (h .0)
 

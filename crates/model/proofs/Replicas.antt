@@ -11,7 +11,7 @@ use lib.ListN.{length, take}
 use borrow.Author.Tests.{ne-eqb}
 use Rattle.model.specs.Prelude.{upd, _⊑_}
 use Rattle.model.specs.Members.{isReplica}
-use Rattle.model.specs.State.{Entries, View, State, zeros, isChoosing, stageNumber}
+use Rattle.model.specs.State.{outline, Entries, View, State, zeros, isChoosing, stageNumber}
 use Rattle.model.specs.Steps.{append, refresh, join, receive, acknowledge, checks, next, shared, entryAt}
 use Rattle.model.proofs.Tests.{Holds, split-and, by-test, by-cond, at-or, eqb-same, eq-test, ne-fact, upd-idle, is-true, is-false}
 use Rattle.model.proofs.Prefix.{begins-refl, begins-trans, begins-more, begins-length, begins-next, take-grown, length-snoc, shared-begins}
@@ -74,7 +74,7 @@ module _ (𝓔 : Entries) where
   module _ {L : ℕ → ℕ} {s : State Entry} (i : Inv L s) where
     open State s using (registry, controller, view, joined, acked, log, committed)
 
-    pub append-keeps : (b v : ℕ) → Holds (checks 𝓔 s (append b v)) → Inv L (next 𝓔 s (append b v))
+    pub append-keeps : (b v : ℕ) → Holds (checks (outline s) (append b v)) → Inv L (next 𝓔 s (append b v))
     append-keeps b v h = record {
       real = i .real;
       registry = i .registry;
@@ -128,7 +128,7 @@ module _ (𝓔 : Entries) where
             (λ a m x q. rw (ne-eqb a b m)
             (let k = i .logs .counts a x q in record { early = k .early; now = λ j. omega (arith, k .now j, begins-length (grown i b real moves e x)) }))
 
-    pub receive-keeps : (b : ℕ) → Holds (checks 𝓔 s (receive b)) → Inv L (next 𝓔 s (receive b))
+    pub receive-keeps : (b : ℕ) → Holds (checks (outline s) (receive b)) → Inv L (next 𝓔 s (receive b))
     receive-keeps b h = record {
       real = i .real;
       registry = i .registry;
@@ -175,7 +175,7 @@ module _ (𝓔 : Entries) where
             (subst (λ x. log b ⊑ log x) leader (i .logs .follows b (ap (λ x. view x .term) leader ∙ sym (eqb→eq (view b .term) (view (view b .leader) .term) (h .1 .1 .1 .0)) ∙ sym joins)))
             (ltb→lt (length (log b)) (length (log (view b .leader))) (h .1 .1 .1 .1 .1 .0)))
 
-    pub acknowledge-keeps : (a b : ℕ) → Holds (checks 𝓔 s (acknowledge a b)) → Inv L (next 𝓔 s (acknowledge a b))
+    pub acknowledge-keeps : (a b : ℕ) → Holds (checks (outline s) (acknowledge a b)) → Inv L (next 𝓔 s (acknowledge a b))
     acknowledge-keeps a b h = record {
       real = i .real;
       registry = i .registry;
@@ -213,7 +213,7 @@ module _ (𝓔 : Entries) where
         go c x (passed lt n safe) = rw (same-counts c x lt) (passed lt n safe)
         go c x (stuck e w safe) = stuck e w safe
 
-    pub join-keeps : (b : ℕ) → Holds (checks 𝓔 s (join b)) → Inv L (next 𝓔 s (join b))
+    pub join-keeps : (b : ℕ) → Holds (checks (outline s) (join b)) → Inv L (next 𝓔 s (join b))
     join-keeps b h = record {
       real = i .real;
       registry = i .registry;
@@ -283,7 +283,7 @@ module _ (𝓔 : Entries) where
             stays (inr q) z = apart (sym (Static.named-only i (λ y. replica-ne x k (sym q ∙ y))) ∙ q ∙ z)
 
     -- News (6): b's view becomes the registry's; its counts and, for the new leader, its joined term are set where the term is new to it.
-    module _ (b : ℕ) (h : Holds (checks 𝓔 s (refresh b))) where
+    module _ (b : ℕ) (h : Holds (checks (outline s) (refresh b))) where
       abbrev r : View
       r = registry .view
 

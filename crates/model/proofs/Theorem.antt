@@ -11,8 +11,8 @@ use lib.ListN.{length, getD}
 use borrow.Author.Tests.{ne-eqb}
 use Rattle.model.specs.Prelude.{passes, _⊑_}
 use Rattle.model.specs.Members.{isReplica, only, size}
-use Rattle.model.specs.State.{Entries, values, State, opened, firstView, noView}
-use Rattle.model.specs.Steps.{Step, append, commit, add, remove, changeLeader, refresh, join, receive, acknowledge, refreshController, readLeader, read, setNormal, hear, install, malformed, checks, next, accepts, step, entryAt}
+use Rattle.model.specs.State.{outline, Entries, values, State, opened, firstView, noView}
+use Rattle.model.specs.Steps.{Step, append, commit, add, remove, changeLeader, refresh, join, receive, acknowledge, refreshController, readLeader, read, setNormal, hear, install, malformed, checks, next, accepted, step, entryAt}
 use Rattle.model.specs.Records.{Record, unused, rules, stepOf}
 use Rattle.model.specs.Runs.{run, gives, given}
 use Rattle.model.specs.Claim.{LeadsUnder, after, receipts, Safe, Safety, DemandThree}
@@ -80,7 +80,7 @@ module _ (𝓔 : Entries) where
   open Entries 𝓔 using (Entry, make)
 
   -- Every accepted step keeps it,
-  pub keeps : {L : ℕ → ℕ} {s : State Entry} → Inv L s → (st : Step) → Holds (checks 𝓔 s st) → Later L s (next 𝓔 s st)
+  pub keeps : {L : ℕ → ℕ} {s : State Entry} → Inv L s → (st : Step) → Holds (checks (outline s) st) → Later L s (next 𝓔 s st)
   keeps i (append b v) h = later (append-keeps 𝓔 i b v h) (omega arith)
   keeps i (commit b) h = later (commit-keeps 𝓔 i b h) (omega arith)
   keeps i (add b) h = later (add-keeps 𝓔 i b h) (omega arith)
@@ -100,7 +100,7 @@ module _ (𝓔 : Entries) where
 
   -- and so does every record, and every list of records.
   pub step-keeps : {L : ℕ → ℕ} {s : State Entry} → Inv L s → (st : Step) → Later L s (step 𝓔 s st)
-  step-keeps {L} {s} i st = by-cond (Later L s) (accepts 𝓔 s st) (λ t. keeps i st (facts (checks 𝓔 s st) t)) (λ _. later i (omega arith))
+  step-keeps {L} {s} i st = by-cond (Later L s) (accepted (outline s) st) (λ t. keeps i st (facts (checks (outline s) st) t)) (λ _. later i (omega arith))
 
   pub run-keeps : {L : ℕ → ℕ} {s : State Entry} → Inv L s → (rs : List Record) → Later L s (run 𝓔 s rs)
   unfolding run
@@ -119,11 +119,11 @@ module _ (𝓔 : Entries) where
 
   -- st gives the list xs where it is accepted.
   abbrev Gives : State Entry → List Entry → Step → Type 0
-  Gives s xs st = step 𝓔 s st .committed ≡ s .committed ++ cond (accepts 𝓔 s st) xs []
+  Gives s xs st = step 𝓔 s st .committed ≡ s .committed ++ cond (accepted (outline s) st) xs []
 
   if-accepted : (s : State Entry) (xs : List Entry) (st : Step) → next 𝓔 s st .committed ≡ s .committed ++ xs → Gives s xs st
-  if-accepted s xs st e = by-test (accepts 𝓔 s st)
-      (λ t. rw (is-true (accepts 𝓔 s st) t) e) (λ t. rw (is-false (accepts 𝓔 s st) t) (sym (append-nil (s .committed))))
+  if-accepted s xs st e = by-test (accepted (outline s) st)
+      (λ t. rw (is-true (accepted (outline s) st) t) e) (λ t. rw (is-false (accepted (outline s) st) t) (sym (append-nil (s .committed))))
 
   by-unused : (P : Step → Type 0) → P malformed → (ns : List ℕ) (st : Step) → P st → P (unused ns st)
   by-unused P bad [] st good = good
@@ -190,8 +190,8 @@ module _ (𝓔 : Entries) where
 
     step-gives : step 𝓔 s (stepOf r) .committed ≡ s .committed ++ gives 𝓔 s r
     step-gives = nth (λ n. Gives s (gift n)) malformed (λ _. sym (append-nil (s .committed))) (rules r) 0 (r .step) by-rule
-        ∙ ap (λ n. s .committed ++ cond (accepts 𝓔 s (stepOf r)) (gift n) []) (zero-add (r .step))
-        ∙ ap (λ xs. s .committed ++ xs) (both _ (accepts 𝓔 s (stepOf r)) (eqb (r .step) 2))
+        ∙ ap (λ n. s .committed ++ cond (accepted (outline s) (stepOf r)) (gift n) []) (zero-add (r .step))
+        ∙ ap (λ xs. s .committed ++ xs) (both _ (accepted (outline s) (stepOf r)) (eqb (r .step) 2))
       where
         both : (xs : List Entry) (a b : Bool) → cond a (cond b xs []) [] ≡ cond (b && a) xs []
         both xs true true = refl

@@ -1,44 +1,56 @@
--- The ranges of document 01, "The row", and the leaders that refusal 1 asks for. Cited by the promise of `ranges`. Assumes nothing.
-use mathlib.Core.Bool.{Bool, not}
-use mathlib.Core.List.{List}
-use mathlib.Core.Logic.{_≢_}
-use mathlib.Core.Path.{_≡_}
-use Prim.Native.Nat.{ℕ, _≤_}
-use lib.Dec.{T}
-use lib.ListN.{length}
-use Rattle.model.specs.Members.{isReplica}
-use Rattle.model.specs.State.{Entries, values, View, State, isChoosing, stageNumber}
+-- The ranges of document 01, "The row", and the leaders that refusal 1 asks for. Cited by the promise of `ranges` and by every call's. Assumes nothing.
+use mathlib.Core.Bool.{Bool, true, not, _&&_, _||_}
+use mathlib.Core.List.{List, [], _∷_}
+use Prim.Native.Nat.{ℕ}
+use lib.Dec.{T, leb, eqb}
+use Rattle.model.specs.Members.{Members, isReplica}
+use Rattle.model.specs.State.{Entries, values, View, Outline, outline, isChoosing, stageNumber}
 use Rattle.model.specs.Records.{Record}
 use Rattle.model.specs.Claim.{after}
 
+-- All of them.
+abbrev pub every : List Bool → Bool
+every [] = true
+every (t ∷ ts) = t && every ts
+
+-- The tests of the replicas 1 to 8.
+abbrev pub eight : Members → List Bool
+eight p = p 1 ∷ p 2 ∷ p 3 ∷ p 4 ∷ p 5 ∷ p 6 ∷ p 7 ∷ p 8 ∷ []
+
 -- "Epochs run from 1 to 4,000."
-abbrev pub IsEpoch : ℕ → Type 0
-IsEpoch e = (1 ≤ e) × (e ≤ 4000)
+abbrev pub isEpoch : ℕ → Bool
+isEpoch e = leb 1 e && leb e 4000
 
 -- Members may be any set.
-pub record ViewInRange (v : View) : Type 0 where
-  pub epoch : IsEpoch (v .epoch)
-  pub term : IsEpoch (v .term)
-  pub leader : v .leader ≤ 8
+abbrev pub viewRanges : View → List Bool
+viewRanges v = isEpoch (v .epoch) ∷ isEpoch (v .term) ∷ leb (v .leader) 8 ∷ []
 
--- A state that refusal 1 lets through.
-pub record InRange {E : Type 0} (s : State E) : Type 0 where
-  pub registry : ViewInRange (s .registry .view)
-  pub controller : ViewInRange (s .controller .view)
-  pub views : (b : ℕ) → T (isReplica b) → ViewInRange (s .view b)
-  pub joined : (b : ℕ) → T (isReplica b) → IsEpoch (s .joined b)
-  -- None, or 0 to 512: see Controller.
-  pub heard : (b : ℕ) → s .controller .heard b ≤ 513
-  pub heardJoined : (b : ℕ) → s .controller .heardJoined b ≤ 4000
-  pub acked : (a b : ℕ) → s .acked a b ≤ 512
-  pub logs : (b : ℕ) → length (s .log b) ≤ 512
-  pub committed : length (s .committed) ≤ 512
-  -- The registry's leader is 0 only while choosing,
-  pub named : T (not (isChoosing (s .registry .status))) → s .registry .view .leader ≢ 0
-  -- the controller's only at idle and choosing.
-  pub reads : stageNumber (s .controller .stage) ≡ 1 → s .controller .view .leader ≢ 0
-  pub readsOn : stageNumber (s .controller .stage) ≡ 2 → s .controller .view .leader ≢ 0
+module _ (m : Outline) where
+  open Outline m using (registry, controller, view, joined, acked, len, count)
+
+  -- What is held by and heard of the replica b. A heard length is none, or 0 to 512: see Controller.
+  abbrev pub replicaRanges : ℕ → List Bool
+  replicaRanges b =
+      every (viewRanges (view b)) ∷ isEpoch (joined b) ∷ leb (len b) 512 ∷ leb (controller .heard b) 513
+      ∷ leb (controller .heardJoined b) 4000 ∷ every (eight (λ x. leb (acked b x) 512)) ∷ []
+
+  -- Not "the registry's leader 0 while status is not choosing",
+  abbrev pub leaderNamed : Bool
+  leaderNamed = isChoosing (registry .status) || not (eqb (registry .view .leader) 0)
+
+  -- nor "the controller's leader 0 at stage leader or boards".
+  abbrev pub leaderRead : Bool
+  leaderRead = eqb (stageNumber (controller .stage)) 0 || eqb (stageNumber (controller .stage)) 3 || not (eqb (controller .view .leader) 0)
+
+  abbrev pub ranges : List Bool
+  ranges =
+      every (viewRanges (registry .view)) ∷ every (viewRanges (controller .view)) ∷ leaderNamed ∷ leaderRead ∷ leb count 512
+      ∷ every (eight (λ b. every (replicaRanges b))) ∷ []
+
+  -- A row that refusal 1 lets through.
+  abbrev pub inRange : Bool
+  inRange = every ranges
 
 -- No state of a run earns refusal 1.
 unfoldable pub RunsInRange : Type 0
-RunsInRange = (b : ℕ) → T (isReplica b) → (rs : List Record) → InRange (after values b rs)
+RunsInRange = (b : ℕ) → T (isReplica b) → (rs : List Record) → T (inRange (outline (after values b rs)))

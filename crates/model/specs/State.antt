@@ -5,6 +5,7 @@ use mathlib.Core.Logic.{_↔_}
 use mathlib.Core.Path.{_≡_, sym, subst}
 use Prim.Native.Nat.{ℕ}
 use lib.Dec.{T, eqb, eqb→eq, eqb-refl}
+use lib.ListN.{length}
 use Rattle.model.specs.Members.{Members, isReplica, none, only}
 
 -- What an entry is: made of a value and the term of the replica that appends it, with a test for equality.
@@ -58,6 +59,27 @@ pub record State (E : Type 0) : Type 0 where
   pub acked : ℕ → ℕ → ℕ
   pub log : ℕ → List E
   pub committed : List E
+
+-- A state in outline: the lengths of the lists stand for the lists. No check of a step looks at more.
+pub record Outline : Type 0 where
+  pub registry : Registry
+  pub controller : Controller
+  pub view : ℕ → View
+  pub joined : ℕ → ℕ
+  pub acked : ℕ → ℕ → ℕ
+  pub len : ℕ → ℕ
+  pub count : ℕ
+
+abbrev pub outline : {E : Type 0} → State E → Outline
+outline s = record {
+  registry = s .registry;
+  controller = s .controller;
+  view = s .view;
+  joined = s .joined;
+  acked = s .acked;
+  len = λ b. length (s .log b);
+  count = length (s .committed);
+}
 
 abbrev pub isNormal : Status → Bool
 isNormal normal = true

@@ -7,7 +7,7 @@ use lib.Dec.{leb, ltb, eqb}
 use lib.ListN.{length, getD}
 use Rattle.model.specs.Prelude.{upd, Check, _else_, firstFailed, passes}
 use Rattle.model.specs.Members.{Members, isReplica, _∩_, size, hasQuorum, lowest}
-use Rattle.model.specs.State.{Entries, View, Status, normal, waiting, Stage, idle, boards, Registry, Controller, State, isNormal, isChoosing, stageNumber, stageOf, zeros}
+use Rattle.model.specs.State.{Entries, View, Status, normal, waiting, Stage, idle, boards, Registry, Controller, State, Outline, outline, isNormal, isChoosing, stageNumber, stageOf, zeros}
 
 -- The steps 1 to 15 in order, and what is no step.
 pub data Step : Type 0 where
@@ -110,6 +110,111 @@ shared same [] ys = []
 shared same (x ∷ xs) [] = []
 shared same (x ∷ xs) (y ∷ ys) = cond (same x y) (x ∷ shared same xs ys) []
 
+-- The checks of a step, in the order written, each with its refusal. "1 before a step's own checks."
+module _ (m : Outline) where
+  open Outline m using (registry, controller, view, joined, acked, len, count)
+
+  -- "b's leader is b".
+  abbrev leads : ℕ → Bool
+  leads b = eqb (view b .leader) b
+
+  -- "its leader is neither 0 nor b".
+  abbrev follows : ℕ → Bool
+  follows b = not (eqb (view b .leader) 0) && not (eqb (view b .leader) b)
+
+  -- Joined equals its own leader epoch.
+  abbrev hasJoined : ℕ → Bool
+  hasJoined b = eqb (joined b) (view b .term)
+
+  abbrev sameTerm : ℕ → ℕ → Bool
+  sameTerm a b = eqb (view a .term) (view b .term)
+
+  abbrev atStage : Stage → Bool
+  atStage g = eqb (stageNumber (controller .stage)) (stageNumber g)
+
+  -- Controller and registry epochs are equal.
+  abbrev upToDate : Bool
+  upToDate = eqb (controller .view .epoch) (registry .view .epoch)
+
+  -- The heard length of b is below its log's length.
+  abbrev unheard : ℕ → Bool
+  unheard b = ltb (controller .heard b) (suc (len b))
+
+  abbrev pub checks : Step → List Check
+  checks (append b value) = (isReplica b else 1)
+      ∷ (leads b else 8)
+      ∷ (ltb (len b) 512 else 13) ∷ []
+  checks (commit b) = (isReplica b else 1)
+      ∷ (leads b else 8)
+      ∷ (ltb count (len b) else 12)
+      ∷ (hasQuorum (view b .members) (behindCommit (acked b) count) else 14) ∷ []
+  checks (add b) = (isReplica b else 1)
+      ∷ (not (isChoosing (registry .status)) else 4)
+      ∷ (not (registry .view .members b) else 5)
+      ∷ raise registry ∷ []
+  checks (remove b) = (isReplica b else 1)
+      ∷ (not (isChoosing (registry .status)) else 4)
+      ∷ (registry .view .members b else 5)
+      ∷ (not (eqb b (registry .view .leader)) else 6)
+      ∷ raise registry ∷ []
+  checks changeLeader =
+      (isNormal (registry .status) else 4)
+      ∷ (leb 2 (size (registry .view .members)) else 6)
+      ∷ raise registry ∷ []
+  checks (refresh b) = (isReplica b else 1)
+      ∷ (ltb (view b .epoch) (registry .view .epoch) else 12) ∷ []
+  checks (join b) = (isReplica b else 1)
+      ∷ (follows b else 9)
+      ∷ (view b .members b else 5)
+      ∷ (sameTerm b (view b .leader) else 10)
+      ∷ (not (hasJoined b) else 11) ∷ []
+  checks (receive b) = (isReplica b else 1)
+      ∷ (follows b else 9)
+      ∷ (view b .members b && view (view b .leader) .members b else 5)
+      ∷ (sameTerm b (view b .leader) else 10)
+      ∷ (hasJoined b else 11)
+      ∷ (ltb (len b) (len (view b .leader)) else 12) ∷ []
+  checks (acknowledge a b) = (isReplica a && isReplica b && not (eqb a b) else 1)
+      ∷ (leads a else 8)
+      ∷ (view b .members b else 5)
+      ∷ (sameTerm a b else 10)
+      ∷ (hasJoined b else 11) ∷ (ltb (acked a b) (len b) else 12) ∷ []
+  checks refreshController =
+      (ltb (controller .view .epoch) (registry .view .epoch) else 12) ∷ []
+  checks readLeader =
+      (atStage Stage.leader else 15)
+      ∷ (eqb (view (controller .view .leader) .epoch) (controller .view .epoch) else 16) ∷ []
+  checks (read b) = (isReplica b else 1)
+      ∷ (atStage boards else 15)
+      ∷ (not (eqb b (controller .view .leader)) else 6)
+      ∷ (controller .view .members b else 5)
+      ∷ (eqb (joined b) (controller .view .term) else 11)
+      ∷ (unheard b else 12) ∷ []
+  checks setNormal =
+      (atStage boards else 15)
+      ∷ (upToDate else 16)
+      ∷ (hasQuorum (controller .view .members) (behindNormal controller) else 14)
+      ∷ raise registry ∷ []
+  checks (hear b) = (isReplica b else 1)
+      ∷ (atStage Stage.choosing else 15)
+      ∷ (controller .view .members b else 5)
+      ∷ (eqb (view b .epoch) (controller .view .epoch) else 16)
+      ∷ (unheard b else 12) ∷ []
+  checks (install b) = (isReplica b else 1)
+      ∷ (atStage Stage.choosing else 15)
+      ∷ (controller .view .members b else 5)
+      ∷ (upToDate else 16)
+      ∷ (leb 1 (controller .heard b) && hasQuorum (controller .view .members) (behindInstall controller b) else 14)
+      ∷ raise registry ∷ []
+  checks malformed = (false else 1) ∷ []
+
+-- "Accepted, or refused with the first failing check".
+abbrev pub accepted : Outline → Step → Bool
+accepted m st = passes (checks m st)
+
+abbrev pub answerOf : Outline → Step → ℕ
+answerOf m st = firstFailed (checks m st)
+
 -- A state with one part changed.
 module _ {E : Type 0} (s : State E) where
   open State s using (registry, controller, view, joined, acked, log, committed)
@@ -145,101 +250,6 @@ module _ (𝓔 : Entries) where
     abbrev pub entryAt : ℕ → ℕ → Entry
     entryAt b n = getD (log b) n (make 0 0)
 
-    -- "b's leader is b".
-    abbrev leads : ℕ → Bool
-    leads b = eqb (view b .leader) b
-
-    -- "its leader is neither 0 nor b".
-    abbrev follows : ℕ → Bool
-    follows b = not (eqb (view b .leader) 0) && not (eqb (view b .leader) b)
-
-    -- Joined equals its own leader epoch.
-    abbrev hasJoined : ℕ → Bool
-    hasJoined b = eqb (joined b) (view b .term)
-
-    abbrev sameTerm : ℕ → ℕ → Bool
-    sameTerm a b = eqb (view a .term) (view b .term)
-
-    abbrev atStage : Stage → Bool
-    atStage g = eqb (stageNumber (controller .stage)) (stageNumber g)
-
-    -- Controller and registry epochs are equal.
-    abbrev upToDate : Bool
-    upToDate = eqb (controller .view .epoch) (registry .view .epoch)
-
-    -- The heard length of b is below its log's length.
-    abbrev unheard : ℕ → Bool
-    unheard b = ltb (controller .heard b) (suc (length (log b)))
-
-    -- The checks, in the order written. "1 before a step's own checks."
-    abbrev pub checks : Step → List Check
-    checks (append b value) = (isReplica b else 1)
-        ∷ (leads b else 8)
-        ∷ (ltb (length (log b)) 512 else 13) ∷ []
-    checks (commit b) = (isReplica b else 1)
-        ∷ (leads b else 8)
-        ∷ (ltb (length committed) (length (log b)) else 12)
-        ∷ (hasQuorum (view b .members) (behindCommit (acked b) (length committed)) else 14) ∷ []
-    checks (add b) = (isReplica b else 1)
-        ∷ (not (isChoosing (registry .status)) else 4)
-        ∷ (not (registry .view .members b) else 5)
-        ∷ raise registry ∷ []
-    checks (remove b) = (isReplica b else 1)
-        ∷ (not (isChoosing (registry .status)) else 4)
-        ∷ (registry .view .members b else 5)
-        ∷ (not (eqb b (registry .view .leader)) else 6)
-        ∷ raise registry ∷ []
-    checks changeLeader =
-        (isNormal (registry .status) else 4)
-        ∷ (leb 2 (size (registry .view .members)) else 6)
-        ∷ raise registry ∷ []
-    checks (refresh b) = (isReplica b else 1)
-        ∷ (ltb (view b .epoch) (registry .view .epoch) else 12) ∷ []
-    checks (join b) = (isReplica b else 1)
-        ∷ (follows b else 9)
-        ∷ (view b .members b else 5)
-        ∷ (sameTerm b (view b .leader) else 10)
-        ∷ (not (hasJoined b) else 11) ∷ []
-    checks (receive b) = (isReplica b else 1)
-        ∷ (follows b else 9)
-        ∷ (view b .members b && view (view b .leader) .members b else 5)
-        ∷ (sameTerm b (view b .leader) else 10)
-        ∷ (hasJoined b else 11)
-        ∷ (ltb (length (log b)) (length (log (view b .leader))) else 12) ∷ []
-    checks (acknowledge a b) = (isReplica a && isReplica b && not (eqb a b) else 1)
-        ∷ (leads a else 8)
-        ∷ (view b .members b else 5)
-        ∷ (sameTerm a b else 10)
-        ∷ (hasJoined b else 11) ∷ (ltb (acked a b) (length (log b)) else 12) ∷ []
-    checks refreshController =
-        (ltb (controller .view .epoch) (registry .view .epoch) else 12) ∷ []
-    checks readLeader =
-        (atStage Stage.leader else 15)
-        ∷ (eqb (view (controller .view .leader) .epoch) (controller .view .epoch) else 16) ∷ []
-    checks (read b) = (isReplica b else 1)
-        ∷ (atStage boards else 15)
-        ∷ (not (eqb b (controller .view .leader)) else 6)
-        ∷ (controller .view .members b else 5)
-        ∷ (eqb (joined b) (controller .view .term) else 11)
-        ∷ (unheard b else 12) ∷ []
-    checks setNormal =
-        (atStage boards else 15)
-        ∷ (upToDate else 16)
-        ∷ (hasQuorum (controller .view .members) (behindNormal controller) else 14)
-        ∷ raise registry ∷ []
-    checks (hear b) = (isReplica b else 1)
-        ∷ (atStage Stage.choosing else 15)
-        ∷ (controller .view .members b else 5)
-        ∷ (eqb (view b .epoch) (controller .view .epoch) else 16)
-        ∷ (unheard b else 12) ∷ []
-    checks (install b) = (isReplica b else 1)
-        ∷ (atStage Stage.choosing else 15)
-        ∷ (controller .view .members b else 5)
-        ∷ (upToDate else 16)
-        ∷ (leb 1 (controller .heard b) && hasQuorum (controller .view .members) (behindInstall controller b) else 14)
-        ∷ raise registry ∷ []
-    checks malformed = (false else 1) ∷ []
-
     -- The state after an accepted step.
     abbrev pub next : Step → State Entry
     next (append b value) =
@@ -273,12 +283,6 @@ module _ (𝓔 : Entries) where
         (deaf (record { epoch = e; term = e; leader = b; members = controller .view .members }) Stage.leader)
     next malformed = s
 
-    -- "Accepted, or refused with the first failing check"; "a refused step returns its number, row, store and receipts untouched".
-    abbrev pub accepts : Step → Bool
-    accepts st = passes (checks st)
-
-    abbrev pub answer : Step → ℕ
-    answer st = firstFailed (checks st)
-
+    -- "A refused step returns its number, row, store and receipts untouched."
     abbrev pub step : Step → State Entry
-    step st = cond (accepts st) (next st) s
+    step st = cond (accepted (outline s) st) (next st) s
