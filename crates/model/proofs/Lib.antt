@@ -13,3 +13,4 @@ pub mod Install
 pub mod Theorem
 pub mod Range
 pub mod Bounds
+pub mod Answer

@@ -1,0 +1,34 @@
+-- Chains of checks, places by replica, and what an answer of 0 says. Assumes nothing.
+use mathlib.Core.Bool.{Bool, true, false, cond, _&&_}
+use mathlib.Core.List.{List, _∷_}
+use mathlib.Core.Logic.{_≢_}
+use mathlib.Core.Path.{_≡_, refl, sym, ap, _∙_, fun-ext}
+use Prim.Native.Nat.{ℕ, suc, _+_, _-_, _*_, _≤_, _<_}
+use native.Mathlib.Omega.{arith}
+use lib.Dec.{T, leb, eqb}
+use lib.ListN.{length, getD, set}
+use lib.Seq.{getD-set-same, getD-set-other}
+use borrow.Author.Tests.{ne-eqb}
+use Rattle.model.specs.Prelude.{upd}
+use Rattle.model.specs.Members.{isReplica}
+use Rattle.model.proofs.Tests.{at-or, eqb-same, of-true, is-true}
+use Rattle.model.proofs.Quorum as Quorum
+use Rattle.cluster.specs.Layout.{at, atPair}
+
+-- A choice whose first branch need be known only where it is taken.
+pub guarded : {A : Type 0} (t : Bool) (x y z : A) → (t ≡ true → x ≡ y) → cond t x z ≡ cond t y z
+guarded true x y z f = f refl
+guarded false x y z f = refl
+
+-- What a replica's number finds in a list.
+pub at-index : {A : Type 0} (d : A) (xs : List A) (b : ℕ) → 1 ≤ b → at d xs b ≡ getD xs (b - 1) d
+at-index d xs b h = let p : b ≡ suc (b - 1) = omega arith in ap (λ n. getD (d ∷ xs) n d) p
+
+-- A write at a replica's place is the model's point update.
+pub at-set : {A : Type 0} (d : A) (xs : List A) (b : ℕ) (v : A) → 1 ≤ b → b ≤ 8 → length xs ≡ 8 → at d (set xs (b - 1) v) ≡ upd (at d xs) b v
+at-set d xs b v h k e = fun-ext (λ x. ap (λ l. getD l x d) shift ∙ at-or {P = λ x. getD (set (d ∷ xs) b v) x d ≡ upd (at d xs) b v x} b
+    (rw (eqb-same b) (getD-set-same (d ∷ xs) b v d (omega arith)))
+    (λ x n. rw (ne-eqb x b n) (getD-set-other (d ∷ xs) b x v d n)) x)
+  where
+    shift : d ∷ set xs (b - 1) v ≡ set (d ∷ xs) b v
+    shift = let p : suc (b - 1) ≡ b = omega arith in ap (λ n. set (d ∷ xs) n v) p

@@ -1,0 +1,53 @@
+-- A step is accepted just where its answer is 0: no refusal has the number 0. Assumes nothing.
+use mathlib.Core.Bool.{Bool, true, false, not, _&&_}
+use mathlib.Core.List.{List, [], _∷_}
+use mathlib.Core.Logic.{_≢_}
+use mathlib.Core.Path.{_≡_, refl}
+use Prim.Native.Nat.{ℕ}
+use lib.Dec.{T, eqb}
+use Rattle.model.specs.Prelude.{Check, _else_, firstFailed, passes}
+use Rattle.model.specs.State.{Outline}
+use Rattle.model.specs.Steps.{Step, append, commit, add, remove, changeLeader, refresh, join, receive, acknowledge, refreshController, readLeader, read, setNormal, hear, install, malformed, checks, accepted, answerOf}
+use Rattle.model.proofs.Tests.{split-and, ne-fact}
+
+abbrev numbered : List Check → Bool
+numbered [] = true
+numbered ((c else n) ∷ cs) = not (eqb n 0) && numbered cs
+
+zero-passes : (cs : List Check) → T (numbered cs) → firstFailed cs ≡ 0 → passes cs ≡ true
+zero-passes [] t e = refl
+zero-passes ((true else n) ∷ cs) t e = zero-passes cs (split-and (not (eqb n 0)) (numbered cs) t .1) e
+zero-passes ((false else n) ∷ cs) t e = absurd (ne-fact n 0 (split-and (not (eqb n 0)) (numbered cs) t .0) e)
+
+passes-zero : (cs : List Check) → passes cs ≡ true → firstFailed cs ≡ 0
+passes-zero [] e = refl
+passes-zero ((true else n) ∷ cs) e = passes-zero cs e
+passes-zero ((false else n) ∷ cs) e = let z : _≡_ {A = ℕ} 0 1 = cc in absurd (ne-fact 0 1 tt z)
+
+all-numbered : (m : Outline) (st : Step) → T (numbered (checks m st))
+all-numbered m (append b v) = tt
+all-numbered m (commit b) = tt
+all-numbered m (add b) = tt
+all-numbered m (remove b) = tt
+all-numbered m changeLeader = tt
+all-numbered m (refresh b) = tt
+all-numbered m (join b) = tt
+all-numbered m (receive b) = tt
+all-numbered m (acknowledge a b) = tt
+all-numbered m refreshController = tt
+all-numbered m readLeader = tt
+all-numbered m (read b) = tt
+all-numbered m setNormal = tt
+all-numbered m (hear b) = tt
+all-numbered m (install b) = tt
+all-numbered m malformed = tt
+
+pub zero-accepted : (m : Outline) (st : Step) → answerOf m st ≡ 0 → accepted m st ≡ true
+zero-accepted m st e = zero-passes (checks m st) (all-numbered m st) e
+
+pub nonzero-refused : (m : Outline) (st : Step) → answerOf m st ≢ 0 → accepted m st ≡ false
+nonzero-refused m st n = go (accepted m st) refl
+  where
+    go : (t : Bool) → accepted m st ≡ t → t ≡ false
+    go true e = absurd (n (passes-zero (checks m st) e))
+    go false e = refl
