@@ -1,7 +1,11 @@
 -- What a step that concerns the registry or the controller alone makes of them. Cited by the contracts of cluster. Assumes nothing.
+use mathlib.Core.Bool.{cond}
 use mathlib.Core.Logic.{_≢_}
 use mathlib.Core.Path.{_≡_}
 use Prim.Native.Nat.{ℕ}
+use lib.Dec.{eqb}
+use Rattle.model.specs.Members.{Members, size, lowest}
+use Rattle.model.specs.State as M
 use Rattle.model.specs.State.{State, outline, values}
 use Rattle.model.specs.Steps.{Step, answerOf, step, withRegistry, withController}
 use Rattle.cluster.specs.declared.Registry.{Registry}
@@ -29,3 +33,9 @@ pub record Settles (st : Step) (r : Registry) (c : Controller) (x : Settled) : T
   pub registry : (s : State ℕ) → registryOf (x .registry) ≡ step values (withController (withRegistry s (registryOf r)) (controllerOf c)) st .registry
   pub controller : (s : State ℕ) → controllerOf (x .controller) ≡ step values (withController (withRegistry s (registryOf r)) (controllerOf c)) st .controller
   pub refused : x .answer ≢ 0 → (x .registry ≡ r) × (x .controller ≡ c)
+
+-- Step 5: the members m are left under epoch e, and t was the term.
+abbrev pub successionOf : ℕ → ℕ → Members → M.Registry
+successionOf e t m = cond (eqb (size m) 1)
+    (record { view = record { epoch = e; term = e; leader = lowest m; members = m }; status = M.normal })
+    (record { view = record { epoch = e; term = t; leader = 0; members = m }; status = M.Status.choosing })

@@ -1,9 +1,9 @@
 use Rattle.cluster.proofs.Rulings.{rules-refused, rules-accepted, add-answer, add-after}
 use borrow.Author.Needs.{needs}
-use Rattle.cluster.proofs.add.Statement.{statement}
-use Rattle.cluster.proofs.add.Tie as tie
-use Rattle.cluster.proofs.add.Reads as reads
-use Rattle.cluster.proofs.add.Lts as lts
+use Rattle.cluster.proofs.ruling.add.Statement.{statement}
+use Rattle.cluster.proofs.ruling.add.Tie as tie
+use Rattle.cluster.proofs.ruling.add.Reads as reads
+use Rattle.cluster.proofs.ruling.add.Lts as lts
 use Rattle.cluster.proofs.check.Reads as check-reads
 use Rattle.cluster.proofs.choosing.Reads as choosing-reads
 use Rattle.cluster.proofs.raised.Reads as raised-reads

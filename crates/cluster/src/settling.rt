@@ -1,0 +1,1 @@
+// The steps of registry and controller: set normal (13), install (15).

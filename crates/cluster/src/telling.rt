@@ -1,0 +1,116 @@
+// The steps of the controller alone: news (10), read leader (11), read (12), hear (14).
+
+ghost use mathlib.Core.Path.{_≡_};
+ghost use mathlib.Core.Bool.{true, false, cond};
+ghost use Prim.Native.Nat.{_≤_, suc};
+ghost use lib.Dec.{ltb, eqb};
+ghost use lib.ListN.{length};
+ghost use Rattle.model.specs.Prelude.{upd};
+ghost use Rattle.model.specs.Members as M;
+ghost use Rattle.model.specs.State as X;
+ghost use Rattle.model.specs.Steps as T;
+ghost use Rattle.members.specs.Mask.{bits};
+ghost use Rattle.cluster.specs.Layout.{statusOf, stageOf, registryOf};
+ghost use Rattle.cluster.specs.Parts.{Rules, Tells, Settles, successionOf};
+
+use crate::{View, Status, Stage, Registry, Controller, Ruled, Told, replica, seat, check, raised, choosing, normal, number};
+
+// Step 10: the stage for a status.
+fn stage(g: Status) -> Stage
+    ensures { λ x. ⌜ stageOf x ≡ X.stageOf (statusOf g) ⌝ }
+{
+    match g {
+        Status::Normal => Stage::Idle,
+        Status::Waiting => Stage::Leader,
+        Status::Choosing => Stage::Choosing,
+    }
+}
+
+// Step 10, the controller takes news of the registry r.
+pub fn refresh_controller(c: Controller, r: Registry) -> Told
+    ensures { λ x. ⌜ Tells (λ s. s .registry ≡ registryOf r) T.Step.refreshController c x ⌝ }
+{
+    let v = c.view;
+    let w = r.view;
+    let n = check(v.epoch < w.epoch, 0, 12);
+    if n != 0 {
+        return Told { answer: n, controller: c };
+    }
+    let s = r.status;
+    let g = stage(s);
+    Told {
+        answer: 0,
+        controller: Controller { view: w, stage: g, heard: [0u16; 8], joined: [0u16; 8] },
+    }
+}
+
+// Step 11, the controller reads its leader, whose epoch is e and whose log has n entries.
+pub fn read_leader(c: Controller, e: u16, n: u16) -> Told
+    requires { ⌜ n ≤ 512 ⌝ }
+    ensures { λ x. ⌜ Tells (λ s. (s .view (c .view .leader) .epoch ≡ e) × (length (s .log (c .view .leader)) ≡ n) × (X.stageNumber (stageOf (c .stage)) ≡ 1 → M.isReplica (c .view .leader) ≡ true)) T.Step.readLeader c x ⌝ }
+{
+    let v = c.view;
+    let g = c.stage;
+    let n16 = check(e == v.epoch, 0, 16);
+    let a = check(number(g) == 1, n16, 15);
+    if a != 0 {
+        return Told { answer: a, controller: c };
+    }
+    let k = seat(v.leader);
+    let i = (k - 1) as usize;
+    let mut heard = c.heard;
+    let mut joined = c.joined;
+    heard[i] = n + 1;
+    joined[i] = 0;
+    Told { answer: 0, controller: Controller { view: v, stage: Stage::Boards, heard: heard, joined: joined } }
+}
+
+// Step 12, the controller reads b, whose joined epoch is j and whose log has n entries.
+pub fn read(c: Controller, b: u8, j: u16, n: u16) -> Told
+    requires { ⌜ n ≤ 512 ⌝ }
+    ensures { λ x. ⌜ Tells (λ s. M.isReplica b ≡ true → (s .joined b ≡ j) × (length (s .log b) ≡ n)) (T.Step.read b) c x ⌝ }
+{
+    let v = c.view;
+    let g = c.stage;
+    let k = seat(b);
+    let i = (k - 1) as usize;
+    let h = c.heard[i];
+    let n12 = check(h < n + 1, 0, 12);
+    let n11 = check(j == v.term, n12, 11);
+    let n5 = check(members::has(v.members, k), n11, 5);
+    let n6 = check(b != v.leader, n5, 6);
+    let n15 = check(number(g) == 2, n6, 15);
+    let a = check(replica(b), n15, 1);
+    if a != 0 {
+        return Told { answer: a, controller: c };
+    }
+    let mut d = c;
+    d.heard[i] = n + 1;
+    d.joined[i] = 0;
+    Told { answer: 0, controller: d }
+}
+
+// Step 14, the controller hears b, whose epoch is e, whose joined epoch is j and whose log has n entries.
+pub fn hear(c: Controller, b: u8, e: u16, j: u16, n: u16) -> Told
+    requires { ⌜ n ≤ 512 ⌝ }
+    ensures { λ x. ⌜ Tells (λ s. M.isReplica b ≡ true → (s .view b .epoch ≡ e) × (s .joined b ≡ j) × (length (s .log b) ≡ n)) (T.Step.hear b) c x ⌝ }
+{
+    let v = c.view;
+    let g = c.stage;
+    let k = seat(b);
+    let i = (k - 1) as usize;
+    let h = c.heard[i];
+    let n12 = check(h < n + 1, 0, 12);
+    let n16 = check(e == v.epoch, n12, 16);
+    let n5 = check(members::has(v.members, k), n16, 5);
+    let n15 = check(number(g) == 3, n5, 15);
+    let a = check(replica(b), n15, 1);
+    if a != 0 {
+        return Told { answer: a, controller: c };
+    }
+    let mut d = c;
+    d.heard[i] = n + 1;
+    d.joined[i] = j;
+    Told { answer: 0, controller: d }
+}
+
