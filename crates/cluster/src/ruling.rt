@@ -12,8 +12,20 @@ ghost use Rattle.model.specs.Steps as T;
 ghost use Rattle.members.specs.Mask.{bits};
 ghost use Rattle.cluster.specs.Layout.{statusOf, stageOf, registryOf};
 ghost use Rattle.cluster.specs.Parts.{Rules, Tells, Settles, successionOf};
-
-use crate::{View, Status, Stage, Registry, Controller, Ruled, Told, replica, seat, check, raised, choosing, normal, number};
+use crate::Controller;
+use crate::Registry;
+use crate::Ruled;
+use crate::Stage;
+use crate::Status;
+use crate::Told;
+use crate::View;
+use crate::check;
+use crate::choosing;
+use crate::normal;
+use crate::number;
+use crate::raised;
+use crate::replica;
+use crate::seat;
 
 // Step 3, add b.
 pub fn add(r: Registry, b: u8) -> Ruled
@@ -27,12 +39,26 @@ pub fn add(r: Registry, b: u8) -> Ruled
     let n4 = check(!choosing(g), n5, 4);
     let n = check(replica(b), n4, 1);
     if n != 0 {
-        return Ruled { answer: n, registry: r };
+        return Ruled {
+            answer: n,
+            registry: r,
+        };
     }
     let e = raised(v.epoch);
     let m = members::insert(v.members, k);
-    let w = View { epoch: e, term: v.term, leader: v.leader, members: m };
-    Ruled { answer: 0, registry: Registry { view: w, status: Status::Waiting } }
+    let w = View {
+        epoch: e,
+        term: v.term,
+        leader: v.leader,
+        members: m,
+    };
+    Ruled {
+        answer: 0,
+        registry: Registry {
+            view: w,
+            status: Status::Waiting,
+        },
+    }
 }
 
 // Step 4, remove b.
@@ -48,13 +74,24 @@ pub fn remove(r: Registry, b: u8) -> Ruled
     let n4 = check(!choosing(g), n5, 4);
     let n = check(replica(b), n4, 1);
     if n != 0 {
-        return Ruled { answer: n, registry: r };
+        return Ruled {
+            answer: n,
+            registry: r,
+        };
     }
     let e = raised(v.epoch);
     let m = members::remove(v.members, k);
-    let w = View { epoch: e, term: v.term, leader: v.leader, members: m };
+    let w = View {
+        epoch: e,
+        term: v.term,
+        leader: v.leader,
+        members: m,
+    };
     let s = settled(members::size(m));
-    Ruled { answer: 0, registry: Registry { view: w, status: s } }
+    Ruled {
+        answer: 0,
+        registry: Registry { view: w, status: s },
+    }
 }
 
 // Step 4: normal if exactly one member is left, else waiting.
@@ -77,12 +114,18 @@ pub fn change(r: Registry) -> Ruled
     let n6 = check(2 <= members::size(v.members), n7, 6);
     let n = check(normal(g), n6, 4);
     if n != 0 {
-        return Ruled { answer: n, registry: r };
+        return Ruled {
+            answer: n,
+            registry: r,
+        };
     }
     let e = raised(v.epoch);
     let m = without(v.members, v.leader);
     let s = succession(e, v.term, m);
-    Ruled { answer: 0, registry: s }
+    Ruled {
+        answer: 0,
+        registry: s,
+    }
 }
 
 // The members without the leader l, which may be none of them.
@@ -102,10 +145,25 @@ fn succession(e: u16, t: u16, m: u8) -> Registry
     let n = members::size(m);
     if n == 1 {
         let l = members::lowest(m);
-        let w = View { epoch: e, term: e, leader: l, members: m };
-        return Registry { view: w, status: Status::Normal };
+        let w = View {
+            epoch: e,
+            term: e,
+            leader: l,
+            members: m,
+        };
+        return Registry {
+            view: w,
+            status: Status::Normal,
+        };
     }
-    let w = View { epoch: e, term: t, leader: 0, members: m };
-    Registry { view: w, status: Status::Choosing }
+    let w = View {
+        epoch: e,
+        term: t,
+        leader: 0,
+        members: m,
+    };
+    Registry {
+        view: w,
+        status: Status::Choosing,
+    }
 }
-
