@@ -1,9 +1,10 @@
 -- What a step that concerns the registry or the controller alone makes of them. Cited by the contracts of cluster. Assumes nothing.
-use mathlib.Core.Bool.{cond}
+use mathlib.Core.Bool.{cond, not, _&&_, _||_}
+use mathlib.Core.List.{List}
 use mathlib.Core.Logic.{_≢_}
 use mathlib.Core.Path.{_≡_}
 use Prim.Native.Nat.{ℕ}
-use lib.Dec.{eqb}
+use lib.Dec.{leb, ltb, eqb}
 use Rattle.model.specs.Members.{Members, size, lowest}
 use Rattle.model.specs.State as M
 use Rattle.model.specs.State.{State, outline, values}
@@ -13,7 +14,7 @@ use Rattle.cluster.specs.declared.Controller.{Controller}
 use Rattle.cluster.specs.declared.Ruled.{Ruled}
 use Rattle.cluster.specs.declared.Told.{Told}
 use Rattle.cluster.specs.declared.Settled.{Settled}
-use Rattle.cluster.specs.Layout.{registryOf, controllerOf}
+use Rattle.cluster.specs.Layout.{registryOf, controllerOf, at}
 
 -- The registry r, and what the step st of any state that has it answers and leaves.
 pub record Rules (st : Step) (r : Registry) (x : Ruled) : Type 0 where
@@ -39,3 +40,11 @@ abbrev pub successionOf : ℕ → ℕ → Members → M.Registry
 successionOf e t m = cond (eqb (size m) 1)
     (record { view = record { epoch = e; term = e; leader = lowest m; members = m }; status = M.normal })
     (record { view = record { epoch = e; term = t; leader = 0; members = m }; status = M.Status.choosing })
+
+-- Step 13: those heard at a length not below low.
+unfoldable pub longEnough : List ℕ → ℕ → Members
+longEnough heard low x = leb 1 (at 0 heard x) && leb low (at 0 heard x)
+
+-- Step 15: those heard that do not rank above length l and joined epoch k.
+unfoldable pub notAbove : List ℕ → List ℕ → ℕ → ℕ → Members
+notAbove heard joined l k x = leb 1 (at 0 heard x) && not (ltb k (at 0 joined x) || (eqb k (at 0 joined x) && ltb l (at 0 heard x)))

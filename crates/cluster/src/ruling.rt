@@ -1,28 +1,21 @@
 // The steps of the registry alone: add (3), remove (4), change leader (5).
 
 ghost use mathlib.Core.Path.{_≡_};
-ghost use mathlib.Core.Bool.{true, false, cond};
-ghost use Prim.Native.Nat.{_≤_, suc};
-ghost use lib.Dec.{ltb, eqb};
-ghost use lib.ListN.{length};
+ghost use mathlib.Core.Bool.{false, cond};
+ghost use lib.Dec.{eqb};
 ghost use Rattle.model.specs.Prelude.{upd};
-ghost use Rattle.model.specs.Members as M;
 ghost use Rattle.model.specs.State as X;
 ghost use Rattle.model.specs.Steps as T;
 ghost use Rattle.members.specs.Mask.{bits};
-ghost use Rattle.cluster.specs.Layout.{statusOf, stageOf, registryOf};
-ghost use Rattle.cluster.specs.Parts.{Rules, Tells, Settles, successionOf};
-use crate::Controller;
+ghost use Rattle.cluster.specs.Layout.{statusOf, registryOf};
+ghost use Rattle.cluster.specs.Parts.{Rules, successionOf};
 use crate::Registry;
 use crate::Ruled;
-use crate::Stage;
 use crate::Status;
-use crate::Told;
 use crate::View;
 use crate::check;
 use crate::choosing;
 use crate::normal;
-use crate::number;
 use crate::raised;
 use crate::replica;
 use crate::seat;
