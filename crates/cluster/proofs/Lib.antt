@@ -1,3 +1,4 @@
 pub mod Laws
 pub mod Rulings
 pub mod Tellings
+pub mod Ranging

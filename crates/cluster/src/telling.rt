@@ -1,29 +1,21 @@
 // The steps of the controller alone: news (10), read leader (11), read (12), hear (14).
 
 ghost use mathlib.Core.Path.{_≡_};
-ghost use mathlib.Core.Bool.{true, false, cond};
-ghost use Prim.Native.Nat.{_≤_, suc};
-ghost use lib.Dec.{ltb, eqb};
+ghost use mathlib.Core.Bool.{true};
+ghost use Prim.Native.Nat.{_≤_};
 ghost use lib.ListN.{length};
-ghost use Rattle.model.specs.Prelude.{upd};
 ghost use Rattle.model.specs.Members as M;
 ghost use Rattle.model.specs.State as X;
 ghost use Rattle.model.specs.Steps as T;
-ghost use Rattle.members.specs.Mask.{bits};
 ghost use Rattle.cluster.specs.Layout.{statusOf, stageOf, registryOf, controllerOf};
-ghost use Rattle.cluster.specs.Parts.{Rules, Tells, Settles, successionOf};
+ghost use Rattle.cluster.specs.Parts.{Tells};
 use crate::Controller;
 use crate::Registry;
-use crate::Ruled;
 use crate::Stage;
 use crate::Status;
 use crate::Told;
-use crate::View;
 use crate::check;
-use crate::choosing;
-use crate::normal;
 use crate::number;
-use crate::raised;
 use crate::replica;
 use crate::seat;
 

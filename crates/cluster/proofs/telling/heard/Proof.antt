@@ -1,39 +1,30 @@
+-- `cluster::telling::heard` meets its contract: the writes at the place of k are the model's point updates. Assumes nothing.
 use Rattle.cluster.proofs.Tellings.{heard-left}
 use borrow.Author.Needs.{needs}
 use Rattle.cluster.proofs.telling.heard.Statement.{statement}
 use Rattle.cluster.proofs.telling.heard.Tie as tie
-use Rattle.cluster.proofs.telling.heard.Reads as reads
-use Rattle.cluster.proofs.telling.heard.Lts as lts
 
--- src/telling.rt:52:14
 sub-i : tie.Need-sub-i
 sub-i c = search needs
 
--- src/telling.rt:52:13
 cast-i : tie.Need-cast-i
 cast-i c = search needs
 
--- src/telling.rt:56:18
 add-lengths : tie.Need-add-lengths
 add-lengths c = search needs
 
--- src/telling.rt:56:5
 mul-lengths : tie.Need-mul-lengths
 mul-lengths c = search needs
 
--- src/telling.rt:56:5
 array-write-lengths : tie.Need-array-write-lengths
 array-write-lengths c = search needs
 
--- src/telling.rt:57:5
 mul-joined : tie.Need-mul-joined
 mul-joined c = search needs
 
--- src/telling.rt:57:5
 array-write-joined : tie.Need-array-write-joined
 array-write-joined c = search needs
 
--- src/telling.rt:48:1
 returns : tie.Need-returns
 returns c =
     let a = c .before .before .before .args in heard-left (a .c) (a .g) _ _ _ (c .before .before .before .pre .0) (c .before .before .before .pre .1) (search needs) (search needs)

@@ -1,73 +1,53 @@
+-- `cluster::telling::read` meets its contract. Assumes nothing.
 use mathlib.Core.Path.{_≡_, _∙_}
 use Rattle.cluster.proofs.Tellings.{tells-refused, tells-accepted, read-answer, read-after, readChain}
 use borrow.Author.Needs.{needs}
 use Rattle.cluster.proofs.telling.read.Statement.{statement}
 use Rattle.cluster.proofs.telling.read.Tie as tie
-use Rattle.cluster.proofs.telling.read.Reads as reads
-use Rattle.cluster.proofs.telling.read.Lts as lts
-use Rattle.cluster.proofs.check.Reads as check-reads
-use Rattle.cluster.proofs.number.Reads as number-reads
-use Rattle.cluster.proofs.replica.Reads as replica-reads
-use Rattle.cluster.proofs.seat.Reads as seat-reads
-use Rattle.cluster.proofs.telling.heard.Reads as heard-reads
-use Rattle.members.proofs.has.Reads as has-reads
 
--- src/telling.rt:85:9
 seat-requires : tie.Need-seat-requires
 seat-requires c κs = search needs
 
--- src/telling.rt:86:14
 sub-i : tie.Need-sub-i
 sub-i c = search needs
 
--- src/telling.rt:86:13
 cast-i : tie.Need-cast-i
 cast-i c = search needs
 
--- src/telling.rt:87:13
 mul-h : tie.Need-mul-h
 mul-h c = search needs
 
--- src/telling.rt:87:13
 element-copy-out-h : tie.Need-element-copy-out-h
 element-copy-out-h c = search needs
 
--- src/telling.rt:88:9
 check-requires : tie.Need-check-requires
 check-requires c κs = search needs
 
--- src/telling.rt:89:9
 check-requires-2 : tie.Need-check-requires-2
 check-requires-2 c κs = search needs
 
--- src/telling.rt:90:20
 has-requires : tie.Need-has-requires
 has-requires c κs = search needs
 
--- src/telling.rt:90:9
 check-requires-3 : tie.Need-check-requires-3
 check-requires-3 c κs = search needs
 
--- src/telling.rt:91:9
 check-requires-4 : tie.Need-check-requires-4
 check-requires-4 c κs = search needs
 
--- src/telling.rt:92:21
 number-requires : tie.Need-number-requires
 number-requires c κs = search needs
 
--- src/telling.rt:92:9
 check-requires-5 : tie.Need-check-requires-5
 check-requires-5 c κs = search needs
 
--- src/telling.rt:93:19
 replica-requires : tie.Need-replica-requires
 replica-requires c κs = search needs
 
--- src/telling.rt:93:9
 check-requires-6 : tie.Need-check-requires-6
 check-requires-6 c κs = search needs
 
+-- The checks.
 chain : (c : tie.After-check6) → let a = c .before .before .before .before .before .before .before .before .before .before .before .before .before .before .args in c .check6 .result ≡ readChain (a .t1) (a .b) (c .before .before .before .before .before .before .before .before .before .before .before .before .seat .result) (a .j) (a .n)
 chain c =
     c .check6 .ensures
@@ -82,17 +62,14 @@ chain c =
       c .before .before .before .before .before .before .before .before .before .before .check .ensures,
     )
 
--- src/telling.rt:95:9
 returns : tie.Need-returns
 returns c =
     let a = c .before .before .before .before .before .before .before .before .before .before .before .before .before .before .before .args in
     tells-refused _ _ _ _ (λ s k. read-answer (a .t1) (a .b) _ _ (c .before .before .before .before .before .before .before .before .before .before .before .before .before .seat .ensures .2) s _ k _ (chain (c .before))) (c .if1 .taken)
 
--- src/telling.rt:97:9
 heard-requires : tie.Need-heard-requires
 heard-requires c κs = search needs
 
--- src/telling.rt:79:1
 returns-2 : tie.Need-returns-2
 returns-2 c =
     let a = c .before .before .before .before .before .before .before .before .before .before .before .before .before .before .before .before .args in

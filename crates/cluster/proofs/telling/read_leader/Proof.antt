@@ -1,41 +1,29 @@
+-- `cluster::telling::read_leader` meets its contract. Assumes nothing.
 use Rattle.cluster.proofs.Tellings.{tells-refused, tells-accepted, read-leader-answer, read-leader-after}
 use borrow.Author.Needs.{needs}
 use Rattle.cluster.proofs.telling.read_leader.Statement.{statement}
 use Rattle.cluster.proofs.telling.read_leader.Tie as tie
-use Rattle.cluster.proofs.telling.read_leader.Reads as reads
-use Rattle.cluster.proofs.telling.read_leader.Lts as lts
-use Rattle.cluster.proofs.check.Reads as check-reads
-use Rattle.cluster.proofs.number.Reads as number-reads
-use Rattle.cluster.proofs.seat.Reads as seat-reads
-use Rattle.cluster.proofs.telling.heard.Reads as heard-reads
 
--- src/telling.rt:68:9
 seat-requires : tie.Need-seat-requires
 seat-requires c κs = search needs
 
--- src/telling.rt:69:9
 check-requires : tie.Need-check-requires
 check-requires c κs = search needs
 
--- src/telling.rt:70:19
 number-requires : tie.Need-number-requires
 number-requires c κs = search needs
 
--- src/telling.rt:70:9
 check-requires-2 : tie.Need-check-requires-2
 check-requires-2 c κs = search needs
 
--- src/telling.rt:72:9
 returns : tie.Need-returns
 returns c =
     let a = c .before .before .before .before .before .before .before .args in
     tells-refused _ _ _ _ (λ s k. read-leader-answer (a .c) _ _ s k _ (cc)) (c .if1 .taken)
 
--- src/telling.rt:74:9
 heard-requires : tie.Need-heard-requires
 heard-requires c κs = search needs
 
--- src/telling.rt:62:1
 returns-2 : tie.Need-returns-2
 returns-2 c =
     let a = c .before .before .before .before .before .before .before .before .args in

@@ -1,27 +1,20 @@
+-- `cluster::telling::refresh_controller` meets its contract. Assumes nothing.
 use Rattle.cluster.proofs.Tellings.{tells-refused, tells-accepted, news-answer, news-after}
 use borrow.Author.Needs.{needs}
 use Rattle.cluster.proofs.telling.refresh_controller.Statement.{statement}
 use Rattle.cluster.proofs.telling.refresh_controller.Tie as tie
-use Rattle.cluster.proofs.telling.refresh_controller.Reads as reads
-use Rattle.cluster.proofs.telling.refresh_controller.Lts as lts
-use Rattle.cluster.proofs.check.Reads as check-reads
-use Rattle.cluster.proofs.telling.stage.Reads as stage-reads
 
--- src/telling.rt:35:9
 check-requires : tie.Need-check-requires
 check-requires c κs = search needs
 
--- src/telling.rt:37:9
 returns : tie.Need-returns
 returns c =
     let a = c .before .before .before .before .before .before .args in
     tells-refused _ _ _ _ (λ s k. news-answer (a .c) (a .r) s k _ (cc)) (c .if1 .taken)
 
--- src/telling.rt:40:9
 stage-requires : tie.Need-stage-requires
 stage-requires c κs = search needs
 
--- src/telling.rt:30:1
 returns-2 : tie.Need-returns-2
 returns-2 c =
     let a = c .before .before .before .before .before .before .before .args in
