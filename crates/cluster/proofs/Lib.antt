@@ -1,3 +1,5 @@
 pub mod Laws
 pub mod Rulings
+pub mod Tellings
 pub mod Settlings
+pub mod Ranging

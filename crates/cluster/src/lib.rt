@@ -9,6 +9,7 @@ ghost use Rattle.cluster.specs.Layout.{statusOf, stageOf};
 pub mod ruling;
 pub mod telling;
 pub mod settling;
+pub mod ranges;
 
 // Epoch, leader epoch (term), leader (0: none) and members as a mask: the registry's, or as a replica or the controller
 // last took them.

@@ -1,19 +1,23 @@
 // The steps of the controller alone: news (10), read leader (11), read (12), hear (14).
 
 ghost use mathlib.Core.Path.{_≡_};
-ghost use mathlib.Core.Bool.{true, false, cond};
-ghost use Prim.Native.Nat.{_≤_, suc};
-ghost use lib.Dec.{ltb, eqb};
+ghost use mathlib.Core.Bool.{true};
+ghost use Prim.Native.Nat.{_≤_};
 ghost use lib.ListN.{length};
-ghost use Rattle.model.specs.Prelude.{upd};
 ghost use Rattle.model.specs.Members as M;
 ghost use Rattle.model.specs.State as X;
 ghost use Rattle.model.specs.Steps as T;
-ghost use Rattle.members.specs.Mask.{bits};
-ghost use Rattle.cluster.specs.Layout.{statusOf, stageOf, registryOf};
-ghost use Rattle.cluster.specs.Parts.{Rules, Tells, Settles, successionOf};
-
-use crate::{View, Status, Stage, Registry, Controller, Ruled, Told, replica, seat, check, raised, choosing, normal, number};
+ghost use Rattle.cluster.specs.Layout.{statusOf, stageOf, registryOf, controllerOf};
+ghost use Rattle.cluster.specs.Parts.{Tells};
+use crate::Controller;
+use crate::Registry;
+use crate::Stage;
+use crate::Status;
+use crate::Told;
+use crate::check;
+use crate::number;
+use crate::replica;
+use crate::seat;
 
 // Step 10: the stage for a status.
 fn stage(g: Status) -> Stage
@@ -34,35 +38,64 @@ pub fn refresh_controller(c: Controller, r: Registry) -> Told
     let w = r.view;
     let n = check(v.epoch < w.epoch, 0, 12);
     if n != 0 {
-        return Told { answer: n, controller: c };
+        return Told {
+            answer: n,
+            controller: c,
+        };
     }
     let s = r.status;
     let g = stage(s);
     Told {
         answer: 0,
-        controller: Controller { view: w, stage: g, heard: [0u16; 8], joined: [0u16; 8] },
+        controller: Controller {
+            view: w,
+            stage: g,
+            heard: [0u16; 8],
+            joined: [0u16; 8],
+        },
+    }
+}
+
+// A length n and a joined epoch j heard of the replica k, at stage g.
+fn heard(c: Controller, g: Stage, k: u8, n: u16, j: u16) -> Controller
+    requires { ⌜ (1 ≤ k) × (k ≤ 8) × (n ≤ 512) ⌝ }
+    ensures { λ x. ⌜ controllerOf x ≡ T.heardOf (controllerOf c) (stageOf g) k n j ⌝ }
+{
+    let i = (k - 1) as usize;
+    let v = c.view;
+    let mut lengths = c.heard;
+    let mut joined = c.joined;
+    lengths[i] = n + 1;
+    joined[i] = j;
+    Controller {
+        view: v,
+        stage: g,
+        heard: lengths,
+        joined: joined,
     }
 }
 
 // Step 11, the controller reads its leader, whose epoch is e and whose log has n entries.
 pub fn read_leader(c: Controller, e: u16, n: u16) -> Told
     requires { ⌜ n ≤ 512 ⌝ }
-    ensures { λ x. ⌜ Tells (λ s. (s .view (c .view .leader) .epoch ≡ e) × (length (s .log (c .view .leader)) ≡ n) × (X.stageNumber (stageOf (c .stage)) ≡ 1 → M.isReplica (c .view .leader) ≡ true)) T.Step.readLeader c x ⌝ }
+    ensures { λ x. ⌜ Tells (λ s. X.stageNumber (stageOf (c .stage)) ≡ 1 → (M.isReplica (c .view .leader) ≡ true) × (s .view (c .view .leader) .epoch ≡ e) × (length (s .log (c .view .leader)) ≡ n)) T.Step.readLeader c x ⌝ }
 {
     let v = c.view;
     let g = c.stage;
+    let k = seat(v.leader);
     let n16 = check(e == v.epoch, 0, 16);
     let a = check(number(g) == 1, n16, 15);
     if a != 0 {
-        return Told { answer: a, controller: c };
+        return Told {
+            answer: a,
+            controller: c,
+        };
     }
-    let k = seat(v.leader);
-    let i = (k - 1) as usize;
-    let mut heard = c.heard;
-    let mut joined = c.joined;
-    heard[i] = n + 1;
-    joined[i] = 0;
-    Told { answer: 0, controller: Controller { view: v, stage: Stage::Boards, heard: heard, joined: joined } }
+    let d = heard(c, Stage::Boards, k, n, 0);
+    Told {
+        answer: 0,
+        controller: d,
+    }
 }
 
 // Step 12, the controller reads b, whose joined epoch is j and whose log has n entries.
@@ -75,19 +108,23 @@ pub fn read(c: Controller, b: u8, j: u16, n: u16) -> Told
     let k = seat(b);
     let i = (k - 1) as usize;
     let h = c.heard[i];
-    let n12 = check(h < n + 1, 0, 12);
+    let n12 = check(h <= n, 0, 12);
     let n11 = check(j == v.term, n12, 11);
     let n5 = check(members::has(v.members, k), n11, 5);
     let n6 = check(b != v.leader, n5, 6);
     let n15 = check(number(g) == 2, n6, 15);
     let a = check(replica(b), n15, 1);
     if a != 0 {
-        return Told { answer: a, controller: c };
+        return Told {
+            answer: a,
+            controller: c,
+        };
     }
-    let mut d = c;
-    d.heard[i] = n + 1;
-    d.joined[i] = 0;
-    Told { answer: 0, controller: d }
+    let d = heard(c, g, k, n, 0);
+    Told {
+        answer: 0,
+        controller: d,
+    }
 }
 
 // Step 14, the controller hears b, whose epoch is e, whose joined epoch is j and whose log has n entries.
@@ -100,17 +137,20 @@ pub fn hear(c: Controller, b: u8, e: u16, j: u16, n: u16) -> Told
     let k = seat(b);
     let i = (k - 1) as usize;
     let h = c.heard[i];
-    let n12 = check(h < n + 1, 0, 12);
+    let n12 = check(h <= n, 0, 12);
     let n16 = check(e == v.epoch, n12, 16);
     let n5 = check(members::has(v.members, k), n16, 5);
     let n15 = check(number(g) == 3, n5, 15);
     let a = check(replica(b), n15, 1);
     if a != 0 {
-        return Told { answer: a, controller: c };
+        return Told {
+            answer: a,
+            controller: c,
+        };
     }
-    let mut d = c;
-    d.heard[i] = n + 1;
-    d.joined[i] = j;
-    Told { answer: 0, controller: d }
+    let d = heard(c, g, k, n, j);
+    Told {
+        answer: 0,
+        controller: d,
+    }
 }
-
