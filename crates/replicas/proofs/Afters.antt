@@ -18,8 +18,8 @@ use Rattle.logstore.specs.Log.{place, logOf}
 use Rattle.cluster.specs.declared.Cluster.{Cluster}
 use Rattle.cluster.specs.Layout.{at, atPair, noView, outlineOf}
 use Rattle.cluster.proofs.Laws.{at-index, at-set}
-use Rattle.replicas.specs.Memory.{abs}
-use Rattle.replicas.proofs.Turning.{log-len, pair-set}
+use Rattle.memory.specs.Memory.{abs}
+use Rattle.memory.proofs.Turning.{log-len, pair-set}
 
 module _ (row : Cluster) (eight : length (row .len) ≡ 8) (short : (b : ℕ) → at 0 (row .len) b ≤ 512) (store list : List ℕ) (full : length store ≡ 4096) where
   s : State ℕ

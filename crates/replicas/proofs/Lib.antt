@@ -1,3 +1,2 @@
-pub mod Turning
 pub mod Answers
 pub mod Afters

@@ -10,7 +10,7 @@ ghost use Rattle.model.specs.State as X;
 ghost use Rattle.model.specs.Steps as T;
 ghost use Rattle.members.specs.Mask.{bits, under};
 ghost use Rattle.cluster.specs.Layout.{atPair};
-ghost use Rattle.replicas.specs.Memory.{Ready, Turns, Keeps, Stores};
+ghost use Rattle.memory.specs.Memory.{Ready, Turns, Keeps, Stores};
 
 use cluster::{Cluster, Outcome, View, check, replica, seat};
 

@@ -1,5 +1,5 @@
 use mathlib.Core.Path.{refl}
-use Rattle.replicas.proofs.Turning.{turns-refused, turns-accepted}
+use Rattle.memory.proofs.Turning.{turns-refused, turns-accepted}
 use Rattle.replicas.proofs.Answers.{acknowledge-answer}
 use Rattle.replicas.proofs.Afters.{acknowledge-after}
 use borrow.Author.Needs.{needs}

@@ -1,5 +1,5 @@
 use native.Mathlib.Omega.{arith}
-use Rattle.replicas.proofs.Turning.{counted-more}
+use Rattle.memory.proofs.Turning.{counted-more}
 use mathlib.Core.Path.{_≡_, _∙_}
 use Prim.Native.Nat.{_-_, _≤_}
 use borrow.Author.Needs.{needs}

@@ -1,4 +1,4 @@
-use Rattle.replicas.proofs.Turning.{restart}
+use Rattle.memory.proofs.Turning.{restart}
 use borrow.Author.Needs.{needs}
 use Rattle.replicas.proofs.restarted.Statement.{statement}
 use Rattle.replicas.proofs.restarted.Tie as tie

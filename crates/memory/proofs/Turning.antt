@@ -25,7 +25,7 @@ use Rattle.logstore.proofs.Laws.{log-length}
 use Rattle.cluster.specs.declared.Cluster.{Cluster}
 use Rattle.cluster.specs.declared.Outcome.{Outcome}
 use Rattle.cluster.specs.Layout.{at, atPair, outlineOf}
-use Rattle.replicas.specs.Memory.{abs, Ready, storeAfter, listAfter, Turns}
+use Rattle.memory.specs.Memory.{abs, Ready, storeAfter, listAfter, Turns}
 
 -- A list of eight by a number that is no replica.
 pub at-none : {A : Type 0} (d : A) (xs : List A) (b : ℕ) → length xs ≡ 8 → 8 < b → at d xs b ≡ d
