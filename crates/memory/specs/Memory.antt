@@ -1,0 +1,94 @@
+-- A row together with the lent places as a state of the model, and what a step makes of them. Cited by the contracts of replicas and steps.
+-- Assumes nothing.
+use mathlib.Core.Bool.{Bool, true, cond}
+use mathlib.Core.List.{List}
+use mathlib.Core.Logic.{_≢_}
+use mathlib.Core.Path.{_≡_}
+use Prim.Native.Nat.{ℕ, _≤_}
+use lib.ListN.{length, take, getD, set}
+use Rattle.model.specs.Members.{isReplica}
+use Rattle.model.specs.State as M
+use Rattle.model.specs.State.{State, values}
+use Rattle.model.specs.Steps.{Step, append, commit, add, remove, changeLeader, refresh, join, receive, acknowledge, refreshController, readLeader, read, setNormal, hear, install, malformed, accepted, answerOf, step}
+use Rattle.logstore.specs.Log.{place, logOf}
+use Rattle.cluster.specs.declared.Cluster.{Cluster}
+use Rattle.cluster.specs.declared.Outcome.{Outcome}
+use Rattle.cluster.specs.Layout.{registryOf, controllerOf, stageOf, viewOf, at, atPair, noView, outlineOf}
+
+-- The state that a row, the log store and the committed list stand for.
+abbrev pub abs : Cluster → List ℕ → List ℕ → State ℕ
+abs row store list = record {
+  registry = registryOf (row .registry); controller = controllerOf (row .controller); view = λ b. viewOf (at noView (row .views) b);
+  joined = at 0 (row .joined); acked = atPair (row .acked); log = λ b. logOf store b (at 0 (row .len) b); committed = take (row .count) list }
+
+-- The lengths of a row's arrays, which its type fixes.
+pub record Shape (row : Cluster) : Type 0 where
+  pub views : length (row .views) ≡ 8
+  pub joined : length (row .joined) ≡ 8
+  pub acked : length (row .acked) ≡ 64
+  pub len : length (row .len) ≡ 8
+
+-- What the steps rely on in a row that refusal 1 lets through.
+pub record Ready (row : Cluster) : Type 0 where
+  pub shape : Shape row
+  pub len : (b : ℕ) → at 0 (row .len) b ≤ 512
+  pub count : row .count ≤ 512
+  pub leaders : (b : ℕ) → at noView (row .views) b .leader ≤ 8
+  pub reads : M.stageNumber (stageOf (row .controller .stage)) ≡ 1 → isReplica (row .controller .view .leader) ≡ true
+
+-- The store after an accepted step: append and receive write one place, the end of b's log.
+abbrev pub storeAfter : Step → Cluster → List ℕ → List ℕ
+storeAfter (append b value) row store = set store (place b (at 0 (row .len) b)) value
+storeAfter (commit b) row store = store
+storeAfter (add b) row store = store
+storeAfter (remove b) row store = store
+storeAfter changeLeader row store = store
+storeAfter (refresh b) row store = store
+storeAfter (join b) row store = store
+storeAfter (receive b) row store =
+    set store (place b (at 0 (row .len) b)) (getD store (place (at noView (row .views) b .leader) (at 0 (row .len) b)) 0)
+storeAfter (acknowledge a b) row store = store
+storeAfter refreshController row store = store
+storeAfter readLeader row store = store
+storeAfter (read b) row store = store
+storeAfter setNormal row store = store
+storeAfter (hear b) row store = store
+storeAfter (install b) row store = store
+storeAfter malformed row store = store
+
+-- The committed list after an accepted step: commit writes one place, its end.
+abbrev pub listAfter : Step → Cluster → List ℕ → List ℕ → List ℕ
+listAfter (append b value) row store list = list
+listAfter (commit b) row store list = set list (row .count) (getD store (place b (row .count)) 0)
+listAfter (add b) row store list = list
+listAfter (remove b) row store list = list
+listAfter changeLeader row store list = list
+listAfter (refresh b) row store list = list
+listAfter (join b) row store list = list
+listAfter (receive b) row store list = list
+listAfter (acknowledge a b) row store list = list
+listAfter refreshController row store list = list
+listAfter readLeader row store list = list
+listAfter (read b) row store list = list
+listAfter setNormal row store list = list
+listAfter (hear b) row store list = list
+listAfter (install b) row store list = list
+listAfter malformed row store list = list
+
+-- What the step st of a row answers and leaves: the row x, the store and the list.
+pub record Turns (st : Step) (row : Cluster) (store list : List ℕ) (x : Outcome) (store′ list′ : List ℕ) : Type 0 where
+  pub answer : x .answer ≡ answerOf (outlineOf row) st
+  pub state : abs (x .row) store′ list′ ≡ step values (abs row store list) st
+  pub len : (b : ℕ) → at 0 (x .row .len) b ≤ 512
+  pub count : x .row .count ≤ 512
+  pub stored : store′ ≡ cond (accepted (outlineOf row) st) (storeAfter st row store) store
+  pub listed : list′ ≡ cond (accepted (outlineOf row) st) (listAfter st row store list) list
+  pub refused : x .answer ≢ 0 → x .row ≡ row
+
+-- The same of a step that is lent neither: whatever they hold, they stay.
+abbrev pub Keeps : Step → Cluster → Outcome → Type 0
+Keeps st row x = (store list : List ℕ) → length store ≡ 4096 → length list ≡ 512 → Turns st row store list x store list
+
+-- The same of a step that is lent the store alone.
+abbrev pub Stores : Step → Cluster → List ℕ → Outcome → List ℕ → Type 0
+Stores st row store x store′ = (list : List ℕ) → length list ≡ 512 → Turns st row store list x store′ list

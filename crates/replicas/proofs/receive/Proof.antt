@@ -1,0 +1,176 @@
+use borrow.Author.Needs.{needs}
+use Rattle.replicas.proofs.receive.Statement.{statement}
+use Rattle.replicas.proofs.receive.Tie as tie
+use Rattle.replicas.proofs.receive.Reads as reads
+use Rattle.replicas.proofs.receive.Lts as lts
+use Rattle.cluster.proofs.check.Reads as check-reads
+use Rattle.cluster.proofs.replica.Reads as replica-reads
+use Rattle.cluster.proofs.seat.Reads as seat-reads
+use Rattle.logstore.proofs.receive_entry.Reads as receive-entry-reads
+use Rattle.replicas.proofs.both_have.Reads as both-have-reads
+use Rattle.replicas.proofs.follows.Reads as follows-reads
+
+-- src/lib.rt:192:9
+seat-requires : tie.Need-seat-requires
+seat-requires c κs = search needs
+
+-- src/lib.rt:193:14
+sub-i : tie.Need-sub-i
+sub-i c = search needs
+
+-- src/lib.rt:193:13
+cast-i : tie.Need-cast-i
+cast-i c = search needs
+
+-- src/lib.rt:194:13
+mul-v : tie.Need-mul-v
+mul-v c = search needs
+
+-- src/lib.rt:194:13
+element-copy-out-v : tie.Need-element-copy-out-v
+element-copy-out-v c = search needs
+
+-- src/lib.rt:195:13
+mul-j : tie.Need-mul-j
+mul-j c = search needs
+
+-- src/lib.rt:195:13
+element-copy-out-j : tie.Need-element-copy-out-j
+element-copy-out-j c = search needs
+
+-- src/lib.rt:196:13
+mul-n : tie.Need-mul-n
+mul-n c = search needs
+
+-- src/lib.rt:196:13
+element-copy-out-n : tie.Need-element-copy-out-n
+element-copy-out-n c = search needs
+
+-- src/lib.rt:197:9
+seat-requires-2 : tie.Need-seat-requires-2
+seat-requires-2 c κs = search needs
+
+-- src/lib.rt:198:14
+sub-m : tie.Need-sub-m
+sub-m c = search needs
+
+-- src/lib.rt:198:13
+cast-m : tie.Need-cast-m
+cast-m c = search needs
+
+-- src/lib.rt:199:13
+mul-w : tie.Need-mul-w
+mul-w c = search needs
+
+-- src/lib.rt:199:13
+element-copy-out-w : tie.Need-element-copy-out-w
+element-copy-out-w c = search needs
+
+-- src/lib.rt:200:13
+mul-o : tie.Need-mul-o
+mul-o c = search needs
+
+-- src/lib.rt:200:13
+element-copy-out-o : tie.Need-element-copy-out-o
+element-copy-out-o c = search needs
+
+-- src/lib.rt:201:9
+check-requires : tie.Need-check-requires
+check-requires c κs = search needs
+
+-- src/lib.rt:202:9
+check-requires-2 : tie.Need-check-requires-2
+check-requires-2 c κs = search needs
+
+-- src/lib.rt:203:9
+check-requires-3 : tie.Need-check-requires-3
+check-requires-3 c κs = search needs
+
+-- src/lib.rt:204:20
+both-have-requires : tie.Need-both-have-requires
+both-have-requires c κs = search needs
+
+-- src/lib.rt:204:9
+check-requires-4 : tie.Need-check-requires-4
+check-requires-4 c κs = search needs
+
+-- src/lib.rt:205:20
+follows-requires : tie.Need-follows-requires
+follows-requires c κs = search needs
+
+-- src/lib.rt:205:9
+check-requires-5 : tie.Need-check-requires-5
+check-requires-5 c κs = search needs
+
+-- src/lib.rt:206:19
+replica-requires : tie.Need-replica-requires
+replica-requires c κs = search needs
+
+-- src/lib.rt:206:9
+check-requires-6 : tie.Need-check-requires-6
+check-requires-6 c κs = search needs
+
+-- src/lib.rt:208:9
+returns : tie.Need-returns
+returns c = ?
+
+-- src/lib.rt:210:5
+receive-entry-requires : tie.Need-receive-entry-requires
+receive-entry-requires c κs = ?
+
+-- src/lib.rt:212:19
+add-next : tie.Need-add-next
+add-next c = ?
+
+-- src/lib.rt:212:5
+mul-next : tie.Need-mul-next
+mul-next c = ?
+
+-- src/lib.rt:212:5
+element-write-next : tie.Need-element-write-next
+element-write-next c = ?
+
+-- src/lib.rt:188:1
+same-length : tie.Need-same-length
+same-length c = search needs
+
+-- src/lib.rt:188:1
+returns-2 : tie.Need-returns-2
+returns-2 c = ?
+
+pub receive-spec : {M : Type 1} → statement M
+receive-spec =
+    tie.close
+    (tie.spec
+    seat-requires
+    sub-i
+    cast-i
+    mul-v
+    element-copy-out-v
+    mul-j
+    element-copy-out-j
+    mul-n
+    element-copy-out-n
+    seat-requires-2
+    sub-m
+    cast-m
+    mul-w
+    element-copy-out-w
+    mul-o
+    element-copy-out-o
+    check-requires
+    check-requires-2
+    check-requires-3
+    both-have-requires
+    check-requires-4
+    follows-requires
+    check-requires-5
+    replica-requires
+    check-requires-6
+    returns
+    receive-entry-requires
+    add-next
+    mul-next
+    element-write-next
+    same-length
+    returns-2)
