@@ -49,5 +49,11 @@ noView = record { epoch = 0; term = 0; leader = 0; members = 0 }
 -- A row is a state in outline.
 abbrev pub outlineOf : Cluster → M.Outline
 outlineOf row = record {
-  registry = registryOf (row .registry); controller = controllerOf (row .controller); view = λ b. viewOf (at noView (row .views) b);
-  joined = at 0 (row .joined); acked = atPair (row .acked); len = at 0 (row .len); count = row .count }
+  registry = registryOf (row .registry);
+  controller = controllerOf (row .controller);
+  view = λ b. viewOf (at noView (row .views) b);
+  joined = at 0 (row .joined);
+  acked = atPair (row .acked);
+  len = at 0 (row .len);
+  count = row .count;
+}

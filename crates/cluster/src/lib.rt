@@ -6,10 +6,10 @@ ghost use Rattle.model.specs.Members as M;
 ghost use Rattle.model.specs.State as X;
 ghost use Rattle.cluster.specs.Layout.{statusOf, stageOf};
 
-pub mod ruling;
-pub mod telling;
-pub mod settling;
 pub mod ranges;
+pub mod ruling;
+pub mod settling;
+pub mod telling;
 
 // Epoch, leader epoch (term), leader (0: none) and members as a mask: the registry's, or as a replica or the controller
 // last took them.
@@ -101,22 +101,14 @@ pub fn seat(b: u8) -> u8
 pub fn check(ok: bool, next: u8, code: u8) -> u8
     ensures { λ r. ⌜ r ≡ cond ok next code ⌝ }
 {
-    if ok {
-        next
-    } else {
-        code
-    }
+    if ok { next } else { code }
 }
 
 // The epoch after a raise.
 pub fn raised(e: u16) -> u16
     ensures { λ r. ⌜ r ≡ cond (ltb e 4000) (suc e) e ⌝ }
 {
-    if e < 4000 {
-        e + 1
-    } else {
-        e
-    }
+    if e < 4000 { e + 1 } else { e }
 }
 
 // Whether the registry is choosing, or normal.

@@ -48,8 +48,14 @@ module _ (row : Cluster) (eight : length (row .len) ≡ 8) (short : (b : ℕ) �
       let c : length (take (row .count) list) ≡ row .count = length-take-le (row .count) list (omega arith) in
       let l = fun-ext (log-len store full (row .len) eight short) in
       λ i. record {
-        registry = outlineOf row .registry; controller = outlineOf row .controller; view = outlineOf row .view; joined = outlineOf row .joined;
-        acked = outlineOf row .acked; len = l i; count = c i }
+        registry = outlineOf row .registry;
+        controller = outlineOf row .controller;
+        view = outlineOf row .view;
+        joined = outlineOf row .joined;
+        acked = outlineOf row .acked;
+        len = l i;
+        count = c i;
+      }
 
   -- A refused step leaves everything.
   pub turns-refused : (st : Step) (n : ℕ) → n ≡ answerOf (outlineOf row) st → n ≢ 0 → Turns st row store list (record { answer = n; row = row }) store list
@@ -57,8 +63,14 @@ module _ (row : Cluster) (eight : length (row .len) ≡ 8) (short : (b : ℕ) �
       let t = nonzero-refused (outlineOf row) st (λ z. h (e ∙ z)) in
       let u : accepted (outline (abs row store list)) st ≡ false = ap (λ m. accepted m st) outline-abs ∙ t in
       record {
-        answer = e; state = ap (λ x. cond x (next values (abs row store list) st) (abs row store list)) (sym u); len = short; count = few;
-        stored = ap (λ x. cond x (storeAfter st row store) store) (sym t); listed = ap (λ x. cond x (listAfter st row store list) list) (sym t); refused = λ _. refl }
+        answer = e;
+        state = ap (λ x. cond x (next values (abs row store list) st) (abs row store list)) (sym u);
+        len = short;
+        count = few;
+        stored = ap (λ x. cond x (storeAfter st row store) store) (sym t);
+        listed = ap (λ x. cond x (listAfter st row store list) list) (sym t);
+        refused = λ _. refl;
+      }
 
   -- An accepted one leaves what the model's does, if it writes what it is to write.
   pub turns-accepted : (st : Step) (n : ℕ) (row′ : Cluster) (store′ list′ : List ℕ) → n ≡ answerOf (outlineOf row) st → n ≡ 0
@@ -69,9 +81,14 @@ module _ (row : Cluster) (eight : length (row .len) ≡ 8) (short : (b : ℕ) �
       let t = zero-accepted (outlineOf row) st (sym e ∙ z) in
       let u : accepted (outline (abs row store list)) st ≡ true = ap (λ m. accepted m st) outline-abs ∙ t in
       record {
-        answer = sym z ∙ e; state = f t ∙ ap (λ x. cond x (next values (abs row store list) st) (abs row store list)) (sym u); len = short′; count = few′;
-        stored = s ∙ ap (λ x. cond x (storeAfter st row store) store) (sym t); listed = l ∙ ap (λ x. cond x (listAfter st row store list) list) (sym t);
-        refused = λ h. absurd (h refl) }
+        answer = sym z ∙ e;
+        state = f t ∙ ap (λ x. cond x (next values (abs row store list) st) (abs row store list)) (sym u);
+        len = short′;
+        count = few′;
+        stored = s ∙ ap (λ x. cond x (storeAfter st row store) store) (sym t);
+        listed = l ∙ ap (λ x. cond x (listAfter st row store list) list) (sym t);
+        refused = λ h. absurd (h refl);
+      }
 
 -- Counts, eight by eight in one list: a write is the model's update.
 module _ (cs : List ℕ) (a b n : ℕ) (ra : T (isReplica a)) (rb : T (isReplica b)) (e : length cs ≡ 64) where
@@ -81,15 +98,15 @@ module _ (cs : List ℕ) (a b n : ℕ) (ra : T (isReplica a)) (rb : T (isReplica
   apart : (x y : ℕ) → (x ≡ a → y ≡ b → ⊥) → atPair (set cs place n) x y ≡ atPair cs x y
   apart x y f = by-test (isReplica x && isReplica y)
       (λ t. let z = split-and (isReplica x) (isReplica y) t in rw (is-true (isReplica x && isReplica y) t) (getD-set-other cs place (8 * (x - 1) + (y - 1)) n 0 (λ q. f
-        (omega (arith, q, replica-range a ra, replica-range b rb, replica-range x (z .0), replica-range y (z .1)))
-        (omega (arith, q, replica-range a ra, replica-range b rb, replica-range x (z .0), replica-range y (z .1))))))
+      (omega (arith, q, replica-range a ra, replica-range b rb, replica-range x (z .0), replica-range y (z .1)))
+      (omega (arith, q, replica-range a ra, replica-range b rb, replica-range x (z .0), replica-range y (z .1))))))
       (λ t. rw (is-false (isReplica x && isReplica y) t))
 
   pub pair-set : atPair (set cs place n) ≡ upd (atPair cs) a (upd (atPair cs a) b n)
   pair-set = fun-ext (λ x. fun-ext (λ y. at-or {P = λ x. (y : ℕ) → atPair (set cs place n) x y ≡ upd (atPair cs) a (upd (atPair cs a) b n) x y} a
       (at-or b
-        (rw (eqb-same a) (rw (eqb-same b) (rw (is-true (isReplica a) ra, is-true (isReplica b) rb) (getD-set-same cs place n 0 (omega (arith, replica-range a ra, replica-range b rb))))))
-        (λ y m. rw (eqb-same a) (rw (ne-eqb y b m) (apart a y (λ _ q. m q)))))
+      (rw (eqb-same a) (rw (eqb-same b) (rw (is-true (isReplica a) ra, is-true (isReplica b) rb) (getD-set-same cs place n 0 (omega (arith, replica-range a ra, replica-range b rb))))))
+      (λ y m. rw (eqb-same a) (rw (ne-eqb y b m) (apart a y (λ _ q. m q)))))
       (λ x m y. rw (ne-eqb x a m) (apart x y (λ q _. m q))) x y))
 
 -- The eight counts of b set to 0 one after the other, then its own to n.
@@ -114,22 +131,24 @@ module _ (acked : List ℕ) (b n : ℕ) (low : 1 ≤ b) (high : b ≤ 8) (all : 
     many = length-set cs j 0 ∙ c .many;
     others = λ x y m. ap (λ f. f x y) e ∙ ap (λ f. f y) (upd-other (atPair cs) b _ x m) ∙ c .others x y m;
     own = λ y l. ap (λ f. f b y) e ∙ ap (λ f. f y) (upd-same (atPair cs) b _) ∙ at-or {P = λ y. y ≤ suc k → upd (atPair cs b) (suc k) 0 y ≡ 0} (suc k)
-      (λ _. upd-same (atPair cs b) (suc k) 0) (λ y m l. upd-other (atPair cs b) (suc k) 0 y m ∙ c .own y (omega arith)) y l }
+        (λ _. upd-same (atPair cs b) (suc k) 0) (λ y m l. upd-other (atPair cs b) (suc k) 0 y m ∙ c .own y (omega arith)) y l;
+  }
     where
       e : atPair (set cs j 0) ≡ upd (atPair cs) b (upd (atPair cs b) (suc k) 0)
       e =
-        let p : j ≡ 8 * (b - 1) + (suc k - 1) = omega arith in
-        rw p (pair-set cs b (suc k) 0 rb (of-true (replica (suc k) (omega arith) (omega arith))) (c .many))
+          let p : j ≡ 8 * (b - 1) + (suc k - 1) = omega arith in
+          rw p (pair-set cs b (suc k) 0 rb (of-true (replica (suc k) (omega arith) (omega arith))) (c .many))
 
   finish : {cs : List ℕ} → Cleared 8 cs → (length (set cs (8 * (b - 1) + (b - 1)) n) ≡ 64) × (atPair (set cs (8 * (b - 1) + (b - 1)) n) ≡ upd (atPair acked) b (upd M.zeros b n))
   finish {cs} c = (length-set cs (8 * (b - 1) + (b - 1)) n ∙ c .many, pair-set cs b b n rb rb (c .many) ∙ fun-ext (λ x. fun-ext (λ y. go x y)))
     where
       zero-own : (y : ℕ) → atPair cs b y ≡ 0
       zero-own y = by-test (isReplica y) (λ t. c .own y (replica-range y t .1)) (λ t. rw (replica b low high, is-false (isReplica y) t))
+
       go : (x y : ℕ) → upd (atPair cs) b (upd (atPair cs b) b n) x y ≡ upd (atPair acked) b (upd M.zeros b n) x y
       go = at-or b
-        (λ y. rw (eqb-same b) (at-or {P = λ y. upd (atPair cs b) b n y ≡ upd M.zeros b n y} b (rw (eqb-same b)) (λ y m. rw (ne-eqb y b m) (zero-own y)) y))
-        (λ x m y. rw (ne-eqb x b m) (c .others x y m))
+          (λ y. rw (eqb-same b) (at-or {P = λ y. upd (atPair cs b) b n y ≡ upd M.zeros b n y} b (rw (eqb-same b)) (λ y m. rw (ne-eqb y b m) (zero-own y)) y))
+          (λ x m y. rw (ne-eqb x b m) (c .others x y m))
 
   pub restart :
       (length (set (set (set (set (set (set (set (set (set acked (8 * (b - 1)) 0) (8 * (b - 1) + 1) 0) (8 * (b - 1) + 2) 0) (8 * (b - 1) + 3) 0) (8 * (b - 1) + 4) 0) (8 * (b - 1) + 5) 0) (8 * (b - 1) + 6) 0) (8 * (b - 1) + 7) 0) (8 * (b - 1) + (b - 1)) n) ≡ 64)

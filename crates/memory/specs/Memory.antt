@@ -18,8 +18,14 @@ use Rattle.cluster.specs.Layout.{registryOf, controllerOf, stageOf, viewOf, at,
 -- The state that a row, the log store and the committed list stand for.
 abbrev pub abs : Cluster → List ℕ → List ℕ → State ℕ
 abs row store list = record {
-  registry = registryOf (row .registry); controller = controllerOf (row .controller); view = λ b. viewOf (at noView (row .views) b);
-  joined = at 0 (row .joined); acked = atPair (row .acked); log = λ b. logOf store b (at 0 (row .len) b); committed = take (row .count) list }
+  registry = registryOf (row .registry);
+  controller = controllerOf (row .controller);
+  view = λ b. viewOf (at noView (row .views) b);
+  joined = at 0 (row .joined);
+  acked = atPair (row .acked);
+  log = λ b. logOf store b (at 0 (row .len) b);
+  committed = take (row .count) list;
+}
 
 -- The lengths of a row's arrays, which its type fixes.
 pub record Shape (row : Cluster) : Type 0 where

@@ -75,6 +75,7 @@ module _ (row : Cluster) where
         where
           answers : View → View → ℕ → ℕ → ℕ
           answers y z j m = cond (bits (y .members) m) (cond (eqb (y .term) (z .term)) (cond (not (eqb j (y .term))) 0 11) 10) 5
+
           chain : View → View → ℕ → ℕ → ℕ
           chain y z j m = cond (not (eqb (y .leader) 0) && not (eqb (y .leader) b)) (answers y z j m) 9
 
@@ -85,19 +86,21 @@ module _ (row : Cluster) where
           → x ≡ answerOf (outlineOf row) (receive b)
       receive-answer e12 e11 e10 ep e5 ef e9 eq e = e ∙ rw (eq, e9, ef, e5, ep, e10, e11, e12) (guarded (isReplica b) _ _ 1 (λ t.
           guarded (not (eqb (v .leader) 0) && not (eqb (v .leader) b)) _ _ 9 (λ u.
-            ap (λ (y : View). answers v y (getD (row .joined) (k - 1) 0) k n (getD (row .len) (l - 1) 0)) (found t u)
-            ∙ ap (answers v (at noView (row .views) (v .leader)) (getD (row .joined) (k - 1) 0) k n) (long t u))
+          ap (λ (y : View). answers v y (getD (row .joined) (k - 1) 0) k n (getD (row .len) (l - 1) 0)) (found t u)
+          ∙ ap (answers v (at noView (row .views) (v .leader)) (getD (row .joined) (k - 1) 0) k n) (long t u))
           ∙ ap (λ (y : View). chain y (at noView (row .views) (y .leader)) (getD (row .joined) (k - 1) 0) k n (at 0 (row .len) (y .leader))) (own t)
           ∙ rw (hk t, at-index 0 (row .joined) b (replica-range b (of-true t) .0), at-index 0 (row .len) b (replica-range b (of-true t) .0))))
         where
           answers : View → View → ℕ → ℕ → ℕ → ℕ → ℕ
           answers y z j m i o = cond (bits (y .members) m && bits (z .members) m) (cond (eqb (y .term) (z .term)) (cond (eqb j (y .term)) (cond (ltb i o) 0 12) 11) 10) 5
+
           chain : View → View → ℕ → ℕ → ℕ → ℕ → ℕ
           chain y z j m i o = cond (not (eqb (y .leader) 0) && not (eqb (y .leader) b)) (answers y z j m i o) 9
+
           long : isReplica b ≡ true → (not (eqb (v .leader) 0) && not (eqb (v .leader) b)) ≡ true → getD (row .len) (l - 1) 0 ≡ at 0 (row .len) (v .leader)
           long t u =
-            let r = led t (of-true u) in
-            ap (λ x. getD (row .len) (x - 1) 0) (hl r) ∙ sym (at-index 0 (row .len) (v .leader) (replica-range (v .leader) (of-true r) .0))
+              let r = led t (of-true u) in
+              ap (λ x. getD (row .len) (x - 1) 0) (hl r) ∙ sym (at-index 0 (row .len) (v .leader) (replica-range (v .leader) (of-true r) .0))
 
   -- Step 9.
   module _ (a b i k : ℕ) (ha : isReplica a ≡ true → i ≡ a) (hb : isReplica b ≡ true → k ≡ b) where
@@ -114,5 +117,13 @@ module _ (row : Cluster) where
         let w = split-and (isReplica a) (isReplica b) (z .0) in
         let ra = is-true (isReplica a) (w .0) in
         let rb = is-true (isReplica b) (w .1) in
-        rw (ha ra, hb rb, at-index noView (row .views) a (replica-range a (w .0) .0), at-index noView (row .views) b (replica-range b (w .1) .0),
-          at-index 0 (row .joined) b (replica-range b (w .1) .0), at-index 0 (row .len) b (replica-range b (w .1) .0), ra, rb)))
+        rw (
+          ha ra,
+          hb rb,
+          at-index noView (row .views) a (replica-range a (w .0) .0),
+          at-index noView (row .views) b (replica-range b (w .1) .0),
+          at-index 0 (row .joined) b (replica-range b (w .1) .0),
+          at-index 0 (row .len) b (replica-range b (w .1) .0),
+          ra,
+          rb,
+        )))

@@ -11,8 +11,12 @@ ghost use Rattle.model.specs.Steps as T;
 ghost use Rattle.members.specs.Mask.{bits, under};
 ghost use Rattle.cluster.specs.Layout.{atPair};
 ghost use Rattle.memory.specs.Memory.{Ready, Turns, Keeps, Stores};
-
-use cluster::{Cluster, Outcome, View, check, replica, seat};
+use cluster::Cluster;
+use cluster::Outcome;
+use cluster::View;
+use cluster::check;
+use cluster::replica;
+use cluster::seat;
 
 // The steps of one replica: append (1), commit (2), refresh (6), join (7), receive (8), acknowledge (9). Callers see to it
 // that the row is one that refusal 1 lets through, and that the lent places have their lengths.
@@ -30,13 +34,19 @@ pub fn append(row: Cluster, store: &mut [u32], b: u8, value: u32) -> Outcome
     let n8 = check(v.leader == b, n13, 8);
     let r = check(replica(b), n8, 1);
     if r != 0 {
-        return Outcome { answer: r, row: row };
+        return Outcome {
+            answer: r,
+            row: row,
+        };
     }
     logstore::append_entry(&mut *store, k, n, value);
     let mut next = row;
     next.len[i] = n + 1;
     next.acked[9 * i] = n + 1;
-    Outcome { answer: 0, row: next }
+    Outcome {
+        answer: 0,
+        row: next,
+    }
 }
 
 // The members that b has counted above n, among the counts acked.
@@ -71,13 +81,19 @@ pub fn commit(row: Cluster, store: &[u32], list: &mut [u32], b: u8) -> Outcome
     let n8 = check(v.leader == b, n12, 8);
     let r = check(replica(b), n8, 1);
     if r != 0 {
-        return Outcome { answer: r, row: row };
+        return Outcome {
+            answer: r,
+            row: row,
+        };
     }
     let e = logstore::entry(store, k, c);
     logstore::commit(&mut *list, c, e);
     let mut next = row;
     next.count = c + 1;
-    Outcome { answer: 0, row: next }
+    Outcome {
+        answer: 0,
+        row: next,
+    }
 }
 
 // The counts acked, with b's all 0 but its own, which is n.
@@ -112,7 +128,10 @@ pub fn refresh(row: Cluster, b: u8) -> Outcome
     let n12 = check(v.epoch < w.epoch, 0, 12);
     let r = check(replica(b), n12, 1);
     if r != 0 {
-        return Outcome { answer: r, row: row };
+        return Outcome {
+            answer: r,
+            row: row,
+        };
     }
     let n = row.len[i];
     let j = row.joined[i];
@@ -121,7 +140,10 @@ pub fn refresh(row: Cluster, b: u8) -> Outcome
     next.views[i] = w;
     next.joined[i] = joined(v.term, w, k, j);
     next.acked = counts(v.term, w, k, acked, n);
-    Outcome { answer: 0, row: next }
+    Outcome {
+        answer: 0,
+        row: next,
+    }
 }
 
 // Step 6: the joined epoch of b, which was j, after news w; t was its leader epoch.
@@ -166,7 +188,10 @@ pub fn join(row: Cluster, store: &[u32], b: u8) -> Outcome
     let n9 = check(follows(v.leader, b), n5, 9);
     let r = check(replica(b), n9, 1);
     if r != 0 {
-        return Outcome { answer: r, row: row };
+        return Outcome {
+            answer: r,
+            row: row,
+        };
     }
     let own = row.len[i];
     let other = row.len[m];
@@ -174,7 +199,10 @@ pub fn join(row: Cluster, store: &[u32], b: u8) -> Outcome
     let mut next = row;
     next.len[i] = n;
     next.joined[i] = v.term;
-    Outcome { answer: 0, row: next }
+    Outcome {
+        answer: 0,
+        row: next,
+    }
 }
 
 // Whether the leader l of b is another replica.
@@ -205,12 +233,18 @@ pub fn receive(row: Cluster, store: &mut [u32], b: u8) -> Outcome
     let n9 = check(follows(v.leader, b), n5, 9);
     let r = check(replica(b), n9, 1);
     if r != 0 {
-        return Outcome { answer: r, row: row };
+        return Outcome {
+            answer: r,
+            row: row,
+        };
     }
     logstore::receive_entry(&mut *store, k, l, n);
     let mut next = row;
     next.len[i] = n + 1;
-    Outcome { answer: 0, row: next }
+    Outcome {
+        answer: 0,
+        row: next,
+    }
 }
 
 // Whether b is in both sets.
@@ -244,11 +278,17 @@ pub fn acknowledge(row: Cluster, a: u8, b: u8) -> Outcome
     let n8 = check(v.leader == a, n5, 8);
     let r = check(two(a, b), n8, 1);
     if r != 0 {
-        return Outcome { answer: r, row: row };
+        return Outcome {
+            answer: r,
+            row: row,
+        };
     }
     let mut next = row;
     next.acked[8 * i + j] = n;
-    Outcome { answer: 0, row: next }
+    Outcome {
+        answer: 0,
+        row: next,
+    }
 }
 
 // Whether a and b are two replicas.
