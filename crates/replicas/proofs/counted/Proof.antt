@@ -72,7 +72,7 @@ loop-again : tie.Need-loop-again Inv-loop μ-loop
 loop-again c =
     let l = c .before .before .loop in
     let a = c .before .before .before .args in
-    (search needs, search needs, counted-more (a .acked) (a .b) (a .n) (l .x) (l .q) _ (search needs) (search needs) (l .inv .0) (search needs) (l .inv .2) (c .put .ensures))
+    (search needs, search needs, counted-more (a .t1) (a .b) (a .n) (l .x) (l .q) _ (search needs) (search needs) (l .inv .0) (search needs) (l .inv .2) (c .put .ensures))
 
 -- src/lib.rt:43:1
 returns : tie.Need-returns Inv-loop μ-loop

@@ -1,3 +1,15 @@
+use mathlib.Core.Bool.{true}
+use mathlib.Core.Path.{_≡_, refl, sym, ap, _∙_}
+use Prim.Native.Nat.{_-_, _<_}
+use native.Mathlib.Omega.{arith}
+use lib.ListN.{getD, set}
+use denote.Ref.{now}
+use Rattle.model.specs.Steps.{receive, accepted, answerOf}
+use Rattle.model.proofs.Answer.{zero-accepted}
+use Rattle.cluster.specs.Layout.{outlineOf}
+use Rattle.memory.proofs.Turning.{turns-refused, turns-accepted}
+use Rattle.replicas.proofs.Answers.{receive-answer}
+use Rattle.replicas.proofs.Afters.{receive-after, receive-room, receive-place, len-short, fits-next, fits-place}
 use borrow.Author.Needs.{needs}
 use Rattle.replicas.proofs.receive.Statement.{statement}
 use Rattle.replicas.proofs.receive.Tie as tie
@@ -9,6 +21,16 @@ use Rattle.cluster.proofs.seat.Reads as seat-reads
 use Rattle.logstore.proofs.receive_entry.Reads as receive-entry-reads
 use Rattle.replicas.proofs.both_have.Reads as both-have-reads
 use Rattle.replicas.proofs.follows.Reads as follows-reads
+
+-- the chain of checks, and what its 0 says
+answers : (c : tie.After-check6) → c .check6 .result ≡ answerOf (outlineOf (c .before .before .before .before .before .before .before .before .before .before .before .before .before .before .before .before .before .before .before .before .args .t1)) (receive (c .before .before .before .before .before .before .before .before .before .before .before .before .before .before .before .before .before .before .before .before .args .b))
+answers c = receive-answer (c .before .before .before .before .before .before .before .before .before .before .before .before .before .before .before .before .before .before .before .before .args .t1) (c .before .before .before .before .before .before .before .before .before .before .before .before .before .before .before .before .before .before .before .before .args .b) _ (c .before .before .before .before .before .before .before .before .before .before .before .before .before .before .before .before .before .before .seat .ensures .2) _ (c .before .before .before .before .before .before .before .before .before .before .before .before .before .before .seat2 .ensures .2) (c .before .before .before .before .before .before .before .before .before .before .before .before .before .before .before .before .before .before .before .before .pre .0 .leaders) (c .before .before .before .before .before .before .before .before .before .before .before .check .ensures) (c .before .before .before .before .before .before .before .before .before .check2 .ensures) (c .before .before .before .before .before .before .check3 .ensures) (c .before .before .before .before .before .both-have .ensures) (c .before .before .before .before .check4 .ensures) (c .before .before .before .follows .ensures) (c .before .before .check5 .ensures) (c .before .replica .ensures) (c .check6 .ensures)
+
+accepts : (c : tie.After-check6) → c .check6 .result ≡ 0 → accepted (outlineOf (c .before .before .before .before .before .before .before .before .before .before .before .before .before .before .before .before .before .before .before .before .args .t1)) (receive (c .before .before .before .before .before .before .before .before .before .before .before .before .before .before .before .before .before .before .before .before .args .b)) ≡ true
+accepts c e = zero-accepted (outlineOf (c .before .before .before .before .before .before .before .before .before .before .before .before .before .before .before .before .before .before .before .before .args .t1)) (receive (c .before .before .before .before .before .before .before .before .before .before .before .before .before .before .before .before .before .before .before .before .args .b)) (sym (answers c) ∙ e)
+
+room : (c : tie.After-check6) → c .check6 .result ≡ 0 → getD (c .before .before .before .before .before .before .before .before .before .before .before .before .before .before .before .before .before .before .before .before .args .t1 .len) (c .before .before .before .before .before .before .before .before .before .before .before .before .before .before .before .before .before .before .seat .result - 1) 0 < 512
+room c e = receive-room (c .before .before .before .before .before .before .before .before .before .before .before .before .before .before .before .before .before .before .before .before .args .t1) (c .before .before .before .before .before .before .before .before .before .before .before .before .before .before .before .before .before .before .before .before .args .b) _ (c .before .before .before .before .before .before .before .before .before .before .before .before .before .before .before .before .before .before .seat .ensures .2) _ (c .before .before .before .before .before .before .before .before .before .before .before .before .before .before .seat2 .ensures .2) (c .before .before .before .before .before .before .before .before .before .before .before .before .before .before .before .before .before .before .before .before .pre .0 .leaders) (c .before .before .before .before .before .before .before .before .before .before .before .before .before .before .before .before .before .before .before .before .pre .0 .len) (accepts c e)
 
 -- src/lib.rt:192:9
 seat-requires : tie.Need-seat-requires
@@ -112,23 +134,26 @@ check-requires-6 c κs = search needs
 
 -- src/lib.rt:208:9
 returns : tie.Need-returns
-returns c = ?
+returns c list long =
+    let a = c .before .before .before .before .before .before .before .before .before .before .before .before .before .before .before .before .before .before .before .before .before .args in
+    let p = c .before .before .before .before .before .before .before .before .before .before .before .before .before .before .before .before .before .before .before .before .before .pre in
+    turns-refused (a .t1) (p .0 .shape .len) (p .0 .len) (p .0 .count) _ list (p .1) long _ _ (answers (c .before)) (c .if1 .taken)
 
 -- src/lib.rt:210:5
 receive-entry-requires : tie.Need-receive-entry-requires
-receive-entry-requires c κs = ?
+receive-entry-requires c κs = (c .before .before .before .before .before .before .before .before .before .before .before .before .before .before .before .before .before .before .before .before .before .before .pre .1, c .before .before .before .before .before .before .before .before .before .before .before .before .before .before .before .before .before .before .before .before .seat .ensures .0, c .before .before .before .before .before .before .before .before .before .before .before .before .before .before .before .before .before .before .before .before .seat .ensures .1, c .before .before .before .before .before .before .before .before .before .before .before .before .before .before .before .before .seat2 .ensures .0, c .before .before .before .before .before .before .before .before .before .before .before .before .before .before .before .before .seat2 .ensures .1, room (c .before .before) (c .before .if1 .left))
 
 -- src/lib.rt:212:19
 add-next : tie.Need-add-next
-add-next c = ?
+add-next c = fits-next (room (c .before .before .before .before .before) (c .before .before .before .before .if1 .left))
 
 -- src/lib.rt:212:5
 mul-next : tie.Need-mul-next
-mul-next c = ?
+mul-next c = fits-place (c .before .before .before .before .before .before .before .before .before .before .before .before .before .before .before .before .before .before .before .before .before .before .before .seat .ensures .1)
 
 -- src/lib.rt:212:5
 element-write-next : tie.Need-element-write-next
-element-write-next c = ?
+element-write-next c = omega (arith, c .before .before .before .before .before .before .before .before .before .before .before .before .before .before .before .before .before .before .before .before .before .before .before .seat .ensures .0, c .before .before .before .before .before .before .before .before .before .before .before .before .before .before .before .before .before .before .before .before .before .before .before .seat .ensures .1)
 
 -- src/lib.rt:188:1
 same-length : tie.Need-same-length
@@ -136,7 +161,15 @@ same-length c = search needs
 
 -- src/lib.rt:188:1
 returns-2 : tie.Need-returns-2
-returns-2 c = ?
+returns-2 c list long =
+    let a = c .before .before .before .before .before .before .before .before .before .before .before .before .before .before .before .before .before .before .before .before .before .before .before .before .before .args in
+    let p = c .before .before .before .before .before .before .before .before .before .before .before .before .before .before .before .before .before .before .before .before .before .before .before .before .before .pre in
+    let h = c .before .before .before .before .before .before .before .before .before .before .before .before .before .before .before .before .before .before .before .before .before .before .before .seat .ensures in
+    let m = c .before .before .before .before .before .before .before .before .before .before .before .before .before .before .before .before .before .before .before .seat2 .ensures .2 in
+    turns-accepted (a .t1) (p .0 .shape .len) (p .0 .len) (p .0 .count) _ list (p .1) long _ _ _ _ _ (answers (c .before .before .before .before .before)) (c .before .before .before .before .if1 .left)
+    (receive-after (a .t1) (p .0 .shape .len) (p .0 .len) _ list (p .1) (a .b) _ _ (h .2) m (p .0 .leaders) _ (c .before .before .receive-entry .ensures))
+    (len-short (a .t1 .len) (p .0 .shape .len) (p .0 .len) _ _ (h .0) (h .1) (omega (arith, room (c .before .before .before .before .before) (c .before .before .before .before .if1 .left)))) (p .0 .count)
+    (c .before .before .receive-entry .ensures ∙ receive-place (a .t1) (a .b) _ (h .2) _ m (p .0 .leaders) (now (a .store)) (accepts (c .before .before .before .before .before) (c .before .before .before .before .if1 .left))) refl
 
 pub receive-spec : {M : Type 1} → statement M
 receive-spec =

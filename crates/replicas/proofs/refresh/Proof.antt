@@ -1,3 +1,15 @@
+use mathlib.Core.Bool.{true}
+use mathlib.Core.Path.{_≡_, refl, sym, ap, _∙_}
+use Prim.Native.Nat.{_-_, _<_}
+use native.Mathlib.Omega.{arith}
+use lib.ListN.{getD, set}
+use denote.Ref.{now}
+use Rattle.model.specs.Steps.{refresh, accepted, answerOf}
+use Rattle.model.proofs.Answer.{zero-accepted}
+use Rattle.cluster.specs.Layout.{outlineOf}
+use Rattle.memory.proofs.Turning.{turns-refused, turns-accepted}
+use Rattle.replicas.proofs.Answers.{refresh-answer}
+use Rattle.replicas.proofs.Afters.{refresh-after}
 use borrow.Author.Needs.{needs}
 use Rattle.replicas.proofs.refresh.Statement.{statement}
 use Rattle.replicas.proofs.refresh.Tie as tie
@@ -8,6 +20,13 @@ use Rattle.cluster.proofs.replica.Reads as replica-reads
 use Rattle.cluster.proofs.seat.Reads as seat-reads
 use Rattle.replicas.proofs.counts.Reads as counts-reads
 use Rattle.replicas.proofs.joined.Reads as joined-reads
+
+-- the chain of checks, and what its 0 says
+answers : (c : tie.After-check2) → c .check2 .result ≡ answerOf (outlineOf (c .before .before .before .before .before .before .before .before .before .args .t1)) (refresh (c .before .before .before .before .before .before .before .before .before .args .b))
+answers c = refresh-answer (c .before .before .before .before .before .before .before .before .before .args .t1) (c .before .before .before .before .before .before .before .before .before .args .b) _ (c .before .before .before .before .before .before .before .before .seat .ensures .2) (c .before .before .check .ensures) (c .before .replica .ensures) (c .check2 .ensures)
+
+accepts : (c : tie.After-check2) → c .check2 .result ≡ 0 → accepted (outlineOf (c .before .before .before .before .before .before .before .before .before .args .t1)) (refresh (c .before .before .before .before .before .before .before .before .before .args .b)) ≡ true
+accepts c e = zero-accepted (outlineOf (c .before .before .before .before .before .before .before .before .before .args .t1)) (refresh (c .before .before .before .before .before .before .before .before .before .args .b)) (sym (answers c) ∙ e)
 
 -- src/lib.rt:107:9
 seat-requires : tie.Need-seat-requires
@@ -43,7 +62,10 @@ check-requires-2 c κs = search needs
 
 -- src/lib.rt:115:9
 returns : tie.Need-returns
-returns c = ?
+returns c store list full long =
+    let a = c .before .before .before .before .before .before .before .before .before .before .args in
+    let p = c .before .before .before .before .before .before .before .before .before .before .pre in
+    turns-refused (a .t1) (p .shape .len) (p .len) (p .count) store list full long _ _ (answers (c .before)) (c .if1 .taken)
 
 -- src/lib.rt:117:13
 mul-n : tie.Need-mul-n
@@ -87,7 +109,12 @@ counts-requires c κs = search needs
 
 -- src/lib.rt:103:1
 returns-2 : tie.Need-returns-2
-returns-2 c = ?
+returns-2 c store list full long =
+    let a = c .before .before .before .before .before .before .before .before .before .before .before .before .before .before .before .args in
+    let p = c .before .before .before .before .before .before .before .before .before .before .before .before .before .before .before .pre in
+    turns-accepted (a .t1) (p .shape .len) (p .len) (p .count) store list full long _ _ _ _ _ (answers (c .before .before .before .before .before .before)) (c .before .before .before .before .before .if1 .left)
+    (refresh-after (a .t1) (p .shape .len) (p .len) store list full (a .b) _ _ (c .counts .result) (c .before .before .before .before .before .before .before .before .before .before .before .before .before .before .seat .ensures .2) (p .shape .views) (p .shape .joined) (c .before .joined .ensures) (c .counts .ensures .1))
+    (p .len) (p .count) refl refl
 
 pub refresh-spec : {M : Type 1} → statement M
 refresh-spec =
