@@ -8,11 +8,11 @@ use Rattle.control.proofs.add.Reads as reads
 use Rattle.control.proofs.add.Lts as lts
 use Rattle.cluster.proofs.ruling.add.Reads as add-reads
 
--- src/lib.rt:74:9
+-- src/lib.rt:73:9
 add-requires : tie.Need-add-requires
 add-requires c κs = search needs
 
--- src/lib.rt:69:1
+-- src/lib.rt:68:1
 returns : tie.Need-returns
 returns c =
     let a = c .before .before .before .args in

@@ -8,11 +8,11 @@ use Rattle.control.proofs.change.Reads as reads
 use Rattle.control.proofs.change.Lts as lts
 use Rattle.cluster.proofs.ruling.change.Reads as change-reads
 
--- src/lib.rt:106:9
+-- src/lib.rt:105:9
 change-requires : tie.Need-change-requires
 change-requires c κs = search needs
 
--- src/lib.rt:101:1
+-- src/lib.rt:100:1
 returns : tie.Need-returns
 returns c =
     let a = c .before .before .before .args in

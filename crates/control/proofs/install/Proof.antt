@@ -8,11 +8,11 @@ use Rattle.control.proofs.install.Reads as reads
 use Rattle.control.proofs.install.Lts as lts
 use Rattle.cluster.proofs.settling.install.Reads as install-reads
 
--- src/lib.rt:221:9
+-- src/lib.rt:220:9
 install-requires : tie.Need-install-requires
 install-requires c κs = search needs
 
--- src/lib.rt:215:1
+-- src/lib.rt:214:1
 returns : tie.Need-returns
 returns c =
     let a = c .before .before .before .before .before .args in

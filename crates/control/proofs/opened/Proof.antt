@@ -6,11 +6,11 @@ use Rattle.control.proofs.opened.Reads as reads
 use Rattle.control.proofs.opened.Lts as lts
 use Rattle.members.proofs.single.Reads as single-reads
 
--- src/lib.rt:26:9
+-- src/lib.rt:25:9
 single-requires : tie.Need-single-requires
 single-requires c κs = search needs
 
--- src/lib.rt:22:1
+-- src/lib.rt:21:1
 returns : tie.Need-returns
 returns c = opened-with (c .before .args .b) _ (c .single .ensures)
 

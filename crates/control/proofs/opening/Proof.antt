@@ -10,25 +10,25 @@ use Rattle.cluster.proofs.check.Reads as check-reads
 use Rattle.cluster.proofs.replica.Reads as replica-reads
 use Rattle.control.proofs.opened.Reads as opened-reads
 
--- src/lib.rt:58:9
+-- src/lib.rt:57:9
 replica-requires : tie.Need-replica-requires
 replica-requires c κs = search needs
 
--- src/lib.rt:59:9
+-- src/lib.rt:58:9
 check-requires : tie.Need-check-requires
 check-requires c κs = search needs
 
--- src/lib.rt:60:9
+-- src/lib.rt:59:9
 check-requires-2 : tie.Need-check-requires-2
 check-requires-2 c κs = search needs
 
--- src/lib.rt:61:9
+-- src/lib.rt:60:9
 opened-requires : tie.Need-opened-requires
 opened-requires c κs =
     let b = c .before .before .before .args .b in
     chosen b _ (c .before .check .ensures ∙ ap (λ t. cond t b 1) (c .before .before .replica .ensures))
 
--- src/lib.rt:55:1
+-- src/lib.rt:54:1
 returns : tie.Need-returns
 returns c =
     let b = c .before .before .before .before .args .b in

@@ -9,42 +9,42 @@ use Rattle.control.proofs.read.Lts as lts
 use Rattle.cluster.proofs.seat.Reads as seat-reads
 use Rattle.cluster.proofs.telling.read.Reads as read-reads
 
--- src/lib.rt:160:9
+-- src/lib.rt:159:9
 seat-requires : tie.Need-seat-requires
 seat-requires c κs = search needs
 
--- src/lib.rt:161:14
+-- src/lib.rt:160:14
 sub-i : tie.Need-sub-i
 sub-i c = search needs
 
--- src/lib.rt:161:13
+-- src/lib.rt:160:13
 cast-i : tie.Need-cast-i
 cast-i c = search needs
 
--- src/lib.rt:162:13
+-- src/lib.rt:161:13
 mul-j : tie.Need-mul-j
 mul-j c = search needs
 
--- src/lib.rt:162:13
+-- src/lib.rt:161:13
 element-copy-out-j : tie.Need-element-copy-out-j
 element-copy-out-j c = search needs
 
--- src/lib.rt:163:13
+-- src/lib.rt:162:13
 mul-n : tie.Need-mul-n
 mul-n c = search needs
 
--- src/lib.rt:163:13
+-- src/lib.rt:162:13
 element-copy-out-n : tie.Need-element-copy-out-n
 element-copy-out-n c = search needs
 
--- src/lib.rt:164:9
+-- src/lib.rt:163:9
 read-requires : tie.Need-read-requires
 read-requires c κs =
     let a = c .before .before .before .before .args in
     let p = c .before .before .before .before .pre in
     short-log (a .t1) p _ (c .before .before .seat .ensures .0)
 
--- src/lib.rt:155:1
+-- src/lib.rt:154:1
 returns : tie.Need-returns
 returns c =
     let a = c .before .before .before .before .before .before .args in

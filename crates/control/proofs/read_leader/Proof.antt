@@ -9,42 +9,42 @@ use Rattle.control.proofs.read_leader.Lts as lts
 use Rattle.cluster.proofs.seat.Reads as seat-reads
 use Rattle.cluster.proofs.telling.read_leader.Reads as read-leader-reads
 
--- src/lib.rt:140:9
+-- src/lib.rt:139:9
 seat-requires : tie.Need-seat-requires
 seat-requires c κs = search needs
 
--- src/lib.rt:141:14
+-- src/lib.rt:140:14
 sub-i : tie.Need-sub-i
 sub-i c = search needs
 
--- src/lib.rt:141:13
+-- src/lib.rt:140:13
 cast-i : tie.Need-cast-i
 cast-i c = search needs
 
--- src/lib.rt:142:13
+-- src/lib.rt:141:13
 mul-v : tie.Need-mul-v
 mul-v c = search needs
 
--- src/lib.rt:142:13
+-- src/lib.rt:141:13
 element-copy-out-v : tie.Need-element-copy-out-v
 element-copy-out-v c = search needs
 
--- src/lib.rt:143:13
+-- src/lib.rt:142:13
 mul-n : tie.Need-mul-n
 mul-n c = search needs
 
--- src/lib.rt:143:13
+-- src/lib.rt:142:13
 element-copy-out-n : tie.Need-element-copy-out-n
 element-copy-out-n c = search needs
 
--- src/lib.rt:144:9
+-- src/lib.rt:143:9
 read-leader-requires : tie.Need-read-leader-requires
 read-leader-requires c κs =
     let a = c .before .before .before .before .before .args in
     let p = c .before .before .before .before .before .pre in
     short-log (a .t1) p _ (c .before .before .seat .ensures .0)
 
--- src/lib.rt:134:1
+-- src/lib.rt:133:1
 returns : tie.Need-returns
 returns c =
     let a = c .before .before .before .before .before .before .before .args in

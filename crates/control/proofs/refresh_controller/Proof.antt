@@ -8,11 +8,11 @@ use Rattle.control.proofs.refresh_controller.Reads as reads
 use Rattle.control.proofs.refresh_controller.Lts as lts
 use Rattle.cluster.proofs.telling.refresh_controller.Reads as refresh-controller-reads
 
--- src/lib.rt:123:9
+-- src/lib.rt:122:9
 refresh-controller-requires : tie.Need-refresh-controller-requires
 refresh-controller-requires c κs = search needs
 
--- src/lib.rt:117:1
+-- src/lib.rt:116:1
 returns : tie.Need-returns
 returns c =
     let a = c .before .before .before .before .args in

@@ -8,11 +8,11 @@ use Rattle.control.proofs.remove.Reads as reads
 use Rattle.control.proofs.remove.Lts as lts
 use Rattle.cluster.proofs.ruling.remove.Reads as remove-reads
 
--- src/lib.rt:90:9
+-- src/lib.rt:89:9
 remove-requires : tie.Need-remove-requires
 remove-requires c κs = search needs
 
--- src/lib.rt:85:1
+-- src/lib.rt:84:1
 returns : tie.Need-returns
 returns c =
     let a = c .before .before .before .args in

@@ -8,11 +8,11 @@ use Rattle.control.proofs.set_normal.Reads as reads
 use Rattle.control.proofs.set_normal.Lts as lts
 use Rattle.cluster.proofs.settling.set_normal.Reads as set-normal-reads
 
--- src/lib.rt:181:9
+-- src/lib.rt:180:9
 set-normal-requires : tie.Need-set-normal-requires
 set-normal-requires c κs = search needs
 
--- src/lib.rt:175:1
+-- src/lib.rt:174:1
 returns : tie.Need-returns
 returns c =
     let a = c .before .before .before .before .before .args in
