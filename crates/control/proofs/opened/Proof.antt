@@ -1,0 +1,18 @@
+use Rattle.control.proofs.Start.{opened-with}
+use borrow.Author.Needs.{needs}
+use Rattle.control.proofs.opened.Statement.{statement}
+use Rattle.control.proofs.opened.Tie as tie
+use Rattle.control.proofs.opened.Reads as reads
+use Rattle.control.proofs.opened.Lts as lts
+use Rattle.members.proofs.single.Reads as single-reads
+
+-- src/lib.rt:25:9
+single-requires : tie.Need-single-requires
+single-requires c κs = search needs
+
+-- src/lib.rt:21:1
+returns : tie.Need-returns
+returns c = opened-with (c .before .args .b) _ (c .single .ensures)
+
+pub opened-spec : {M : Type 1} → statement M
+opened-spec = tie.close (tie.spec single-requires returns)
