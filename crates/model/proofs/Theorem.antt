@@ -29,11 +29,11 @@ use Rattle.model.proofs.Change.{change-keeps}
 use Rattle.model.proofs.Install.{install-keeps}
 
 -- a property of the elements of a list, by their place from k on
-abbrev All : {A : Type 0} → (ℕ → A → Type 0) → ℕ → List A → Type 0
+abbrev pub All : {A : Type 0} → (ℕ → A → Type 0) → ℕ → List A → Type 0
 All P k [] = Unit {0}
 All P k (x ∷ xs) = P k x × All P (suc k) xs
 
-nth : {A : Type 0} (P : ℕ → A → Type 0) (d : A) → ((m : ℕ) → P m d) → (xs : List A) (k n : ℕ) → All P k xs → P (k + n) (getD xs n d)
+pub nth : {A : Type 0} (P : ℕ → A → Type 0) (d : A) → ((m : ℕ) → P m d) → (xs : List A) (k n : ℕ) → All P k xs → P (k + n) (getD xs n d)
 nth P d out [] k n a = out (k + n)
 nth P d out (x ∷ xs) k zero a = subst (λ m. P m x) (omega arith) (a .0)
 nth P d out (x ∷ xs) k (suc n) a = subst (λ m. P m (getD xs n d)) (omega arith) (nth P d out xs (suc k) n (a .1))

@@ -1,0 +1,44 @@
+-- What a call promises: its answer, the row it returns and every place of what it was lent. Cited by the contracts of steps. Assumes nothing.
+use mathlib.Core.Bool.{Bool, true, cond, _&&_}
+use mathlib.Core.List.{List, []}
+use mathlib.Core.Logic.{_≢_}
+use mathlib.Core.Path.{_≡_}
+use Prim.Native.Nat.{ℕ}
+use lib.Dec.{eqb}
+use lib.ListN.{length}
+use Rattle.model.specs.State as M
+use Rattle.model.specs.State.{outline, values}
+use Rattle.model.specs.Steps.{Step, accepted, answerOf, step}
+use Rattle.model.specs.Records as R
+use Rattle.model.specs.Ranges.{inRange}
+use Rattle.cluster.specs.declared.Cluster.{Cluster}
+use Rattle.cluster.specs.declared.Outcome.{Outcome}
+use Rattle.cluster.specs.Layout.{outlineOf}
+use Rattle.memory.specs.Memory.{abs, storeAfter, listAfter}
+use Rattle.steps.specs.declared.Record.{Record}
+
+-- The model's record of a record.
+abbrev pub recordOf : Record → R.Record
+recordOf r = record { step = r .step; board = r .board; other = r .other; spare = r .spare; value = r .value }
+
+-- Refusal 1, apart from a step's fields: "a store not 4,096 or receipts not 512 long, a row with a number outside the ranges", leaders.
+abbrev pub valid : Cluster → List ℕ → List ℕ → Bool
+valid row store list = eqb (length store) 4096 && eqb (length list) 512 && inRange (outlineOf row)
+
+-- A call of the step st with a row, the store and the list: it returns x and leaves store′ and list′.
+pub record Did (st : Step) (row : Cluster) (store list : List ℕ) (x : Outcome) (store′ list′ : List ℕ) : Type 0 where
+  -- Refusal 1 first, then the model's answer.
+  pub answer : x .answer ≡ cond (valid row store list) (answerOf (outlineOf row) st) 1
+  -- The state then is the model's step of the state before. A row is fixed by its outline (see `rows-equal`), so this fixes the row.
+  pub state : abs (x .row) store′ list′ ≡ cond (valid row store list) (step values (abs row store list) st) (abs row store list)
+  pub outlined : outlineOf (x .row) ≡ cond (valid row store list) (outline (step values (abs row store list) st)) (outlineOf row)
+  -- Every place of the store and of the list, accepted and refused.
+  pub stored : store′ ≡ cond (valid row store list && accepted (outlineOf row) st) (storeAfter st row store) store
+  pub listed : list′ ≡ cond (valid row store list && accepted (outlineOf row) st) (listAfter st row store list) list
+  -- A refused call returns the row itself.
+  pub refused : x .answer ≢ 0 → x .row ≡ row
+
+-- "Shown list: the leader's log, or the receipts while no leader is named ... For a row that refusal 1 would turn away it is an empty part."
+abbrev pub shown : Cluster → List ℕ → List ℕ → List ℕ
+shown row store list = cond (valid row store list)
+    (cond (eqb (row .registry .view .leader) 0) (abs row store list .committed) (abs row store list .log (row .registry .view .leader))) []
