@@ -74,6 +74,7 @@ module _ (put : State ℕ → State ℕ → State ℕ) (idle : (s : State ℕ) �
       record {
         answer = h .0 ∙ ap (λ m. answerOf m st) m;
         state = h .1 ∙ whole put st o idle (abs row store list);
+        eight = p .shape .len;
         len = p .len;
         count = p .count;
         stored = same-choice t (o .store row store);

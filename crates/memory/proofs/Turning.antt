@@ -65,6 +65,7 @@ module _ (row : Cluster) (eight : length (row .len) ≡ 8) (short : (b : ℕ) �
       record {
         answer = e;
         state = ap (λ x. cond x (next values (abs row store list) st) (abs row store list)) (sym u);
+        eight = eight;
         len = short;
         count = few;
         stored = ap (λ x. cond x (storeAfter st row store) store) (sym t);
@@ -75,14 +76,15 @@ module _ (row : Cluster) (eight : length (row .len) ≡ 8) (short : (b : ℕ) �
   -- An accepted one leaves what the model's does, if it writes what it is to write.
   pub turns-accepted : (st : Step) (n : ℕ) (row′ : Cluster) (store′ list′ : List ℕ) → n ≡ answerOf (outlineOf row) st → n ≡ 0
       → (accepted (outlineOf row) st ≡ true → abs row′ store′ list′ ≡ next values (abs row store list) st)
-      → ((b : ℕ) → at 0 (row′ .len) b ≤ 512) → row′ .count ≤ 512 → store′ ≡ storeAfter st row store → list′ ≡ listAfter st row store list
+      → length (row′ .len) ≡ 8 → ((b : ℕ) → at 0 (row′ .len) b ≤ 512) → row′ .count ≤ 512 → store′ ≡ storeAfter st row store → list′ ≡ listAfter st row store list
       → Turns st row store list (record { answer = 0; row = row′ }) store′ list′
-  turns-accepted st n row′ store′ list′ e z f short′ few′ s l =
+  turns-accepted st n row′ store′ list′ e z f eight′ short′ few′ s l =
       let t = zero-accepted (outlineOf row) st (sym e ∙ z) in
       let u : accepted (outline (abs row store list)) st ≡ true = ap (λ m. accepted m st) outline-abs ∙ t in
       record {
         answer = sym z ∙ e;
         state = f t ∙ ap (λ x. cond x (next values (abs row store list) st) (abs row store list)) (sym u);
+        eight = eight′;
         len = short′;
         count = few′;
         stored = s ∙ ap (λ x. cond x (storeAfter st row store) store) (sym t);

@@ -85,6 +85,7 @@ listAfter malformed row store list = list
 pub record Turns (st : Step) (row : Cluster) (store list : List ℕ) (x : Outcome) (store′ list′ : List ℕ) : Type 0 where
   pub answer : x .answer ≡ answerOf (outlineOf row) st
   pub state : abs (x .row) store′ list′ ≡ step values (abs row store list) st
+  pub eight : length (x .row .len) ≡ 8
   pub len : (b : ℕ) → at 0 (x .row .len) b ≤ 512
   pub count : x .row .count ≤ 512
   pub stored : store′ ≡ cond (accepted (outlineOf row) st) (storeAfter st row store) store

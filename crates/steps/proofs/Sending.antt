@@ -38,7 +38,7 @@ module _ (row : Cluster) (store list : List ℕ) (x : Outcome) (store′ list′
   as-malformed st one never k = record {
     answer = k .answer ∙ one (outlineOf row);
     state = k .state ∙ ap (λ t. cond t (next values (abs row store list) st) (abs row store list)) (never (outline (abs row store list)));
-    len = k .len; count = k .count;
+    eight = k .eight; len = k .len; count = k .count;
     stored = k .stored ∙ ap (λ t. cond t (storeAfter st row store) store) (never (outlineOf row));
     listed = k .listed ∙ ap (λ t. cond t (listAfter st row store list) list) (never (outlineOf row));
     refused = k .refused }

@@ -119,3 +119,19 @@ pub fn dispatch(row: Cluster, store: &mut [u32], list: &mut [u32], r: Record) ->
         }
     }
 }
+
+// Any record: refusal 1 first, then its step.
+pub fn step(row: Cluster, store: &mut [u32], list: &mut [u32], r: Record) -> Outcome
+    ensures { λ x. ⌜ Did (R.stepOf (recordOf r)) row (now (store .entry)) (now (list .entry)) x (now (store .exit)) (now (list .exit)) ⌝ }
+{
+    if store.len() != 4096 {
+        return refused(row);
+    }
+    if list.len() != 512 {
+        return refused(row);
+    }
+    if !cluster::ranges::in_range(row) {
+        return refused(row);
+    }
+    dispatch(row, &mut *store, &mut *list, r)
+}

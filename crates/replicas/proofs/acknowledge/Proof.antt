@@ -148,7 +148,7 @@ returns-2 c store list full long =
     turns-accepted (a .t1) (p .shape .len) (p .len) (p .count) store list full long _ _ _ _ _
     (acknowledge-answer (a .t1) (a .a) (a .b) _ _ (c .before .before .before .before .before .before .before .before .before .before .before .before .before .before .before .before .before .before .before .seat .ensures .2) (c .before .before .before .before .before .before .before .before .before .before .before .before .before .before .before .before .before .before .seat2 .ensures .2) (c .before .before .before .before .before .before .before .before .before .before .before .before .check .ensures) (c .before .before .before .before .before .before .before .before .before .before .check2 .ensures) (c .before .before .before .before .before .before .before .check3 .ensures) (c .before .before .before .before .before .before .has .ensures) (c .before .before .before .before .before .check4 .ensures) (c .before .before .before .check5 .ensures) (c .before .before .two .ensures) (c .before .check6 .ensures)) (c .if1 .left)
     (acknowledge-after (a .t1) (p .shape .len) (p .len) store list full (a .a) (a .b) _ _ (c .before .before .before .before .before .before .before .before .before .before .before .before .before .before .before .before .before .before .before .seat .ensures .2) (c .before .before .before .before .before .before .before .before .before .before .before .before .before .before .before .before .before .before .seat2 .ensures .2) (p .shape .acked))
-    (p .len) (p .count) refl refl
+    (p .shape .len) (p .len) (p .count) refl refl
 
 pub acknowledge-spec : {M : Type 1} → statement M
 acknowledge-spec =

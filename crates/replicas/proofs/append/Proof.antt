@@ -2,7 +2,7 @@ use mathlib.Core.Bool.{true}
 use mathlib.Core.Path.{_≡_, refl, sym, ap, _∙_}
 use Prim.Native.Nat.{_-_, _<_}
 use native.Mathlib.Omega.{arith}
-use lib.ListN.{getD, set}
+use lib.ListN.{getD, set, length-set}
 use denote.Ref.{now}
 use Rattle.model.specs.Steps.{append, accepted, answerOf}
 use Rattle.model.proofs.Answer.{zero-accepted}
@@ -127,7 +127,7 @@ returns-2 c list long =
     let h = c .before .before .before .before .before .before .before .before .before .before .before .before .seat .ensures in
     turns-accepted (a .t1) (p .0 .shape .len) (p .0 .len) (p .0 .count) _ list (p .1) long _ _ _ _ _ (answers (c .before .before .before .before .before)) (c .before .before .before .before .if1 .left)
     (append-after (a .t1) (p .0 .shape .len) (p .0 .len) _ list (p .1) (a .b) (a .value) _ (h .2) (p .0 .shape .acked) _ (c .before .before .append-entry .ensures))
-    (len-short (a .t1 .len) (p .0 .shape .len) (p .0 .len) _ _ (h .0) (h .1) (omega (arith, room (c .before .before .before .before .before) (c .before .before .before .before .if1 .left)))) (p .0 .count)
+    (length-set (a .t1 .len) _ _ ∙ p .0 .shape .len) (len-short (a .t1 .len) (p .0 .shape .len) (p .0 .len) _ _ (h .0) (h .1) (omega (arith, room (c .before .before .before .before .before) (c .before .before .before .before .if1 .left)))) (p .0 .count)
     (c .before .before .append-entry .ensures ∙ ap (λ x. set (now (a .store)) x (a .value)) (append-place (a .t1) (a .b) (a .value) _ (h .2) (accepts (c .before .before .before .before .before) (c .before .before .before .before .if1 .left)))) refl
 
 pub append-spec : {M : Type 1} → statement M

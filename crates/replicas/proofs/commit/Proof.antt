@@ -121,7 +121,7 @@ returns-2 c =
     let l = c .before .before .commit .ensures ∙ ap (set (now (a .list)) (a .t1 .count)) (c .before .before .before .before .entry .ensures ∙ commit-entry (a .t1) (a .b) _ (c .before .before .before .before .before .before .before .before .before .before .before .before .before .before .before .before .before .seat .ensures .2) (now (a .store)) t) in
     let n = room (c .before .before .before .before .before .before) (c .before .before .before .before .before .if1 .left) in
     turns-accepted (a .t1) (p .0 .shape .len) (p .0 .len) (p .0 .count) _ _ (p .1) (p .2) _ _ _ _ _ (answers (c .before .before .before .before .before .before)) (c .before .before .before .before .before .if1 .left)
-    (commit-after (a .t1) (p .0 .shape .len) (p .0 .len) (now (a .store)) (now (a .list)) (p .1) (p .2) (a .b) _ l n) (p .0 .len) (omega arith) refl l
+    (commit-after (a .t1) (p .0 .shape .len) (p .0 .len) (now (a .store)) (now (a .list)) (p .1) (p .2) (a .b) _ l n) (p .0 .shape .len) (p .0 .len) (omega arith) refl l
 
 pub commit-spec : {M : Type 1} → statement M
 commit-spec =

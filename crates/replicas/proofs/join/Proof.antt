@@ -2,7 +2,7 @@ use mathlib.Core.Bool.{true}
 use mathlib.Core.Path.{_≡_, refl, sym, ap, _∙_}
 use Prim.Native.Nat.{_-_, _<_}
 use native.Mathlib.Omega.{arith}
-use lib.ListN.{getD, set}
+use lib.ListN.{getD, set, length-set}
 use denote.Ref.{now}
 use Rattle.model.specs.Steps.{join, accepted, answerOf}
 use Rattle.model.proofs.Answer.{zero-accepted}
@@ -160,7 +160,7 @@ returns-2 c list long =
     let h = c .before .before .before .before .before .before .before .before .before .before .before .before .before .before .before .before .before .before .before .seat .ensures in
     turns-accepted (a .t1) (p .0 .shape .len) (p .0 .len) (p .0 .count) _ list (p .1) long _ _ _ _ _ (answers (c .before .before .before .before)) (c .before .before .before .if1 .left)
     (join-after (a .t1) (p .0 .shape .len) (p .0 .len) _ list (p .1) (a .b) _ _ _ (h .2) (p .0 .shape .joined) (c .before .before .before .before .before .before .before .before .before .before .before .before .before .before .before .before .seat2 .ensures .2) (p .0 .leaders) (c .shared .ensures))
-    (len-short (a .t1 .len) (p .0 .shape .len) (p .0 .len) _ _ (h .0) (h .1) (join-short _ _ _ _ _ (p .1) (h .0) (h .1) (short-at (a .t1 .len) (c .before .before .before .before .before .before .before .before .before .before .before .before .before .before .before .before .before .before .before .seat .result) (p .0 .len) (h .0)) (c .shared .ensures))) (p .0 .count) refl refl
+    (length-set (a .t1 .len) _ _ ∙ p .0 .shape .len) (len-short (a .t1 .len) (p .0 .shape .len) (p .0 .len) _ _ (h .0) (h .1) (join-short _ _ _ _ _ (p .1) (h .0) (h .1) (short-at (a .t1 .len) (c .before .before .before .before .before .before .before .before .before .before .before .before .before .before .before .before .before .before .before .seat .result) (p .0 .len) (h .0)) (c .shared .ensures))) (p .0 .count) refl refl
 
 pub join-spec : {M : Type 1} → statement M
 join-spec =

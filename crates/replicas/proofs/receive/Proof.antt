@@ -2,7 +2,7 @@ use mathlib.Core.Bool.{true}
 use mathlib.Core.Path.{_≡_, refl, sym, ap, _∙_}
 use Prim.Native.Nat.{_-_, _<_}
 use native.Mathlib.Omega.{arith}
-use lib.ListN.{getD, set}
+use lib.ListN.{getD, set, length-set}
 use denote.Ref.{now}
 use Rattle.model.specs.Steps.{receive, accepted, answerOf}
 use Rattle.model.proofs.Answer.{zero-accepted}
@@ -168,7 +168,7 @@ returns-2 c list long =
     let m = c .before .before .before .before .before .before .before .before .before .before .before .before .before .before .before .before .before .before .before .seat2 .ensures .2 in
     turns-accepted (a .t1) (p .0 .shape .len) (p .0 .len) (p .0 .count) _ list (p .1) long _ _ _ _ _ (answers (c .before .before .before .before .before)) (c .before .before .before .before .if1 .left)
     (receive-after (a .t1) (p .0 .shape .len) (p .0 .len) _ list (p .1) (a .b) _ _ (h .2) m (p .0 .leaders) _ (c .before .before .receive-entry .ensures))
-    (len-short (a .t1 .len) (p .0 .shape .len) (p .0 .len) _ _ (h .0) (h .1) (omega (arith, room (c .before .before .before .before .before) (c .before .before .before .before .if1 .left)))) (p .0 .count)
+    (length-set (a .t1 .len) _ _ ∙ p .0 .shape .len) (len-short (a .t1 .len) (p .0 .shape .len) (p .0 .len) _ _ (h .0) (h .1) (omega (arith, room (c .before .before .before .before .before) (c .before .before .before .before .if1 .left)))) (p .0 .count)
     (c .before .before .receive-entry .ensures ∙ receive-place (a .t1) (a .b) _ (h .2) _ m (p .0 .leaders) (now (a .store)) (accepts (c .before .before .before .before .before) (c .before .before .before .before .if1 .left))) refl
 
 pub receive-spec : {M : Type 1} → statement M

@@ -114,7 +114,7 @@ returns-2 c store list full long =
     let p = c .before .before .before .before .before .before .before .before .before .before .before .before .before .before .before .pre in
     turns-accepted (a .t1) (p .shape .len) (p .len) (p .count) store list full long _ _ _ _ _ (answers (c .before .before .before .before .before .before)) (c .before .before .before .before .before .if1 .left)
     (refresh-after (a .t1) (p .shape .len) (p .len) store list full (a .b) _ _ (c .counts .result) (c .before .before .before .before .before .before .before .before .before .before .before .before .before .before .seat .ensures .2) (p .shape .views) (p .shape .joined) (c .before .joined .ensures) (c .counts .ensures .1))
-    (p .len) (p .count) refl refl
+    (p .shape .len) (p .len) (p .count) refl refl
 
 pub refresh-spec : {M : Type 1} → statement M
 refresh-spec =
