@@ -11,7 +11,7 @@ use lib.ListN.{length, set, length-set}
 use borrow.Author.Tests.{eq-eqb, ne-eqb}
 use Rattle.model.specs.Members.{isReplica}
 use Rattle.model.specs.State.{outline, values}
-use Rattle.model.specs.Steps.{Step, accepted, answerOf, step}
+use Rattle.model.specs.Steps.{Step, append, commit, add, remove, changeLeader, refresh, join, receive, acknowledge, refreshController, readLeader, read, setNormal, hear, install, malformed, accepted, answerOf, step}
 use Rattle.model.specs.Ranges.{inRange}
 use Rattle.model.proofs.Tests.{of-true, is-true, le-or-lt}
 use Rattle.model.proofs.Quorum.{by-replica}
@@ -44,6 +44,48 @@ ready row s e =
       reads = λ g. let n = r .reads g in replica (row .controller .view .leader) (omega (arith, n)) (r .controller .leader);
     }
 
+-- The lent places keep their lengths.
+module _ (row : Cluster) where
+  store-length : (st : Step) (store : List ℕ) → length (storeAfter st row store) ≡ length store
+  store-length (append b v) store = length-set store _ _
+  store-length (commit b) store = refl
+  store-length (add b) store = refl
+  store-length (remove b) store = refl
+  store-length changeLeader store = refl
+  store-length (refresh b) store = refl
+  store-length (join b) store = refl
+  store-length (receive b) store = length-set store _ _
+  store-length (acknowledge a b) store = refl
+  store-length refreshController store = refl
+  store-length readLeader store = refl
+  store-length (read b) store = refl
+  store-length setNormal store = refl
+  store-length (hear b) store = refl
+  store-length (install b) store = refl
+  store-length malformed store = refl
+
+  list-length : (st : Step) (store list : List ℕ) → length (listAfter st row store list) ≡ length list
+  list-length (append b v) store list = refl
+  list-length (commit b) store list = length-set list _ _
+  list-length (add b) store list = refl
+  list-length (remove b) store list = refl
+  list-length changeLeader store list = refl
+  list-length (refresh b) store list = refl
+  list-length (join b) store list = refl
+  list-length (receive b) store list = refl
+  list-length (acknowledge a b) store list = refl
+  list-length refreshController store list = refl
+  list-length readLeader store list = refl
+  list-length (read b) store list = refl
+  list-length setNormal store list = refl
+  list-length (hear b) store list = refl
+  list-length (install b) store list = refl
+  list-length malformed store list = refl
+
+kept-length : (t : Bool) (x y : List ℕ) {z : List ℕ} → z ≡ cond t x y → length x ≡ length y → length z ≡ length y
+kept-length true x y e h = ap length e ∙ h
+kept-length false x y e h = ap length e
+
 module _ (st : Step) (row : Cluster) (store list : List ℕ) where
   -- Refusal 1.
   pub did-refused : valid row store list ≡ false → (x : Outcome) → x .answer ≡ 1 → x .row ≡ row → Did st row store list x store list
@@ -55,10 +97,31 @@ module _ (st : Step) (row : Cluster) (store list : List ℕ) where
     listed = ap (λ t. cond (t && accepted (outlineOf row) st) (listAfter st row store list) list) (sym v);
     refused = λ _. er }
 
-  -- The lent places keep their lengths.
-  stored-length : (store′ : List ℕ) (t : Bool) → store′ ≡ cond t (storeAfter st row store) store → length store′ ≡ length store
-  stored-length store′ true e = ap length e ∙ after st
-    where
-      after : (st : Step) → length (storeAfter st row store) ≡ length store
-      after st = ?
-  stored-length store′ false e = ap length e
+  -- What is lent is left as long as it was.
+  pub did-lengths : {x : Outcome} {store′ list′ : List ℕ} → Did st row store list x store′ list′ → (length store′ ≡ length store) × (length list′ ≡ length list)
+  did-lengths d = (kept-length (valid row store list && accepted (outlineOf row) st) (storeAfter st row store) store (d .stored) (store-length row st store),
+      kept-length (valid row store list && accepted (outlineOf row) st) (listAfter st row store list) list (d .listed) (list-length row st store list))
+
+  -- Else the step.
+  pub did-step : valid row store list ≡ true → length store ≡ 4096 → length list ≡ 512 → {x : Outcome} {store′ list′ : List ℕ} → Turns st row store list x store′ list′ → Did st row store list x store′ list′
+  did-step v full long {x} {store′} {list′} t =
+      let f : length store′ ≡ 4096 = kept-length (accepted (outlineOf row) st) (storeAfter st row store) store (t .stored) (store-length row st store) ∙ full in
+      let l : length list′ ≡ 512 = kept-length (accepted (outlineOf row) st) (listAfter st row store list) list (t .listed) (list-length row st store list) ∙ long in
+      record {
+        answer = t .answer ∙ ap (λ u. cond u (answerOf (outlineOf row) st) 1) (sym v);
+        state = t .state ∙ ap (λ u. cond u (step values (abs row store list) st) (abs row store list)) (sym v);
+        outlined = sym (outline-abs (x .row) (t .eight) (t .len) (t .count) store′ list′ f l) ∙ ap outline (t .state) ∙ ap (λ u. cond u (outline (step values (abs row store list) st)) (outlineOf row)) (sym v);
+        stored = t .stored ∙ ap (λ u. cond (u && accepted (outlineOf row) st) (storeAfter st row store) store) (sym v);
+        listed = t .listed ∙ ap (λ u. cond (u && accepted (outlineOf row) st) (listAfter st row store list) list) (sym v);
+        refused = t .refused }
+
+-- Refusal 1 by its three tests.
+module _ (row : Cluster) (store list : List ℕ) where
+  pub short-store : length store ≢ 4096 → valid row store list ≡ false
+  short-store h = rw (ne-eqb (length store) 4096 h)
+
+  pub short-list : length store ≡ 4096 → length list ≢ 512 → valid row store list ≡ false
+  short-list e h = rw (eq-eqb (length store) 4096 e, ne-eqb (length list) 512 h)
+
+  pub all-tests : {t : Bool} → length store ≡ 4096 → length list ≡ 512 → inRange (outlineOf row) ≡ t → valid row store list ≡ t
+  all-tests e h r = rw (eq-eqb (length store) 4096 e, eq-eqb (length list) 512 h) r
