@@ -204,7 +204,7 @@ module _ (𝓔 : Entries) where
   run-given s [] = sym (append-nil (s .committed))
   run-given s (r ∷ rs) = run-given (step 𝓔 s (stepOf r)) rs ∙ ap (λ xs. xs ++ given 𝓔 (step 𝓔 s (stepOf r)) rs) (step-gives s r) ∙ append-assoc (s .committed) (gives 𝓔 s r) _
 
-  run-append : (s : State Entry) (rs more : List Record) → run 𝓔 s (rs ++ more) ≡ run 𝓔 (run 𝓔 s rs) more
+  pub run-append : (s : State Entry) (rs more : List Record) → run 𝓔 s (rs ++ more) ≡ run 𝓔 (run 𝓔 s rs) more
   unfolding run
   run-append s [] more = refl
   run-append s (r ∷ rs) more = run-append (step 𝓔 s (stepOf r)) rs more

@@ -1,28 +1,30 @@
 -- From refusal 1 and the inner step to what a call promises; a row that refusal 1 lets through is ready; equal outlines are equal rows.
 -- Assumes nothing.
-use mathlib.Core.Bool.{Bool, true, false, cond, _&&_}
+use mathlib.Core.Bool.{Bool, true, false, not, cond, _&&_}
 use mathlib.Core.List.{List, [], _∷_}
 use mathlib.Core.Logic.{_⊎_, inl, inr, _≢_}
 use mathlib.Core.Path.{_≡_, refl, sym, subst, ap, _∙_}
 use Prim.Native.Nat.{ℕ, zero, suc, _+_, _-_, _≤_, _<_}
 use native.Mathlib.Omega.{arith}
 use lib.Dec.{T, eqb}
-use lib.ListN.{length, set, length-set}
+use lib.ListN.{length, take, getD, set, length-set}
 use borrow.Author.Tests.{eq-eqb, ne-eqb}
 use Rattle.model.specs.Members.{isReplica}
 use Rattle.model.specs.State.{outline, values}
 use Rattle.model.specs.Steps.{Step, append, commit, add, remove, changeLeader, refresh, join, receive, acknowledge, refreshController, readLeader, read, setNormal, hear, install, malformed, accepted, answerOf, step}
 use Rattle.model.specs.Ranges.{inRange}
-use Rattle.model.proofs.Tests.{of-true, is-true, le-or-lt}
+use Rattle.model.proofs.Tests.{of-true, is-true, le-or-lt, ne-fact}
 use Rattle.model.proofs.Quorum.{by-replica}
 use Rattle.model.proofs.Range.{InRange, to-ranges}
 use Rattle.members.proofs.Laws.{replica}
 use Rattle.cluster.specs.declared.Cluster.{Cluster}
 use Rattle.cluster.specs.declared.Outcome.{Outcome}
 use Rattle.cluster.specs.Layout.{at, noView, outlineOf}
+use Rattle.cluster.proofs.Laws.{at-index}
+use Rattle.logstore.specs.Log.{logOf, visibleOf}
 use Rattle.memory.specs.Memory.{abs, Shape, Ready, storeAfter, listAfter, Turns}
 use Rattle.memory.proofs.Turning.{at-none, outline-abs}
-use Rattle.steps.specs.Call.{valid, Did}
+use Rattle.steps.specs.Call.{valid, shown, Did}
 
 -- Ranges of the replicas are bounds for every number.
 bounded : {A : Type 0} (d : A) (xs : List A) (f : A → ℕ) (n : ℕ) → length xs ≡ 8 → f d ≤ n → ((b : ℕ) → T (isReplica b) → f (at d xs b) ≤ n) → (b : ℕ) → f (at d xs b) ≤ n
@@ -95,12 +97,15 @@ module _ (st : Step) (row : Cluster) (store list : List ℕ) where
     outlined = ap outlineOf er ∙ ap (λ t. cond t (outline (step values (abs row store list) st)) (outlineOf row)) (sym v);
     stored = ap (λ t. cond (t && accepted (outlineOf row) st) (storeAfter st row store) store) (sym v);
     listed = ap (λ t. cond (t && accepted (outlineOf row) st) (listAfter st row store list) list) (sym v);
-    refused = λ _. er }
+    refused = λ _. er;
+  }
 
   -- What is lent is left as long as it was.
   pub did-lengths : {x : Outcome} {store′ list′ : List ℕ} → Did st row store list x store′ list′ → (length store′ ≡ length store) × (length list′ ≡ length list)
-  did-lengths d = (kept-length (valid row store list && accepted (outlineOf row) st) (storeAfter st row store) store (d .stored) (store-length row st store),
-      kept-length (valid row store list && accepted (outlineOf row) st) (listAfter st row store list) list (d .listed) (list-length row st store list))
+  did-lengths d = (
+    kept-length (valid row store list && accepted (outlineOf row) st) (storeAfter st row store) store (d .stored) (store-length row st store),
+    kept-length (valid row store list && accepted (outlineOf row) st) (listAfter st row store list) list (d .listed) (list-length row st store list),
+  )
 
   -- Else the step.
   pub did-step : valid row store list ≡ true → length store ≡ 4096 → length list ≡ 512 → {x : Outcome} {store′ list′ : List ℕ} → Turns st row store list x store′ list′ → Did st row store list x store′ list′
@@ -113,7 +118,8 @@ module _ (st : Step) (row : Cluster) (store list : List ℕ) where
         outlined = sym (outline-abs (x .row) (t .eight) (t .len) (t .count) store′ list′ f l) ∙ ap outline (t .state) ∙ ap (λ u. cond u (outline (step values (abs row store list) st)) (outlineOf row)) (sym v);
         stored = t .stored ∙ ap (λ u. cond (u && accepted (outlineOf row) st) (storeAfter st row store) store) (sym v);
         listed = t .listed ∙ ap (λ u. cond (u && accepted (outlineOf row) st) (listAfter st row store list) list) (sym v);
-        refused = t .refused }
+        refused = t .refused;
+      }
 
 -- Refusal 1 by its three tests.
 module _ (row : Cluster) (store list : List ℕ) where
@@ -125,3 +131,25 @@ module _ (row : Cluster) (store list : List ℕ) where
 
   pub all-tests : {t : Bool} → length store ≡ 4096 → length list ≡ 512 → inRange (outlineOf row) ≡ t → valid row store list ≡ t
   all-tests e h r = rw (eq-eqb (length store) 4096 e, eq-eqb (length list) 512 h) r
+
+-- The shown list, with the leader's length found at its seat l.
+shown-log : (row : Cluster) (store : List ℕ) (l : ℕ) → row .registry .view .leader ≤ 8 → (isReplica (row .registry .view .leader) ≡ true → l ≡ row .registry .view .leader)
+    → row .registry .view .leader ≢ 0 → logOf store (row .registry .view .leader) (getD (row .len) (l - 1) 0) ≡ logOf store (row .registry .view .leader) (at 0 (row .len) (row .registry .view .leader))
+shown-log row store l small hl n =
+    let r = replica (row .registry .view .leader) (omega (arith, n)) small in
+    ap (logOf store (row .registry .view .leader)) (ap (λ x. getD (row .len) (x - 1) 0) (hl r) ∙ sym (at-index 0 (row .len) (row .registry .view .leader) (omega (arith, n))))
+
+pub shown-is : (row : Cluster) (store list : List ℕ) (l : ℕ) → valid row store list ≡ true → row .registry .view .leader ≤ 8
+    → (isReplica (row .registry .view .leader) ≡ true → l ≡ row .registry .view .leader)
+    → visibleOf store list (row .registry .view .leader) (getD (row .len) (l - 1) 0) (row .count) ≡ shown row store list
+shown-is row store list l v small hl =
+    go (eqb (row .registry .view .leader) 0) (λ t. shown-log row store l small hl (ne-fact (row .registry .view .leader) 0 t))
+    ∙ ap (λ t. cond t (cond (eqb (row .registry .view .leader) 0) (abs row store list .committed) (abs row store list .log (row .registry .view .leader))) []) (sym v)
+  where
+    go : (t : Bool) → (T (not t) → logOf store (row .registry .view .leader) (getD (row .len) (l - 1) 0) ≡ logOf store (row .registry .view .leader) (at 0 (row .len) (row .registry .view .leader)))
+        → cond t (take (row .count) list) (logOf store (row .registry .view .leader) (getD (row .len) (l - 1) 0)) ≡ cond t (take (row .count) list) (logOf store (row .registry .view .leader) (at 0 (row .len) (row .registry .view .leader)))
+    go true h = refl
+    go false h = h tt
+
+pub leader-small : (row : Cluster) → inRange (outlineOf row) ≡ true → row .registry .view .leader ≤ 8
+leader-small row e = to-ranges (outlineOf row) (of-true e) .registry .leader

@@ -1,2 +1,3 @@
 pub mod Sending
 pub mod Calling
+pub mod Following

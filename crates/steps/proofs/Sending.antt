@@ -38,10 +38,13 @@ module _ (row : Cluster) (store list : List ℕ) (x : Outcome) (store′ list′
   as-malformed st one never k = record {
     answer = k .answer ∙ one (outlineOf row);
     state = k .state ∙ ap (λ t. cond t (next values (abs row store list) st) (abs row store list)) (never (outline (abs row store list)));
-    eight = k .eight; len = k .len; count = k .count;
+    eight = k .eight;
+    len = k .len;
+    count = k .count;
     stored = k .stored ∙ ap (λ t. cond t (storeAfter st row store) store) (never (outlineOf row));
     listed = k .listed ∙ ap (λ t. cond t (listAfter st row store list) list) (never (outlineOf row));
-    refused = k .refused }
+    refused = k .refused;
+  }
 
   -- A record with a board and the unused fields o, s and v: its step at the board, or what is no step, which board 0 answers alike.
   pub by-board : (f : ℕ → Step) (b o s v n : ℕ) → n ≡ cond (eqb o 0 && (eqb s 0 && eqb v 0)) b 0
@@ -85,10 +88,44 @@ Other n = (((((((((((((((Unit {0} × (n ≡ 0 → ⊥)) × (n ≡ 1 → ⊥)) ×
     × (n ≡ 8 → ⊥)) × (n ≡ 9 → ⊥)) × (n ≡ 10 → ⊥)) × (n ≡ 11 → ⊥)) × (n ≡ 12 → ⊥)) × (n ≡ 13 → ⊥)) × (n ≡ 14 → ⊥)) × (n ≡ 15 → ⊥)
 
 pub no-step : (r : Record) (n : ℕ) → Other n → getD (rules r) n malformed ≡ malformed
-no-step r n h = nth (λ m st. Other m → st ≡ malformed) malformed (λ _ _. refl) (rules r) 0 n
-    ((λ _. refl), ((λ o. absurd (o .0 .0 .0 .0 .0 .0 .0 .0 .0 .0 .0 .0 .0 .0 .1 refl)), ((λ o. absurd (o .0 .0 .0 .0 .0 .0 .0 .0 .0 .0 .0 .0 .0 .1 refl)),
-    ((λ o. absurd (o .0 .0 .0 .0 .0 .0 .0 .0 .0 .0 .0 .0 .1 refl)), ((λ o. absurd (o .0 .0 .0 .0 .0 .0 .0 .0 .0 .0 .0 .1 refl)), ((λ o. absurd (o .0 .0 .0 .0 .0 .0 .0 .0 .0 .0 .1 refl)),
-    ((λ o. absurd (o .0 .0 .0 .0 .0 .0 .0 .0 .0 .1 refl)), ((λ o. absurd (o .0 .0 .0 .0 .0 .0 .0 .0 .1 refl)), ((λ o. absurd (o .0 .0 .0 .0 .0 .0 .0 .1 refl)),
-    ((λ o. absurd (o .0 .0 .0 .0 .0 .0 .1 refl)), ((λ o. absurd (o .0 .0 .0 .0 .0 .1 refl)), ((λ o. absurd (o .0 .0 .0 .0 .1 refl)), ((λ o. absurd (o .0 .0 .0 .1 refl)),
-    ((λ o. absurd (o .0 .0 .1 refl)), ((λ o. absurd (o .0 .1 refl)), ((λ o. absurd (o .1 refl)), tt))))))))))))))))
+no-step r n h = nth (λ m st. Other m → st ≡ malformed) malformed (λ _ _. refl) (rules r) 0 n (
+  (λ _. refl),
+  (
+    (λ o. absurd (o .0 .0 .0 .0 .0 .0 .0 .0 .0 .0 .0 .0 .0 .0 .1 refl)),
+    (
+      (λ o. absurd (o .0 .0 .0 .0 .0 .0 .0 .0 .0 .0 .0 .0 .0 .1 refl)),
+      (
+        (λ o. absurd (o .0 .0 .0 .0 .0 .0 .0 .0 .0 .0 .0 .0 .1 refl)),
+        (
+          (λ o. absurd (o .0 .0 .0 .0 .0 .0 .0 .0 .0 .0 .0 .1 refl)),
+          (
+            (λ o. absurd (o .0 .0 .0 .0 .0 .0 .0 .0 .0 .0 .1 refl)),
+            (
+              (λ o. absurd (o .0 .0 .0 .0 .0 .0 .0 .0 .0 .1 refl)),
+              (
+                (λ o. absurd (o .0 .0 .0 .0 .0 .0 .0 .0 .1 refl)),
+                (
+                  (λ o. absurd (o .0 .0 .0 .0 .0 .0 .0 .1 refl)),
+                  (
+                    (λ o. absurd (o .0 .0 .0 .0 .0 .0 .1 refl)),
+                    (
+                      (λ o. absurd (o .0 .0 .0 .0 .0 .1 refl)),
+                      (
+                        (λ o. absurd (o .0 .0 .0 .0 .1 refl)),
+                        (
+                          (λ o. absurd (o .0 .0 .0 .1 refl)),
+                          ((λ o. absurd (o .0 .0 .1 refl)), ((λ o. absurd (o .0 .1 refl)), ((λ o. absurd (o .1 refl)), tt))),
+                        ),
+                      ),
+                    ),
+                  ),
+                ),
+              ),
+            ),
+          ),
+        ),
+      ),
+    ),
+  ),
+)
     (subst Other (sym (zero-add n)) h) ∙ refl

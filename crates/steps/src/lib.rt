@@ -5,6 +5,8 @@ ghost use lib.ListN.{length};
 ghost use Rattle.model.specs.Steps as T;
 ghost use Rattle.model.specs.Records as R;
 ghost use Rattle.memory.specs.Memory.{Ready, Turns};
+ghost use Rattle.control.specs.Opening.{Opens};
+ghost use Rattle.steps.specs.Calls.{CallsSafe};
 ghost use Rattle.steps.specs.Call.{recordOf, Did, shown};
 use cluster::Cluster;
 use cluster::Outcome;
@@ -38,7 +40,10 @@ fn board(b: u8, x: u8, y: u8, v: u32) -> u8
 fn refused(row: Cluster) -> Outcome
     ensures { λ x. ⌜ (x .answer ≡ 1) × (x .row ≡ row) ⌝ }
 {
-    Outcome { answer: 1, row: row }
+    Outcome {
+        answer: 1,
+        row: row,
+    }
 }
 
 // Sends a record to its field check and its step. Inner layer: callers see to it that refusal 1 lets the row and the lent
@@ -135,3 +140,309 @@ pub fn step(row: Cluster, store: &mut [u32], list: &mut [u32], r: Record) -> Out
     }
     dispatch(row, &mut *store, &mut *list, r)
 }
+
+// The opening with board b.
+pub fn opening(b: u8) -> Outcome
+    ensures { λ x. ⌜ Opens b x ⌝ }
+{
+    control::opening(b)
+}
+
+// The fifteen steps, each as the record that stands for it.
+
+// Step 1, b appends the value.
+pub fn append(row: Cluster, store: &mut [u32], list: &mut [u32], b: u8, value: u32) -> Outcome
+    ensures { λ x. ⌜ Did (T.Step.append b value) row (now (store .entry)) (now (list .entry)) x (now (store .exit)) (now (list .exit)) ⌝ }
+{
+    step(
+        row,
+        &mut *store,
+        &mut *list,
+        Record {
+            step: 1,
+            board: b,
+            other: 0,
+            spare: 0,
+            value: value,
+        },
+    )
+}
+
+// Step 2, a receipt by b.
+pub fn commit(row: Cluster, store: &mut [u32], list: &mut [u32], b: u8) -> Outcome
+    ensures { λ x. ⌜ Did (T.Step.commit b) row (now (store .entry)) (now (list .entry)) x (now (store .exit)) (now (list .exit)) ⌝ }
+{
+    step(
+        row,
+        &mut *store,
+        &mut *list,
+        Record {
+            step: 2,
+            board: b,
+            other: 0,
+            spare: 0,
+            value: 0,
+        },
+    )
+}
+
+// Step 3, add b.
+pub fn add(row: Cluster, store: &mut [u32], list: &mut [u32], b: u8) -> Outcome
+    ensures { λ x. ⌜ Did (T.Step.add b) row (now (store .entry)) (now (list .entry)) x (now (store .exit)) (now (list .exit)) ⌝ }
+{
+    step(
+        row,
+        &mut *store,
+        &mut *list,
+        Record {
+            step: 3,
+            board: b,
+            other: 0,
+            spare: 0,
+            value: 0,
+        },
+    )
+}
+
+// Step 4, remove b.
+pub fn remove(row: Cluster, store: &mut [u32], list: &mut [u32], b: u8) -> Outcome
+    ensures { λ x. ⌜ Did (T.Step.remove b) row (now (store .entry)) (now (list .entry)) x (now (store .exit)) (now (list .exit)) ⌝ }
+{
+    step(
+        row,
+        &mut *store,
+        &mut *list,
+        Record {
+            step: 4,
+            board: b,
+            other: 0,
+            spare: 0,
+            value: 0,
+        },
+    )
+}
+
+// Step 5, change leader.
+pub fn change(row: Cluster, store: &mut [u32], list: &mut [u32]) -> Outcome
+    ensures { λ x. ⌜ Did T.Step.changeLeader row (now (store .entry)) (now (list .entry)) x (now (store .exit)) (now (list .exit)) ⌝ }
+{
+    step(
+        row,
+        &mut *store,
+        &mut *list,
+        Record {
+            step: 5,
+            board: 0,
+            other: 0,
+            spare: 0,
+            value: 0,
+        },
+    )
+}
+
+// Step 6, b takes news.
+pub fn refresh(row: Cluster, store: &mut [u32], list: &mut [u32], b: u8) -> Outcome
+    ensures { λ x. ⌜ Did (T.Step.refresh b) row (now (store .entry)) (now (list .entry)) x (now (store .exit)) (now (list .exit)) ⌝ }
+{
+    step(
+        row,
+        &mut *store,
+        &mut *list,
+        Record {
+            step: 6,
+            board: b,
+            other: 0,
+            spare: 0,
+            value: 0,
+        },
+    )
+}
+
+// Step 7, b joins.
+pub fn join(row: Cluster, store: &mut [u32], list: &mut [u32], b: u8) -> Outcome
+    ensures { λ x. ⌜ Did (T.Step.join b) row (now (store .entry)) (now (list .entry)) x (now (store .exit)) (now (list .exit)) ⌝ }
+{
+    step(
+        row,
+        &mut *store,
+        &mut *list,
+        Record {
+            step: 7,
+            board: b,
+            other: 0,
+            spare: 0,
+            value: 0,
+        },
+    )
+}
+
+// Step 8, b receives.
+pub fn receive(row: Cluster, store: &mut [u32], list: &mut [u32], b: u8) -> Outcome
+    ensures { λ x. ⌜ Did (T.Step.receive b) row (now (store .entry)) (now (list .entry)) x (now (store .exit)) (now (list .exit)) ⌝ }
+{
+    step(
+        row,
+        &mut *store,
+        &mut *list,
+        Record {
+            step: 8,
+            board: b,
+            other: 0,
+            spare: 0,
+            value: 0,
+        },
+    )
+}
+
+// Step 9, the leader a counts b.
+pub fn acknowledge(row: Cluster, store: &mut [u32], list: &mut [u32], a: u8, b: u8) -> Outcome
+    ensures { λ x. ⌜ Did (T.Step.acknowledge a b) row (now (store .entry)) (now (list .entry)) x (now (store .exit)) (now (list .exit)) ⌝ }
+{
+    step(
+        row,
+        &mut *store,
+        &mut *list,
+        Record {
+            step: 9,
+            board: a,
+            other: b,
+            spare: 0,
+            value: 0,
+        },
+    )
+}
+
+// Step 10, the controller takes news.
+pub fn refresh_controller(row: Cluster, store: &mut [u32], list: &mut [u32]) -> Outcome
+    ensures { λ x. ⌜ Did T.Step.refreshController row (now (store .entry)) (now (list .entry)) x (now (store .exit)) (now (list .exit)) ⌝ }
+{
+    step(
+        row,
+        &mut *store,
+        &mut *list,
+        Record {
+            step: 10,
+            board: 0,
+            other: 0,
+            spare: 0,
+            value: 0,
+        },
+    )
+}
+
+// Step 11, the controller reads its leader.
+pub fn read_leader(row: Cluster, store: &mut [u32], list: &mut [u32]) -> Outcome
+    ensures { λ x. ⌜ Did T.Step.readLeader row (now (store .entry)) (now (list .entry)) x (now (store .exit)) (now (list .exit)) ⌝ }
+{
+    step(
+        row,
+        &mut *store,
+        &mut *list,
+        Record {
+            step: 11,
+            board: 0,
+            other: 0,
+            spare: 0,
+            value: 0,
+        },
+    )
+}
+
+// Step 12, the controller reads b.
+pub fn read(row: Cluster, store: &mut [u32], list: &mut [u32], b: u8) -> Outcome
+    ensures { λ x. ⌜ Did (T.Step.read b) row (now (store .entry)) (now (list .entry)) x (now (store .exit)) (now (list .exit)) ⌝ }
+{
+    step(
+        row,
+        &mut *store,
+        &mut *list,
+        Record {
+            step: 12,
+            board: b,
+            other: 0,
+            spare: 0,
+            value: 0,
+        },
+    )
+}
+
+// Step 13, set normal.
+pub fn set_normal(row: Cluster, store: &mut [u32], list: &mut [u32]) -> Outcome
+    ensures { λ x. ⌜ Did T.Step.setNormal row (now (store .entry)) (now (list .entry)) x (now (store .exit)) (now (list .exit)) ⌝ }
+{
+    step(
+        row,
+        &mut *store,
+        &mut *list,
+        Record {
+            step: 13,
+            board: 0,
+            other: 0,
+            spare: 0,
+            value: 0,
+        },
+    )
+}
+
+// Step 14, the controller hears b.
+pub fn hear(row: Cluster, store: &mut [u32], list: &mut [u32], b: u8) -> Outcome
+    ensures { λ x. ⌜ Did (T.Step.hear b) row (now (store .entry)) (now (list .entry)) x (now (store .exit)) (now (list .exit)) ⌝ }
+{
+    step(
+        row,
+        &mut *store,
+        &mut *list,
+        Record {
+            step: 14,
+            board: b,
+            other: 0,
+            spare: 0,
+            value: 0,
+        },
+    )
+}
+
+// Step 15, install b.
+pub fn install(row: Cluster, store: &mut [u32], list: &mut [u32], b: u8) -> Outcome
+    ensures { λ x. ⌜ Did (T.Step.install b) row (now (store .entry)) (now (list .entry)) x (now (store .exit)) (now (list .exit)) ⌝ }
+{
+    step(
+        row,
+        &mut *store,
+        &mut *list,
+        Record {
+            step: 15,
+            board: b,
+            other: 0,
+            spare: 0,
+            value: 0,
+        },
+    )
+}
+
+// The shown list: a part of the store or of the list, not a copy; an empty part of the list where refusal 1 turns the row away.
+pub fn visible<'a>(row: Cluster, store: &'a [u32], list: &'a [u32]) -> &'a [u32]
+    ensures { λ r. ⌜ now r ≡ shown row (now (store .entry)) (now (list .entry)) ⌝ }
+{
+    if store.len() != 4096 {
+        return &list[0..0];
+    }
+    if list.len() != 512 {
+        return &list[0..0];
+    }
+    if !cluster::ranges::in_range(row) {
+        return &list[0..0];
+    }
+    let g = row.registry;
+    let v = g.view;
+    let l = cluster::seat(v.leader);
+    let i = (l - 1) as usize;
+    let n = row.len[i];
+    logstore::visible(store, list, v.leader, n, row.count)
+}
+
+// Demand 3 about the calls: for every opening and every list of records, whatever the lent places held before. Nothing to
+// run: the promise is the statement.
+pub fn claim()
+    ensures { λ r. ⌜ CallsSafe ⌝ }
+{}
