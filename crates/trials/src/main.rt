@@ -1,0 +1,332 @@
+// The trials of document 01 on the calls: after each trial's name, the answers in order. P1 is about majorities, which have
+// no call of their own: `model` proves it.
+use cluster::Cluster;
+use steps::Record;
+
+// The answer n and a space.
+fn show(n: u8) {
+    let tens = 48 + n / 10 % 10;
+    let ones = 48 + n % 10;
+    if n < 10 {
+        let one = [ones, 32];
+        io::write_all(1, &one);
+        return;
+    }
+    let two = [tens, ones, 32];
+    io::write_all(1, &two);
+}
+
+fn wide(x: u8) -> u32 {
+    x as u32
+}
+
+// One record: its step, board, second board and value. The row goes on, and the answer is shown.
+fn tell(row: Cluster, store: &mut [u32], list: &mut [u32], r: [u8; 4]) -> Cluster {
+    let v = r[3];
+    let x = steps::step(
+        row,
+        &mut *store,
+        &mut *list,
+        Record {
+            step: r[0],
+            board: r[1],
+            other: r[2],
+            spare: 0,
+            value: wide(v),
+        },
+    );
+    show(x.answer);
+    x.row
+}
+
+// The records of a sheet, four bytes each.
+fn play(row: Cluster, store: &mut [u32], list: &mut [u32], sheet: &[u8]) -> Cluster {
+    let mut now = row;
+    let mut i: usize = 0;
+    while i < sheet.len() / 4 {
+        let k = 4 * i;
+        i += 1;
+        let r = [sheet[k], sheet[k + 1], sheet[k + 2], sheet[k + 3]];
+        let next = tell(now, &mut *store, &mut *list, r);
+        now = next;
+    }
+    now
+}
+
+// Two records in turn, so many times, with no answer shown.
+fn turns(
+    row: Cluster,
+    store: &mut [u32],
+    list: &mut [u32],
+    a: Record,
+    b: Record,
+    times: u32,
+) -> Cluster {
+    let mut now = row;
+    let mut i: u32 = 0;
+    while i < times {
+        i += 1;
+        let x = steps::step(now, &mut *store, &mut *list, a);
+        let mid = x.row;
+        let y = steps::step(mid, &mut *store, &mut *list, b);
+        let next = y.row;
+        now = next;
+    }
+    now
+}
+
+fn opened(b: u8) -> Cluster {
+    let x = steps::opening(b);
+    x.row
+}
+
+fn epoch(row: Cluster) {
+    let g = row.registry;
+    let v = g.view;
+    io::write_all(1, b"epoch ");
+    show((v.epoch % 256) as u8);
+}
+
+fn leader(row: Cluster) {
+    let g = row.registry;
+    let v = g.view;
+    io::write_all(1, b"leader ");
+    show(v.leader);
+}
+
+fn length(row: Cluster) {
+    io::write_all(1, b"length ");
+    show((row.len[3] % 256) as u8);
+}
+
+fn answer(b: u8) {
+    let x = steps::opening(b);
+    show(x.answer);
+}
+
+fn main() {
+    let mut store = [7u32; 4096];
+    let mut list = [7u32; 512];
+    io::write_all(1, b"P2 ");
+    answer(0);
+    answer(9);
+    answer(8);
+    io::write_all(1, b"\nP3 ");
+    let p3 = [2u8, 1, 0, 0, 1, 1, 0, 41, 2, 1, 0, 0];
+    play(opened(1), &mut store, &mut list, &p3);
+    io::write_all(1, b"\nP4 ");
+    let p4 = [1u8, 2, 0, 41];
+    play(opened(1), &mut store, &mut list, &p4);
+    io::write_all(1, b"\nP5 ");
+    let p5 = [5u8, 0, 0, 0, 4, 1, 0, 0, 4, 2, 0, 0];
+    play(opened(1), &mut store, &mut list, &p5);
+    io::write_all(1, b"\nP6 ");
+    let p6 = [3u8, 2, 0, 0, 3, 2, 0, 0];
+    play(opened(1), &mut store, &mut list, &p6);
+    longer();
+}
+
+// The trials that go on from each other, and the long ones.
+fn longer() {
+    let mut store = [7u32; 4096];
+    let mut list = [7u32; 512];
+    io::write_all(1, b"\nP7 ");
+    let p7 = [
+        3u8,
+        2,
+        0,
+        0,
+        5,
+        0,
+        0,
+        0,
+        11,
+        0,
+        0,
+        0,
+        10,
+        0,
+        0,
+        0,
+        11,
+        0,
+        0,
+        0,
+        6,
+        1,
+        0,
+        0,
+        11,
+        0,
+        0,
+        0,
+    ];
+    let a = play(opened(1), &mut store, &mut list, &p7);
+    io::write_all(1, b"\nP8 ");
+    let p8 = [13u8, 0, 0, 0, 12, 2, 0, 0, 13, 0, 0, 0];
+    let b = play(a, &mut store, &mut list, &p8);
+    epoch(b);
+    io::write_all(1, b"\nP9 ");
+    let p9 = [5u8, 0, 0, 0];
+    let c = play(b, &mut store, &mut list, &p9);
+    leader(c);
+    epoch(c);
+    longest();
+}
+
+fn longest() {
+    let mut store = [7u32; 4096];
+    let mut list = [7u32; 512];
+    io::write_all(1, b"\nfull ");
+    let append = Record {
+        step: 1,
+        board: 1,
+        other: 0,
+        spare: 0,
+        value: 5,
+    };
+    let a = turns(opened(1), &mut store, &mut list, append, append, 255);
+    let last = [1u8, 1, 0, 9, 1, 1, 0, 9, 1, 1, 0, 9];
+    play(a, &mut store, &mut list, &last);
+    io::write_all(1, b"\nworn ");
+    let add = Record {
+        step: 3,
+        board: 2,
+        other: 0,
+        spare: 0,
+        value: 0,
+    };
+    let remove = Record {
+        step: 4,
+        board: 2,
+        other: 0,
+        spare: 0,
+        value: 0,
+    };
+    let b = turns(opened(1), &mut store, &mut list, add, remove, 1999);
+    let end = [3u8, 2, 0, 0, 4, 2, 0, 0];
+    play(b, &mut store, &mut list, &end);
+    four();
+}
+
+fn four() {
+    let mut store = [7u32; 4096];
+    let mut list = [7u32; 512];
+    io::write_all(1, b"\nfour ");
+    let ready = [
+        3u8,
+        2,
+        0,
+        0,
+        3,
+        3,
+        0,
+        0,
+        3,
+        4,
+        0,
+        0,
+        10,
+        0,
+        0,
+        0,
+        6,
+        1,
+        0,
+        0,
+        11,
+        0,
+        0,
+        0,
+        12,
+        2,
+        0,
+        0,
+        12,
+        3,
+        0,
+        0,
+        13,
+        0,
+        0,
+        0,
+        6,
+        1,
+        0,
+        0,
+        6,
+        2,
+        0,
+        0,
+        6,
+        3,
+        0,
+        0,
+        6,
+        4,
+        0,
+        0,
+    ];
+    let a = play(opened(1), &mut store, &mut list, &ready);
+    let rest = [
+        1u8,
+        1,
+        0,
+        41,
+        8,
+        4,
+        0,
+        0,
+        5,
+        0,
+        0,
+        0,
+        6,
+        2,
+        0,
+        0,
+        6,
+        3,
+        0,
+        0,
+        10,
+        0,
+        0,
+        0,
+        14,
+        2,
+        0,
+        0,
+        14,
+        3,
+        0,
+        0,
+        15,
+        2,
+        0,
+        0,
+        6,
+        2,
+        0,
+        0,
+        1,
+        2,
+        0,
+        42,
+        6,
+        4,
+        0,
+        0,
+        9,
+        2,
+        4,
+        0,
+        7,
+        4,
+        0,
+        0,
+    ];
+    let b = play(a, &mut store, &mut list, &rest);
+    length(b);
+    io::write_all(1, b"\n");
+}
