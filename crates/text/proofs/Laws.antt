@@ -1,7 +1,7 @@
 -- What a stored text leaves as it was, texts one after the other, and how many digits a number has. Assumes nothing.
 use mathlib.Core.Bool.{Bool, true, false, cond}
 use mathlib.Core.List.{[], _∷_, _++_, append-assoc}
-use mathlib.Core.Path.{_≡_, refl, sym, ap, _∙_}
+use mathlib.Core.Path.{_≡_, refl, sym, _∙_}
 use Prim.Native.Nat.{ℕ, zero, suc, zero-le, _+_, _/_, _%_, _^_, _<_, _≤_}
 use native.Mathlib.Nat.{add-zero, add-suc, suc-add, not-suc-le-zero, pow-le-pow-right}
 use native.Mathlib.Omega.{arith}
@@ -69,6 +69,7 @@ then {d} {e} {f} {at} {p} {q} {xs} {ys} w v =
 
 -- Digits
 
+-- What stands before the last digit matters from 10 on only.
 step :
     (t : Bool) (n : ℕ) (xs ys : Text) → ltb n 10 ≡ t → (10 ≤ n → xs ≡ ys)
     → cond (ltb n 10) ((48 + n) ∷ []) (xs ++ ((48 + n % 10) ∷ [])) ≡ cond (ltb n 10) ((48 + n) ∷ []) (ys ++ ((48 + n % 10) ∷ []))
@@ -104,6 +105,7 @@ digits-length (suc k) n h l =
     let some : 1 ≤ 10 ^ k = pow-le-pow-right (omega arith) zero-le in
     omega (arith, digits-more-length n (omega arith), digits-length k (n / 10) (omega arith) (omega arith))
 
+-- One digit more than n / 10 has, or one.
 next : (t : Bool) (k n : ℕ) → ltb n 10 ≡ t → (10 ≤ n → length (digits (n / 10)) ≤ k) → length (digits n) ≤ suc k
 next true k n e p = omega (arith, digits-one-length n (ltb-true n 10 e))
 next false k n e p = omega (arith, digits-more-length n (ltb-false n 10 e), p (ltb-false n 10 e))
