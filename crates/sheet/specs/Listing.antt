@@ -1,0 +1,152 @@
+-- Sheets and listings of document 01, byte for byte, through the model's run. Cited by the promise of `sample`, and by the runner of sheets
+-- to come. Assumes nothing.
+use mathlib.Core.Bool.{Bool, true, false, cond, _&&_}
+use mathlib.Core.List.{List, [], _∷_, _++_}
+use mathlib.Core.Path.{_≡_}
+use Prim.Native.Nat.{ℕ, zero, suc, _+_, _-_, _*_, _/_, _%_}
+use Prim.Native.Char.{code}
+use Prim.Native.String as String
+use Prim.Native.String.{String}
+use lib.Dec.{eqb, leb, ltb}
+use lib.ListN.{length, getD, drop}
+use Rattle.model.specs.Members.{Members, isReplica}
+use Rattle.model.specs.State as M
+use Rattle.model.specs.State.{View, State, opened, values}
+use Rattle.model.specs.Records.{Record}
+use Rattle.model.specs.Runs.{answers, given}
+use Rattle.model.specs.Claim.{after, receipts}
+use Rattle.text.specs.Text.{Text, digits, over}
+
+-- The sheet
+
+-- "A record is 8 bytes": the step, the board, b in step 9, a zero byte, the value with its low byte first.
+abbrev pub recordAt : Text → Record
+recordAt s = record {
+  step = getD s 0 0;
+  board = getD s 1 0;
+  other = getD s 2 0;
+  spare = getD s 3 0;
+  value = getD s 4 0 + 256 * getD s 5 0 + 65536 * getD s 6 0 + 16777216 * getD s 7 0;
+}
+
+-- The first n records.
+unfoldable pub records : ℕ → Text → List Record
+records zero s = []
+records (suc n) s = recordAt s ∷ records n (drop 8 s)
+
+-- "A sheet has 1 to 4,095 records."
+abbrev pub wholeRecords : Text → Bool
+wholeRecords s = eqb (length s % 8) 0 && leb 1 (length s / 8) && leb (length s / 8) 4095
+
+-- "Step 0, opening, stands first", with its unused fields zero.
+abbrev pub isOpening : Record → Bool
+isOpening r = eqb (r .step) 0 && isReplica (r .board) && eqb (r .other) 0 && eqb (r .spare) 0 && eqb (r .value) 0
+
+-- A sheet that refusal 2 lets through.
+abbrev pub isSheet : Text → Bool
+isSheet s = wholeRecords s && isOpening (recordAt s)
+
+-- Texts
+
+abbrev pub word : String → Text
+word String.[] = []
+word (String._∷_ c s) = code c ∷ word s
+
+abbrev pub space : Text
+space = 32 ∷ []
+
+-- "Each line ends in byte 10."
+abbrev pub newline : Text
+newline = 10 ∷ []
+
+-- "members as digits"
+abbrev pub membersText : Members → Text
+membersText m = one 1 ++ (one 2 ++ (one 3 ++ (one 4 ++ (one 5 ++ (one 6 ++ (one 7 ++ one 8))))))
+  where
+    one : ℕ → Text
+    one b = cond (m b) ((48 + b) ∷ []) []
+
+-- "epoch, leader epoch, leader, members as digits"
+unfoldable pub viewText : View → Text
+unfolding digits
+viewText v = digits (v .epoch) ++ (space ++ (digits (v .term) ++ (space ++ (digits (v .leader) ++ (space ++ membersText (v .members))))))
+
+abbrev pub statusWord : M.Status → Text
+statusWord M.normal = word "normal"
+statusWord M.waiting = word "waiting"
+statusWord M.Status.choosing = word "choosing"
+
+abbrev pub stageWord : M.Stage → Text
+stageWord M.idle = word "idle"
+stageWord M.Stage.leader = word "leader"
+stageWord M.boards = word "boards"
+stageWord M.Stage.choosing = word "choosing"
+
+-- Lines
+
+-- "record, step (byte 0 as it is), answer (0 accepted)"
+unfoldable pub answerLine : ℕ → ℕ → ℕ → Text
+unfolding digits
+answerLine k n a = digits k ++ (space ++ (digits n ++ (space ++ (digits a ++ newline))))
+
+unfoldable pub answerLines : ℕ → List Record → List ℕ → Text
+unfolding answerLine
+answerLines k [] ns = []
+answerLines k (r ∷ rs) [] = []
+answerLines k (r ∷ rs) (n ∷ ns) = answerLine k (r .step) n ++ answerLines (suc k) rs ns
+
+unfoldable pub registryLine : M.Registry → Text
+unfolding viewText
+registryLine r = word "registry " ++ (viewText (r .view) ++ (space ++ (statusWord (r .status) ++ newline)))
+
+unfoldable pub controlLine : M.Controller → Text
+unfolding viewText
+controlLine c = word "control " ++ (viewText (c .view) ++ (space ++ (stageWord (c .stage) ++ newline)))
+
+-- "number, those four, joined, length, and `late` if its epoch is below the registry's, else `current`"
+unfoldable pub boardLine : State ℕ → ℕ → Text
+unfolding digits viewText
+boardLine s b =
+    word "board " ++ (digits b ++ (space ++ (viewText (s .view b) ++ (space ++ (digits (s .joined b) ++ (space ++ (digits (length (s .log b)) ++ (space
+    ++ (cond (ltb (s .view b .epoch) (s .registry .view .epoch)) (word "late") (word "current") ++ newline)))))))))
+
+-- "how many receipts, then their values"
+unfoldable pub valuesText : List ℕ → Text
+unfolding digits
+valuesText [] = []
+valuesText (v ∷ vs) = space ++ (digits v ++ valuesText vs)
+
+unfoldable pub receiptsLine : List ℕ → Text
+unfolding digits valuesText
+receiptsLine vs = word "receipts " ++ (digits (length vs) ++ (valuesText vs ++ newline))
+
+-- The listing of the opening with b and the records rs: the answers, then the state, then the receipts given.
+unfoldable pub listingOf : ℕ → List Record → Text
+unfolding answerLine answerLines registryLine controlLine boardLine receiptsLine
+listingOf b rs =
+    let s = after values b rs in
+    answerLine 1 0 0 ++ (answerLines 2 rs (answers values (opened b) rs) ++ (registryLine (s .registry) ++ (controlLine (s .controller)
+    ++ (boardLine s 1 ++ (boardLine s 2 ++ (boardLine s 3 ++ (boardLine s 4 ++ (boardLine s 5 ++ (boardLine s 6 ++ (boardLine s 7 ++ (boardLine s 8
+    ++ receiptsLine (receipts values b rs))))))))))))
+
+-- The listing of a sheet that refusal 2 lets through.
+unfoldable pub listing : Text → Text
+unfolding records listingOf
+listing s = listingOf (recordAt s .board) (records (length s / 8 - 1) (drop 8 s))
+
+-- The paper's sample: opening 1; append 1, 41; receipt by 1; add 2.
+abbrev pub sampleSheet : Text
+sampleSheet =
+    0 ∷ 1 ∷ 0 ∷ 0 ∷ 0 ∷ 0 ∷ 0 ∷ 0
+    ∷ 1 ∷ 1 ∷ 0 ∷ 0 ∷ 41 ∷ 0 ∷ 0 ∷ 0
+    ∷ 2 ∷ 1 ∷ 0 ∷ 0 ∷ 0 ∷ 0 ∷ 0 ∷ 0
+    ∷ 3 ∷ 2 ∷ 0 ∷ 0 ∷ 0 ∷ 0 ∷ 0 ∷ 0 ∷ []
+
+abbrev pub sampleListing : Text
+sampleListing =
+    word "1 0 0\n2 1 0\n3 2 0\n4 3 0\nregistry 2 1 1 12 waiting\ncontrol 1 1 1 1 idle\nboard 1 1 1 1 1 1 1 late\nboard 2 1 1 1 1 1 0 late\n"
+    ++ word "board 3 1 1 1 1 1 0 late\nboard 4 1 1 1 1 1 0 late\nboard 5 1 1 1 1 1 0 late\nboard 6 1 1 1 1 1 0 late\nboard 7 1 1 1 1 1 0 late\n"
+    ++ word "board 8 1 1 1 1 1 0 late\nreceipts 1 41\n"
+
+unfoldable pub SampleHolds : Type 0
+SampleHolds = (isSheet sampleSheet ≡ true) × (listing sampleSheet ≡ sampleListing) × (length sampleListing ≡ 285)
