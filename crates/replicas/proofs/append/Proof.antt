@@ -85,7 +85,7 @@ returns c list long =
 
 -- src/lib.rt:35:5
 append-entry-requires : tie.Need-append-entry-requires
-append-entry-requires c κs = (c .before .before .before .before .before .before .before .before .before .before .before .pre .1, c .before .before .before .before .before .before .before .before .before .seat .ensures .0, c .before .before .before .before .before .before .before .before .before .seat .ensures .1, room (c .before .before) (c .before .if1 .left))
+append-entry-requires c κs = (c .before .before .before .before .before .before .before .before .before .before .before .pre .1, search needs, search needs, room (c .before .before) (c .before .if1 .left))
 
 -- src/lib.rt:37:19
 add-next : tie.Need-add-next
