@@ -8,7 +8,7 @@ use lib.Dec.{leb}
 use lib.ListN.{drop, getD}
 use Rattle.model.specs.Members.{Members}
 use Rattle.model.specs.State.{Outline}
-use Rattle.model.specs.Ranges.{every, eight, isEpoch, viewRanges, replicaRanges, leaderNamed, leaderRead, inRange}
+use Rattle.model.specs.Ranges.{every, eight, isEpoch, viewRanges, replicaRanges, leaderNamed, controllerLeaderNamed, inRange}
 use Rattle.model.proofs.Tests.{of-true}
 use Rattle.model.proofs.Quorum.{by-replica}
 use Rattle.members.proofs.Laws.{replica}
@@ -60,7 +60,7 @@ module _ (row : Cluster) where
 
   abbrev pub rowTests : Bool
   rowTests =
-      every (viewRanges (m .registry .view)) && (every (viewRanges (m .controller .view)) && (leaderNamed m && (leaderRead m && (leb (m .count) 512 && every (eight (λ b. every (replicaRanges m b)))))))
+      every (viewRanges (m .registry .view)) && (every (viewRanges (m .controller .view)) && (leaderNamed m && (controllerLeaderNamed m && (leb (m .count) 512 && every (eight (λ b. every (replicaRanges m b)))))))
 
   pub row-tests : (r : Bool) → r ≡ rowTests → r ≡ inRange m
   row-tests r e = e ∙ rw (and-true (every (eight (λ b. every (replicaRanges m b)))))

@@ -11,7 +11,7 @@ use Rattle.model.specs.Prelude.{upd}
 use Rattle.model.specs.Members.{Members, isReplica, hasQuorum}
 use Rattle.model.specs.State as X
 use Rattle.model.specs.State.{State, outline, values, stageNumber, zeros}
-use Rattle.model.specs.Steps.{Step, setNormal, install, checks, accepted, answerOf, next, withRegistry, withController, behindNormal, behindInstall}
+use Rattle.model.specs.Steps.{Step, setNormal, install, checks, accepted, answerOf, next, withRegistry, withController, heardEnough, rankedNotAbove}
 use Rattle.model.proofs.Tests.{facts, of-true}
 use Rattle.model.proofs.Answer.{zero-accepted, nonzero-refused}
 use Rattle.members.specs.Mask.{bits, under}
@@ -85,7 +85,7 @@ module _ (r : Registry) (c : Controller) where
   unfolding longEnough
   normal-answer low q n hl hq e s =
       let m = bits (c .view .members) in
-      let enough : hasQuorum m (bits q) ≡ hasQuorum m (behindNormal (controllerOf c)) = ap (hasQuorum m) (hq ∙ ap (λ l. under 9 (longEnough (c .heard) l)) hl) ∙ under-quorum (behindNormal (controllerOf c)) m in
+      let enough : hasQuorum m (bits q) ≡ hasQuorum m (heardEnough (controllerOf c)) = ap (hasQuorum m) (hq ∙ ap (λ l. under 9 (longEnough (c .heard) l)) hl) ∙ under-quorum (heardEnough (controllerOf c)) m in
       e ∙ ap (λ t. cond (eqb (stageNumber (stageOf (c .stage))) 2) (cond (eqb (c .view .epoch) (r .view .epoch)) (cond t (cond (ltb (r .view .epoch) 4000) 0 7) 14) 16) 15) enough
 
   pub normal-after : (e : ℕ) → e ≡ cond (ltb (r .view .epoch) 4000) (suc (r .view .epoch)) (r .view .epoch)
@@ -111,8 +111,8 @@ module _ (r : Registry) (c : Controller) (b : ℕ) where
       let m = bits (c .view .members) in
       let hl : getD (c .heard) (k - 1) 0 ≡ at 0 (c .heard) b = sym (at-index 0 (c .heard) k low) ∙ ap (at 0 (c .heard)) (seat t) in
       let hj : getD (c .joined) (k - 1) 0 ≡ at 0 (c .joined) b = sym (at-index 0 (c .joined) k low) ∙ ap (at 0 (c .joined)) (seat t) in
-      let enough : hasQuorum m (bits q) ≡ hasQuorum m (behindInstall (controllerOf c) b) = ap (hasQuorum m) (hq ∙ ap₂ (λ l j. under 9 (notAbove (c .heard) (c .joined) l j)) hl hj) ∙ under-quorum (behindInstall (controllerOf c) b) m in
-      let heard : (leb 1 (getD (c .heard) (k - 1) 0) && hasQuorum m (bits q)) ≡ (leb 1 (at 0 (c .heard) b) && hasQuorum m (behindInstall (controllerOf c) b)) = ap₂ (λ l u. leb 1 l && u) hl enough in
+      let enough : hasQuorum m (bits q) ≡ hasQuorum m (rankedNotAbove (controllerOf c) b) = ap (hasQuorum m) (hq ∙ ap₂ (λ l j. under 9 (notAbove (c .heard) (c .joined) l j)) hl hj) ∙ under-quorum (rankedNotAbove (controllerOf c) b) m in
+      let heard : (leb 1 (getD (c .heard) (k - 1) 0) && hasQuorum m (bits q)) ≡ (leb 1 (at 0 (c .heard) b) && hasQuorum m (rankedNotAbove (controllerOf c) b)) = ap₂ (λ l u. leb 1 l && u) hl enough in
       ap₂ (λ u v. cond (eqb (stageNumber (stageOf (c .stage))) 3) (cond u (cond (eqb (c .view .epoch) (r .view .epoch)) (cond v (cond (ltb (r .view .epoch) 4000) 0 7) 14) 16) 5) 15) (ap m (seat t)) heard)
 
   pub install-after : (e : ℕ) → e ≡ cond (ltb (r .view .epoch) 4000) (suc (r .view .epoch)) (r .view .epoch)

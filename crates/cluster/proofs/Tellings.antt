@@ -80,8 +80,8 @@ hearChain c b k e n = cond (isReplica b) (cond (eqb (stageNumber (stageOf (c .st
 
 module _ (c : Controller) (b k n : ℕ) (seat : isReplica b ≡ true → k ≡ b) (s : State ℕ) where
   -- The last check.
-  unheard-at : (t : isReplica b ≡ true) → length (s .log b) ≡ n → leb (getD (c .heard) (k - 1) 0) n ≡ ltb (at 0 (c .heard) b) (suc (length (s .log b)))
-  unheard-at t e = rw (e, seat t, at-index 0 (c .heard) b (replica-range b t .0), leb·suc-suc (getD (c .heard) (b - 1) 0) n)
+  heard-below-at : (t : isReplica b ≡ true) → length (s .log b) ≡ n → leb (getD (c .heard) (k - 1) 0) n ≡ ltb (at 0 (c .heard) b) (suc (length (s .log b)))
+  heard-below-at t e = rw (e, seat t, at-index 0 (c .heard) b (replica-range b t .0), leb·suc-suc (getD (c .heard) (b - 1) 0) n)
 
   -- What is left.
   heard-after : (d : Controller) (j : ℕ) → isReplica b ≡ true → length (s .log b) ≡ n → controllerOf d ≡ heardOf (controllerOf c) (stageOf (c .stage)) k n j
@@ -91,7 +91,7 @@ module _ (c : Controller) (b k n : ℕ) (seat : isReplica b ≡ true → k ≡ b
   module _ (j : ℕ) (known : isReplica b ≡ true → (s .joined b ≡ j) × (length (s .log b) ≡ n)) where
     pub read-answer : (a : ℕ) → a ≡ readChain c b k j n
         → a ≡ answerOf (outline (withController s (controllerOf c))) (read b)
-    read-answer a h = h ∙ guarded (isReplica b) _ _ 1 (λ t. rw (unheard-at t (known t .1), known t .0, seat t))
+    read-answer a h = h ∙ guarded (isReplica b) _ _ 1 (λ t. rw (heard-below-at t (known t .1), known t .0, seat t))
 
     pub read-after : (d : Controller) → controllerOf d ≡ heardOf (controllerOf c) (stageOf (c .stage)) k n 0
         → accepted (outline (withController s (controllerOf c))) (read b) ≡ true → controllerOf d ≡ next values (withController s (controllerOf c)) (read b) .controller
@@ -102,7 +102,7 @@ module _ (c : Controller) (b k n : ℕ) (seat : isReplica b ≡ true → k ≡ b
   module _ (e j : ℕ) (known : isReplica b ≡ true → (s .view b .epoch ≡ e) × (s .joined b ≡ j) × (length (s .log b) ≡ n)) where
     pub hear-answer : (a : ℕ) → a ≡ hearChain c b k e n
         → a ≡ answerOf (outline (withController s (controllerOf c))) (hear b)
-    hear-answer a h = h ∙ guarded (isReplica b) _ _ 1 (λ t. rw (unheard-at t (known t .2), known t .0, seat t))
+    hear-answer a h = h ∙ guarded (isReplica b) _ _ 1 (λ t. rw (heard-below-at t (known t .2), known t .0, seat t))
 
     pub hear-after : (d : Controller) → controllerOf d ≡ heardOf (controllerOf c) (stageOf (c .stage)) k n j
         → accepted (outline (withController s (controllerOf c))) (hear b) ≡ true → controllerOf d ≡ next values (withController s (controllerOf c)) (hear b) .controller

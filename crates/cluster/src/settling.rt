@@ -42,7 +42,7 @@ fn long_enough(h: u16, low: u16) -> bool
 }
 
 // Step 13: those that are heard at a length not below low.
-fn behind_normal(heard: [u16; 8], low: u16) -> u8
+fn heard_enough(heard: [u16; 8], low: u16) -> u8
     ensures { λ r. ⌜ bits r ≡ under 9 (longEnough heard low) ⌝ }
 {
     let mut q: u8 = 0;
@@ -63,7 +63,7 @@ fn not_above(h: u16, j: u16, l: u16, k: u16) -> bool
 }
 
 // Step 15: those that are heard and do not rank above length l and joined epoch k.
-fn behind_install(heard: [u16; 8], joined: [u16; 8], l: u16, k: u16) -> u8
+fn ranked_not_above(heard: [u16; 8], joined: [u16; 8], l: u16, k: u16) -> u8
     ensures { λ r. ⌜ bits r ≡ under 9 (notAbove heard joined l k) ⌝ }
 {
     let mut q: u8 = 0;
@@ -85,7 +85,7 @@ pub fn set_normal(r: Registry, c: Controller) -> Settled
     let g = c.stage;
     let heard = c.heard;
     let low = heard_of(heard, v.leader);
-    let q = behind_normal(heard, low);
+    let q = heard_enough(heard, low);
     let n7 = check(w.epoch < 4000, 0, 7);
     let n14 = check(members::has_quorum(v.members, q), n7, 14);
     let n16 = check(v.epoch == w.epoch, n14, 16);
@@ -137,7 +137,7 @@ pub fn install(r: Registry, c: Controller, b: u8) -> Settled
     let k = seat(b);
     let i = (k - 1) as usize;
     let l = heard[i];
-    let q = behind_install(heard, joined, l, joined[i]);
+    let q = ranked_not_above(heard, joined, l, joined[i]);
     let n7 = check(w.epoch < 4000, 0, 7);
     let n14 = check((1 <= l) & members::has_quorum(v.members, q), n7, 14);
     let n16 = check(v.epoch == w.epoch, n14, 16);

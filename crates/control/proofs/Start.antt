@@ -104,9 +104,4 @@ module _ (b k : ℕ) (e : k ≡ cond (isReplica b) b 1) where
       go false h = (omega arith, omega arith)
 
   pub opens : (n : ℕ) (row : Cluster) → n ≡ M.openAnswer b → OpenedWith k row → Opens b (record { answer = n; row = row })
-  opens n row a o = record {
-    answer = a;
-    state = λ t store list. o .state store list ∙ ap M.opened (e ∙ ap (λ u. cond u b 1) t);
-    outline = λ t. o .outline ∙ ap (λ j. M.outline {E = ℕ} (M.opened j)) (e ∙ ap (λ u. cond u b 1) t);
-    refused = λ t. o .outline ∙ ap (λ j. M.outline {E = ℕ} (M.opened j)) (e ∙ ap (λ u. cond u b 1) t);
-  }
+  opens n row a o = record { answer = a; row = subst (λ j. OpenedWith j row) e o }

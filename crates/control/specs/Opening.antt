@@ -1,5 +1,5 @@
 -- What the opening call answers, and the row it leaves. Cited by the contracts of control. Assumes nothing.
-use mathlib.Core.Bool.{true, false}
+use mathlib.Core.Bool.{cond}
 use mathlib.Core.List.{List}
 use mathlib.Core.Path.{_≡_}
 use Prim.Native.Nat.{ℕ}
@@ -18,6 +18,4 @@ pub record OpenedWith (b : ℕ) (row : Cluster) : Type 0 where
 -- The opening call with b. Where it is refused the row is free in the papers: it is the one opened with 1.
 pub record Opens (b : ℕ) (x : Outcome) : Type 0 where
   pub answer : x .answer ≡ M.openAnswer b
-  pub state : isReplica b ≡ true → (store list : List ℕ) → abs (x .row) store list ≡ M.opened b
-  pub outline : isReplica b ≡ true → outlineOf (x .row) ≡ M.outline {E = ℕ} (M.opened b)
-  pub refused : isReplica b ≡ false → outlineOf (x .row) ≡ M.outline {E = ℕ} (M.opened 1)
+  pub row : OpenedWith (cond (isReplica b) b 1) (x .row)

@@ -6,7 +6,7 @@ use Rattle.model.specs.Members.{Members, isReplica}
 
 -- The set that a mask stands for: replica b is the bit b - 1, so replica 1 is the lowest.
 unfoldable pub bits : ℕ → Members
-bits m b = isReplica b && eqb (m / 2 ^ (b - 1) % 2) 1
+bits m b = isReplica b && eqb ((m / 2 ^ (b - 1)) % 2) 1
 
 -- Of the replicas below n those that pass a test: what a loop over the replicas has gathered when it comes to n.
 abbrev pub under : ℕ → Members → Members

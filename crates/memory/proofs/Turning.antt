@@ -14,7 +14,7 @@ use Rattle.model.specs.Prelude.{upd}
 use Rattle.model.specs.Members.{isReplica}
 use Rattle.model.specs.State as M
 use Rattle.model.specs.State.{State, Outline, outline, values}
-use Rattle.model.specs.Steps.{Step, behindCommit, accepted, answerOf, next, step}
+use Rattle.model.specs.Steps.{Step, countedAbove, accepted, answerOf, next, step}
 use Rattle.model.proofs.Tests.{at-or, by-test, eqb-same, upd-same, upd-other, le-or-lt, split-and, is-true, is-false, of-true}
 use Rattle.model.proofs.Quorum.{replica-range}
 use Rattle.model.proofs.Answer.{zero-accepted, nonzero-refused}
@@ -159,8 +159,8 @@ module _ (acked : List ℕ) (b n : ℕ) (low : 1 ≤ b) (high : b ≤ 8) (all : 
       (clear 3 _ (omega arith) refl (clear 2 _ (omega arith) refl (clear 1 _ (omega arith) refl (clear 0 _ (omega arith) (omega arith) start))))))))
 
 -- One more replica is looked at for the quorum of a receipt.
-pub counted-more : (acked : List ℕ) (b n x q q′ : ℕ) → 1 ≤ b → b ≤ 8 → 1 ≤ x → x ≤ 8 → bits q ≡ under x (behindCommit (atPair acked b) n)
-    → bits q′ ≡ upd (bits q) x (ltb n (getD acked (8 * (b - 1) + (x - 1)) 0)) → bits q′ ≡ under (x + 1) (behindCommit (atPair acked b) n)
+pub counted-more : (acked : List ℕ) (b n x q q′ : ℕ) → 1 ≤ b → b ≤ 8 → 1 ≤ x → x ≤ 8 → bits q ≡ under x (countedAbove (atPair acked b) n)
+    → bits q′ ≡ upd (bits q) x (ltb n (getD acked (8 * (b - 1) + (x - 1)) 0)) → bits q′ ≡ under (x + 1) (countedAbove (atPair acked b) n)
 counted-more acked b n x q q′ hb kb hx kx e f =
-    let t : ltb n (getD acked (8 * (b - 1) + (x - 1)) 0) ≡ behindCommit (atPair acked b) n x = rw (replica b hb kb, replica x hx kx) in
-    f ∙ rw (e, t) (under-more (behindCommit (atPair acked b) n) x hx kx)
+    let t : ltb n (getD acked (8 * (b - 1) + (x - 1)) 0) ≡ countedAbove (atPair acked b) n x = rw (replica b hb kb, replica x hx kx) in
+    f ∙ rw (e, t) (under-more (countedAbove (atPair acked b) n) x hx kx)

@@ -27,7 +27,7 @@ abs row store list = record {
   committed = take (row .count) list;
 }
 
--- The lengths of a row's arrays, which its type fixes.
+-- The lengths of the arrays that a row holds beside the controller's, which its type fixes.
 pub record Shape (row : Cluster) : Type 0 where
   pub views : length (row .views) ≡ 8
   pub joined : length (row .joined) ≡ 8

@@ -11,7 +11,7 @@ use lib.Seq.{length-take-le}
 use Rattle.model.specs.Prelude.{_⊑_}
 use Rattle.model.specs.Members.{Members, _∩_, size, hasQuorum}
 use Rattle.model.specs.State.{outline, Entries, State}
-use Rattle.model.specs.Steps.{commit, checks, next, behindCommit, entryAt}
+use Rattle.model.specs.Steps.{commit, checks, next, countedAbove, entryAt}
 use Rattle.model.proofs.Tests.{Holds, le-or-lt}
 use Rattle.model.proofs.Prefix.{begins-trans, begins-take, begins-length, begins-compare, begins-next, begins-at, length-snoc}
 use Rattle.model.proofs.Quorum.{overlap, meet-sub, quorum-half, replica-ne}
@@ -31,7 +31,7 @@ module _ (𝓔 : Entries) where
     more = committed ++ (entryAt 𝓔 s b n ∷ [])
 
     behind : Members
-    behind = behindCommit (acked b) n
+    behind = countedAbove (acked b) n
 
     leads : view b .leader ≡ b
     leads = eqb→eq (view b .leader) b (h .1 .0)
@@ -63,7 +63,7 @@ module _ (𝓔 : Entries) where
         at : o i ≡ b
         at = ap L (sym now) ∙ acts
 
-        holds : (x : ℕ) → T (behindCommit (acked b) n x) → T (holding joined log (registry .view .term) (length more) x)
+        holds : (x : ℕ) → T (countedAbove (acked b) n x) → T (holding joined log (registry .view .term) (length more) x)
         holds x t = go (le-or-lt (registry .view .term) (joined x))
           where
             lt : n < acked b x
@@ -78,8 +78,8 @@ module _ (𝓔 : Entries) where
         half : Firm registry controller → size (electors registry (o i)) < 2 * size (electors registry (o i) ∩ holding joined log (registry .view .term) (length more))
         half f =
             let m = i .leader .whole f (subst (λ x. view x .leader ≡ x) (sym at) leads) in
-            let q = quorum-half (electors registry (o i)) (behindCommit (acked b) n) (subst (λ (k : Members). T (hasQuorum k (behindCommit (acked b) n))) (ap (λ x. view x .members) (sym at) ∙ m) (h .1 .1 .1 .0)) in
-            omega (arith, q, meet-sub (electors registry (o i)) (behindCommit (acked b) n) (electors registry (o i)) (holding joined log (registry .view .term) (length more)) (λ x _ k t. (k, holds x t)))
+            let q = quorum-half (electors registry (o i)) (countedAbove (acked b) n) (subst (λ (k : Members). T (hasQuorum k (countedAbove (acked b) n))) (ap (λ x. view x .members) (sym at) ∙ m) (h .1 .1 .1 .0)) in
+            omega (arith, q, meet-sub (electors registry (o i)) (countedAbove (acked b) n) (electors registry (o i)) (holding joined log (registry .view .term) (length more)) (λ x _ k t. (k, holds x t)))
 
     pub commit-keeps : Inv L (next 𝓔 s (commit b))
     commit-keeps = record {

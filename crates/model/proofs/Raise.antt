@@ -12,7 +12,7 @@ use Rattle.model.specs.Prelude.{upd, _⊑_}
 use Rattle.model.specs.Members.{Members, isReplica, _∩_, size, hasQuorum}
 use Rattle.model.specs.State.{outline, Entries, View, Status, normal, waiting, Stage, idle, Registry, Controller, State, isNormal, isChoosing, stageNumber}
 use Rattle.model.specs.Steps as Steps
-use Rattle.model.specs.Steps.{add, remove, setNormal, checks, next, withRegistry, behindNormal, deaf}
+use Rattle.model.specs.Steps.{add, remove, setNormal, checks, next, withRegistry, heardEnough, deaf}
 use Rattle.model.proofs.Tests.{Holds, split-and, join-and, by-test, by-cond, eq-test, ne-fact, upd-other, upd-idle, is-true}
 use Rattle.model.proofs.Quorum.{meet-sub, quorum-half, replica-ne}
 use Rattle.model.proofs.Invariant as Invariant
@@ -146,7 +146,7 @@ module _ (𝓔 : Entries) where
       firm = reads (join-and (eqb (controller .view .epoch) (registry .view .epoch)) (eqb (stageNumber (controller .stage)) 2) (h .1 .0) (h .0))
 
       -- whoever is heard at the leader's length or more holds as many entries
-      holds : (n x : ℕ) → suc n ≤ controller .heard (o i) → T (registry .view .members x) → T (behindNormal controller x) → T (holding joined log (registry .view .term) n x)
+      holds : (n x : ℕ) → suc n ≤ controller .heard (o i) → T (registry .view .members x) → T (heardEnough controller x) → T (holding joined log (registry .view .term) n x)
       holds n x l m t =
           let z = split-and (leb 1 (controller .heard x)) (leb (controller .heard (controller .view .leader)) (controller .heard x)) t in
           let k = i .heard .read now (λ e. omega (arith, at-boards)) x m (leb→le 1 (controller .heard x) (z .0)) in
@@ -163,8 +163,8 @@ module _ (𝓔 : Entries) where
           (sym (upd-idle (registry .view .members) (o i) true (is-true (registry .view .members (o i)) (i .registry .member not-choosing))))
           (omega (
             arith,
-            quorum-half (registry .view .members) (behindNormal controller) (subst (λ (v : View). T (hasQuorum (v .members) (behindNormal controller))) current (h .1 .1 .0)),
-            meet-sub (registry .view .members) (behindNormal controller) (registry .view .members) (holding joined log (registry .view .term) n) (λ x _ m t. (m, holds n x l m t)),
+            quorum-half (registry .view .members) (heardEnough controller) (subst (λ (v : View). T (hasQuorum (v .members) (heardEnough controller))) current (h .1 .1 .0)),
+            meet-sub (registry .view .members) (heardEnough controller) (registry .view .members) (holding joined log (registry .view .term) n) (λ x _ m t. (m, holds n x l m t)),
           ))
 
       pub set-normal-keeps : Inv L (next 𝓔 s setNormal)

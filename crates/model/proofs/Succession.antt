@@ -11,7 +11,7 @@ use lib.ListN.{length}
 use Rattle.model.specs.Prelude.{upd, _⊑_}
 use Rattle.model.specs.Members.{Members, isReplica, only, _∩_, size, hasQuorum, lowest}
 use Rattle.model.specs.State.{Entries, View, Status, normal, waiting, Stage, idle, leader, Registry, Controller, State, isNormal, isChoosing, stageNumber}
-use Rattle.model.specs.Steps.{changeLeader, install, checks, next, withRegistry, succeeded, vacated, above, behindInstall, deaf}
+use Rattle.model.specs.Steps.{changeLeader, install, checks, next, withRegistry, succeeded, vacated, above, rankedNotAbove, deaf}
 use Rattle.model.proofs.Tests.{Holds, split-and, join-and, by-test, by-cond, not-left, not-right, not-both, eqb-same, eq-test, ne-fact, le-or-lt, eq-or-ne, upd-same, upd-other, upd-twice, upd-idle, is-true, is-false}
 use Rattle.model.proofs.Prefix.{begins-refl, begins-trans, begins-length, begins-compare}
 use Rattle.model.proofs.Quorum.{overlap, meet-sub, quorum-half, replica-ne, size-with, size-without, size-some, lowest-in}

@@ -39,12 +39,12 @@ module _ (m : Outline) where
   leaderNamed = isChoosing (registry .status) || not (eqb (registry .view .leader) 0)
 
   -- nor "the controller's leader 0 at stage leader or boards".
-  abbrev pub leaderRead : Bool
-  leaderRead = eqb (stageNumber (controller .stage)) 0 || eqb (stageNumber (controller .stage)) 3 || not (eqb (controller .view .leader) 0)
+  abbrev pub controllerLeaderNamed : Bool
+  controllerLeaderNamed = eqb (stageNumber (controller .stage)) 0 || eqb (stageNumber (controller .stage)) 3 || not (eqb (controller .view .leader) 0)
 
   abbrev pub ranges : List Bool
   ranges =
-      every (viewRanges (registry .view)) ∷ every (viewRanges (controller .view)) ∷ leaderNamed ∷ leaderRead ∷ leb count 512
+      every (viewRanges (registry .view)) ∷ every (viewRanges (controller .view)) ∷ leaderNamed ∷ controllerLeaderNamed ∷ leb count 512
       ∷ every (eight (λ b. every (replicaRanges b))) ∷ []
 
   -- A row that refusal 1 lets through.

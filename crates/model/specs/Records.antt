@@ -6,7 +6,7 @@ use lib.Dec.{eqb}
 use lib.ListN.{getD}
 use Rattle.model.specs.Steps.{Step, append, commit, add, remove, changeLeader, refresh, join, receive, acknowledge, refreshController, readLeader, read, setNormal, hear, install, malformed}
 
--- "Byte 0 is the step; byte 1 the board (a in step 9); byte 2 is b in step 9; byte 3 zero; bytes 4 to 7 the value."
+-- "Byte 0 is the step, 0 to 15; byte 1 the board (a in step 9); byte 2 is b in step 9; byte 3 zero; bytes 4 to 7 the value."
 pub record Record : Type 0 where
   pub step : ℕ
   pub board : ℕ

@@ -16,7 +16,7 @@ pub record Entries : Type 1 where
   pub same : Entry → Entry → Bool
   pub exact : (x y : Entry) → T (same x y) ↔ (x ≡ y)
 
--- "Entry: a 32-bit unsigned value. Two entries are equal if their values are."
+-- Document 01's entry, "a 32-bit unsigned value": any number here, and equal if the values are. That it has 32 bits is the type of the calls.
 abbrev pub values : Entries
 values = record {
   Entry = ℕ;

@@ -9,17 +9,27 @@ use Rattle.model.specs.Prelude.{upd, Check, _else_, firstFailed, passes}
 use Rattle.model.specs.Members.{Members, isReplica, _∩_, size, hasQuorum, lowest}
 use Rattle.model.specs.State.{Entries, View, Status, normal, waiting, Stage, idle, boards, Registry, Controller, State, Outline, outline, isNormal, isChoosing, stageNumber, stageOf, zeros}
 
--- The steps 1 to 15 in order, and what is no step.
+-- The steps, each with its number and document 01's word where ours is another.
 pub data Step : Type 0 where
+  -- 1
   append : (b value : ℕ) → Step
+  -- 2 receipt, 3, 4
   commit add remove : (b : ℕ) → Step
+  -- 5 change
   changeLeader : Step
+  -- 6 news, 7, 8
   refresh join receive : (b : ℕ) → Step
+  -- 9 count
   acknowledge : (a b : ℕ) → Step
+  -- 10 controller news, 11
   refreshController readLeader : Step
+  -- 12
   read : (b : ℕ) → Step
+  -- 13
   setNormal : Step
+  -- 14, 15
   hear install : (b : ℕ) → Step
+  -- no step: a record that refusal 1 turns away
   malformed : Step
 
 -- "Raise adds 1 to the registry epoch, refused [7] at 4,000 as the last check."
@@ -29,12 +39,12 @@ raise r = ltb (r .view .epoch) 4000 else 7
 -- The three majority questions, each as the set of those that qualify.
 
 -- Step 2: counts above the receipts' length n.
-abbrev pub behindCommit : (ℕ → ℕ) → ℕ → Members
-behindCommit acked n x = ltb n (acked x)
+abbrev pub countedAbove : (ℕ → ℕ) → ℕ → Members
+countedAbove acked n x = ltb n (acked x)
 
 -- Step 13: heard, at a length not below the leader's heard one.
-abbrev pub behindNormal : Controller → Members
-behindNormal c x = leb 1 (c .heard x) && leb (c .heard (c .view .leader)) (c .heard x)
+abbrev pub heardEnough : Controller → Members
+heardEnough c x = leb 1 (c .heard x) && leb (c .heard (c .view .leader)) (c .heard x)
 
 -- "Installing ranks boards by joined epoch first, then length": x ranks above b.
 abbrev pub above : Controller → ℕ → ℕ → Bool
@@ -42,8 +52,8 @@ above c b x =
     ltb (c .heardJoined b) (c .heardJoined x) || (eqb (c .heardJoined b) (c .heardJoined x) && ltb (c .heard b) (c .heard x))
 
 -- Step 15: heard, not ranked above b.
-abbrev pub behindInstall : Controller → ℕ → Members
-behindInstall c b x = leb 1 (c .heard x) && not (above c b x)
+abbrev pub rankedNotAbove : Controller → ℕ → Members
+rankedNotAbove c b x = leb 1 (c .heard x) && not (above c b x)
 
 -- Registries after a raise.
 
@@ -137,8 +147,8 @@ module _ (m : Outline) where
   upToDate = eqb (controller .view .epoch) (registry .view .epoch)
 
   -- The heard length of b is below its log's length.
-  abbrev unheard : ℕ → Bool
-  unheard b = ltb (controller .heard b) (suc (len b))
+  abbrev heardBelow : ℕ → Bool
+  heardBelow b = ltb (controller .heard b) (suc (len b))
 
   abbrev pub checks : Step → List Check
   checks (append b value) = (isReplica b else 1)
@@ -147,7 +157,7 @@ module _ (m : Outline) where
   checks (commit b) = (isReplica b else 1)
       ∷ (leads b else 8)
       ∷ (ltb count (len b) else 12)
-      ∷ (hasQuorum (view b .members) (behindCommit (acked b) count) else 14) ∷ []
+      ∷ (hasQuorum (view b .members) (countedAbove (acked b) count) else 14) ∷ []
   checks (add b) = (isReplica b else 1)
       ∷ (not (isChoosing (registry .status)) else 4)
       ∷ (not (registry .view .members b) else 5)
@@ -189,26 +199,26 @@ module _ (m : Outline) where
       ∷ (not (eqb b (controller .view .leader)) else 6)
       ∷ (controller .view .members b else 5)
       ∷ (eqb (joined b) (controller .view .term) else 11)
-      ∷ (unheard b else 12) ∷ []
+      ∷ (heardBelow b else 12) ∷ []
   checks setNormal =
       (atStage boards else 15)
       ∷ (upToDate else 16)
-      ∷ (hasQuorum (controller .view .members) (behindNormal controller) else 14)
+      ∷ (hasQuorum (controller .view .members) (heardEnough controller) else 14)
       ∷ raise registry ∷ []
   checks (hear b) = (isReplica b else 1)
       ∷ (atStage Stage.choosing else 15)
       ∷ (controller .view .members b else 5)
       ∷ (eqb (view b .epoch) (controller .view .epoch) else 16)
-      ∷ (unheard b else 12) ∷ []
+      ∷ (heardBelow b else 12) ∷ []
   checks (install b) = (isReplica b else 1)
       ∷ (atStage Stage.choosing else 15)
       ∷ (controller .view .members b else 5)
       ∷ (upToDate else 16)
-      ∷ (leb 1 (controller .heard b) && hasQuorum (controller .view .members) (behindInstall controller b) else 14)
+      ∷ (leb 1 (controller .heard b) && hasQuorum (controller .view .members) (rankedNotAbove controller b) else 14)
       ∷ raise registry ∷ []
   checks malformed = (false else 1) ∷ []
 
--- "Accepted, or refused with the first failing check".
+-- "Checks are made in the order written": accepted, or refused with the number of the first that fails.
 abbrev pub accepted : Outline → Step → Bool
 accepted m st = passes (checks m st)
 

@@ -1,4 +1,4 @@
--- The trials of document 01 marked P as one table, and the others that are quick to compute. Cited by the promise of `trials`. Assumes nothing.
+-- The trials of document 01 marked P as one table, and the other three. What P2 says of a sheet stands in the crate `sheet`. Cited by the promise of `trials`. Assumes nothing.
 use mathlib.Core.Bool.{Bool, true, false, cond, _&&_}
 use mathlib.Core.List.{List, [], _∷_, _++_}
 use mathlib.Core.Path.{_≡_}
@@ -114,6 +114,14 @@ fourReady =
     of 3 2 ∷ of 3 3 ∷ of 3 4 ∷ step 10 ∷ of 6 1 ∷ step 11 ∷ of 12 2 ∷ of 12 3 ∷ step 13
     ∷ of 6 1 ∷ of 6 2 ∷ of 6 3 ∷ of 6 4 ∷ []
 
+abbrev inFour : State ℕ → Bool
+inFour s =
+    news 1 && news 2 && news 3 && news 4 && eqb (s .registry .view .leader) 1 && isNormal (s .registry .status)
+    && eqb (size (s .registry .view .members)) 4 && s .registry .view .members 1 && s .registry .view .members 2 && s .registry .view .members 3 && s .registry .view .members 4
+  where
+    news : ℕ → Bool
+    news b = eqb (s .view b .epoch) (s .registry .view .epoch) && eqb (length (s .log b)) 0
+
 -- "1 appends 41, only 4 receives it. Change; 2, 3 and the controller take news; 2 and 3 are heard; 2 is installed, takes news,
 -- appends 42. Board 4 takes news; 2 counting 4 gives 11; 4 joins and its log is empty."
 abbrev four : Trial
@@ -124,7 +132,7 @@ four = running 1
     (λ s. eqb (length (s .log 4)) 0)
 
 abbrev pub others : List Trial
-others = full ∷ worn ∷ four ∷ []
+others = full ∷ worn ∷ running 1 fourReady (replicate 13 0) inFour ∷ four ∷ []
 
 -- The P trials: one table, one statement.
 unfoldable pub TrialsHold : Type 0

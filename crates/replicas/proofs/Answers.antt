@@ -7,7 +7,7 @@ use native.Mathlib.Omega.{arith}
 use lib.Dec.{T, eqb, ltb}
 use lib.ListN.{length, getD}
 use Rattle.model.specs.Members.{isReplica, hasQuorum}
-use Rattle.model.specs.Steps.{Step, append, commit, refresh, join, receive, acknowledge, behindCommit, accepted, answerOf}
+use Rattle.model.specs.Steps.{Step, append, commit, refresh, join, receive, acknowledge, countedAbove, accepted, answerOf}
 use Rattle.model.proofs.Tests.{split-and, ne-fact, is-true, of-true}
 use Rattle.model.proofs.Quorum.{replica-range}
 use Rattle.members.specs.Mask.{bits, under}
@@ -33,10 +33,10 @@ module _ (row : Cluster) where
         let h = replica-range b (of-true t) .0 in rw (hk t, at-index noView (row .views) b h, at-index 0 (row .len) b h)))
 
     -- Step 2.
-    pub commit-answer : (m : ℕ) → bits m ≡ under 9 (behindCommit (atPair (row .acked) k) (row .count)) → {p q : Bool} {n14 n12 n8 x : ℕ}
+    pub commit-answer : (m : ℕ) → bits m ≡ under 9 (countedAbove (atPair (row .acked) k) (row .count)) → {p q : Bool} {n14 n12 n8 x : ℕ}
         → p ≡ hasQuorum (bits (v .members)) (bits m) → n14 ≡ cond p 0 14 → n12 ≡ cond (ltb (row .count) n) n14 12 → n8 ≡ cond (eqb (v .leader) b) n12 8 → q ≡ isReplica b → x ≡ cond q n8 1
         → x ≡ answerOf (outlineOf row) (commit b)
-    commit-answer m em ep e14 e12 e8 eq e = e ∙ rw (eq, e8, e12, e14, ep, em, under-quorum (behindCommit (atPair (row .acked) k) (row .count)) (bits (v .members))) (guarded (isReplica b) _ _ 1 (λ t.
+    commit-answer m em ep e14 e12 e8 eq e = e ∙ rw (eq, e8, e12, e14, ep, em, under-quorum (countedAbove (atPair (row .acked) k) (row .count)) (bits (v .members))) (guarded (isReplica b) _ _ 1 (λ t.
         let h = replica-range b (of-true t) .0 in rw (hk t, at-index noView (row .views) b h, at-index 0 (row .len) b h)))
 
     -- Step 6.

@@ -52,7 +52,7 @@ pub fn append(row: Cluster, store: &mut [u32], b: u8, value: u32) -> Outcome
 // The members that b has counted above n, among the counts acked.
 fn counted(acked: [u16; 64], b: u8, n: u16) -> u8
     requires { ⌜ (1 ≤ b) × (b ≤ 8) ⌝ }
-    ensures { λ x. ⌜ bits x ≡ under 9 (T.behindCommit (atPair acked b) n) ⌝ }
+    ensures { λ x. ⌜ bits x ≡ under 9 (T.countedAbove (atPair acked b) n) ⌝ }
 {
     let mut q: u8 = 0;
     let mut x: u8 = 1;

@@ -8,12 +8,12 @@ use Prim.Native.Char.{code}
 use Prim.Native.String as String
 use Prim.Native.String.{String}
 use lib.Dec.{eqb, leb, ltb}
-use lib.ListN.{length, getD, drop}
+use lib.ListN.{length, getD, drop, replicate}
 use Rattle.model.specs.Members.{Members, isReplica}
 use Rattle.model.specs.State as M
 use Rattle.model.specs.State.{View, State, opened, values}
 use Rattle.model.specs.Records.{Record}
-use Rattle.model.specs.Runs.{answers, given}
+use Rattle.model.specs.Runs.{answers}
 use Rattle.model.specs.Claim.{after, receipts}
 use Rattle.text.specs.Text.{Text, digits, over}
 
@@ -134,6 +134,20 @@ unfoldable pub listing : Text → Text
 unfolding records listingOf
 listing s = listingOf (recordAt s .board) (records (length s / 8 - 1) (drop 8 s))
 
+-- The call, with the sheet s and a slice that holds out
+
+-- "One number, the listing's length, or 2 or 3 if refused ... for a sheet 2, then 3."
+unfoldable pub result : Text → Text → ℕ
+unfolding listing
+result s out = cond (isSheet s) (cond (leb (length (listing s)) (length out)) (length (listing s)) 3) 2
+
+-- What the slice holds then: "Refusals 2 and 3 leave the listing slice untouched; bytes past the end of a listing ... keep their values."
+unfoldable pub left : Text → Text → Text
+unfolding listing over
+left s out = cond (isSheet s && leb (length (listing s)) (length out)) (over out 0 (listing s)) out
+
+-- Trials
+
 -- The paper's sample: opening 1; append 1, 41; receipt by 1; add 2.
 abbrev pub sampleSheet : Text
 sampleSheet =
@@ -150,3 +164,23 @@ sampleListing =
 
 unfoldable pub SampleHolds : Type 0
 SampleHolds = (isSheet sampleSheet ≡ true) × (listing sampleSheet ≡ sampleListing) × (length sampleListing ≡ 285)
+
+-- A slice of n bytes.
+abbrev pub slice : ℕ → Text
+slice n = replicate n 255
+
+-- A slice one byte short is refused and keeps its bytes; a longer one keeps those past the listing.
+unfoldable pub RoomHolds : Type 0
+RoomHolds =
+    (result sampleSheet (slice 284) ≡ 3) × (left sampleSheet (slice 284) ≡ slice 284)
+    × (result sampleSheet (slice 287) ≡ 285) × (left sampleSheet (slice 287) ≡ sampleListing ++ slice 2)
+
+-- A sheet of an opening alone.
+abbrev pub openingSheet : ℕ → Text
+openingSheet b = 0 ∷ b ∷ 0 ∷ 0 ∷ 0 ∷ 0 ∷ 0 ∷ 0 ∷ []
+
+-- P2: the opening with board 0 or 9, "a sheet that begins so: 2", whatever the slice holds. No byte at all, and half a record: 2 as well.
+unfoldable pub RefusedHolds : Type 0
+RefusedHolds =
+    (out : Text) → (result (openingSheet 0) out ≡ 2) × (result (openingSheet 9) out ≡ 2) × (result [] out ≡ 2) × (result (0 ∷ 1 ∷ 0 ∷ 0 ∷ []) out ≡ 2)
+    × (left (openingSheet 9) out ≡ out)

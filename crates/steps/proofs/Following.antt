@@ -64,8 +64,8 @@ follow (call {h = h} {h′ = h′} {r = r} {n = n} d cs) s k m =
 module _ (b : ℕ) (h : Held) (start : Begins b h) where
   opening : Holds (opened b) h
   opening = record {
-    state = start .opens .state (is-true (isReplica b) (start .real)) (h .store) (h .list);
-    outlined = start .opens .outline (is-true (isReplica b) (start .real));
+    state = start .opens .row .state (h .store) (h .list) ∙ ap (λ t. opened (cond t b 1)) (is-true (isReplica b) (start .real));
+    outlined = start .opens .row .outline ∙ ap (λ t. outline {E = ℕ} (opened (cond t b 1))) (is-true (isReplica b) (start .real));
     store = start .store;
     list = start .list;
   }

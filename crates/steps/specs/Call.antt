@@ -25,12 +25,13 @@ recordOf r = record { step = r .step; board = r .board; other = r .other; spare 
 abbrev pub valid : Cluster → List ℕ → List ℕ → Bool
 valid row store list = eqb (length store) 4096 && eqb (length list) 512 && inRange (outlineOf row)
 
--- A call of the step st with a row, the store and the list: it returns x and leaves store′ and list′.
+-- A call of the step st with a row, the store and the list (document 01: the receipts): it returns x and leaves store′ and list′.
 pub record Did (st : Step) (row : Cluster) (store list : List ℕ) (x : Outcome) (store′ list′ : List ℕ) : Type 0 where
   -- Refusal 1 first, then the model's answer.
   pub answer : x .answer ≡ cond (valid row store list) (answerOf (outlineOf row) st) 1
-  -- The state then is the model's step of the state before. A row is fixed by its outline (see `rows-equal`), so this fixes the row.
+  -- The state then is the model's step of the state before.
   pub state : abs (x .row) store′ list′ ≡ cond (valid row store list) (step values (abs row store list) st) (abs row store list)
+  -- An outline fixes its row (memory/proofs/Rows.antt, `rows-equal`; the type fixes the lengths of arrays), so this is the whole row.
   pub outlined : outlineOf (x .row) ≡ cond (valid row store list) (outline (step values (abs row store list) st)) (outlineOf row)
   -- Every place of the store and of the list, accepted and refused.
   pub stored : store′ ≡ cond (valid row store list && accepted (outlineOf row) st) (storeAfter st row store) store

@@ -141,7 +141,7 @@ pub fn step(row: Cluster, store: &mut [u32], list: &mut [u32], r: Record) -> Out
     dispatch(row, &mut *store, &mut *list, r)
 }
 
-// The opening with board b.
+// The opening with board b; it is lent nothing. Refused, it returns the row opened with board 1: the papers leave it free.
 pub fn opening(b: u8) -> Outcome
     ensures { λ x. ⌜ Opens b x ⌝ }
 {
@@ -420,7 +420,8 @@ pub fn install(row: Cluster, store: &mut [u32], list: &mut [u32], b: u8) -> Outc
     )
 }
 
-// The shown list: a part of the store or of the list, not a copy; an empty part of the list where refusal 1 turns the row away.
+// The shown list: a part of the store or of the list, not a copy (its lifetime says so); an empty part of the list where refusal 1 turns
+// the row or the lent lengths away.
 pub fn visible<'a>(row: Cluster, store: &'a [u32], list: &'a [u32]) -> &'a [u32]
     ensures { λ r. ⌜ now r ≡ shown row (now (store .entry)) (now (list .entry)) ⌝ }
 {

@@ -3,7 +3,7 @@ use Rattle.memory.proofs.Turning.{counted-more}
 use mathlib.Core.Path.{_≡_, _∙_}
 use Prim.Native.Nat.{_-_, _≤_}
 use borrow.Author.Needs.{needs}
-use Rattle.model.specs.Steps.{behindCommit}
+use Rattle.model.specs.Steps.{countedAbove}
 use Rattle.members.specs.Mask.{bits, under}
 use Rattle.members.proofs.Laws.{under-none}
 use Rattle.cluster.specs.Layout.{atPair}
@@ -14,7 +14,7 @@ use Rattle.replicas.proofs.counted.Lts as lts
 use Rattle.members.proofs.put.Reads as put-reads
 
 abbrev Inv-loop : tie.InvT-loop
-Inv-loop b n acked q₀ x₀ q x = (1 ≤ x) × (x ≤ 9) × (bits q ≡ under x (behindCommit (atPair acked b) n))
+Inv-loop b n acked q₀ x₀ q x = (1 ≤ x) × (x ≤ 9) × (bits q ≡ under x (countedAbove (atPair acked b) n))
 
 abbrev μ-loop : tie.MeasureT-loop
 μ-loop b n acked q₀ x₀ q x = 9 - x

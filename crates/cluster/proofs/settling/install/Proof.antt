@@ -21,14 +21,14 @@ mul-l c = search needs
 array-read-l : tie.Need-array-read-l
 array-read-l c = search needs
 
-mul-behind-install : tie.Need-mul-behind-install
-mul-behind-install c = search needs
+mul-ranked-not-above : tie.Need-mul-ranked-not-above
+mul-ranked-not-above c = search needs
 
-array-read-behind-install : tie.Need-array-read-behind-install
-array-read-behind-install c = search needs
+array-read-ranked-not-above : tie.Need-array-read-ranked-not-above
+array-read-ranked-not-above c = search needs
 
-behind-install-requires : tie.Need-behind-install-requires
-behind-install-requires c κs = search needs
+ranked-not-above-requires : tie.Need-ranked-not-above-requires
+ranked-not-above-requires c κs = search needs
 
 check-requires : tie.Need-check-requires
 check-requires c κs = search needs
@@ -65,7 +65,7 @@ answers : (c : tie.After-check6) → Answers (c .before .before .before .before 
 answers c =
     let seat = c .before .before .before .before .before .before .before .before .before .before .before .before .before .before .seat .ensures in
     let a = c .before .before .before .before .before .before .before .before .before .before .before .before .before .before .before .before .before .before .before .args in
-    install-answer (a .r) (a .c) (a .b) _ _ _ (seat .0) (seat .2) (c .before .before .before .before .before .before .before .before .before .before .before .before .before .behind-install .ensures)
+    install-answer (a .r) (a .c) (a .b) _ _ _ (seat .0) (seat .2) (c .before .before .before .before .before .before .before .before .before .before .before .before .before .ranked-not-above .ensures)
     (c .check6 .ensures ∙ rw (c .before .replica .ensures, c .before .before .check5 .ensures, c .before .before .before .number .ensures, c .before .before .before .before .check4 .ensures, c .before .before .before .before .before .has .ensures, c .before .before .before .before .before .before .check3 .ensures, c .before .before .before .before .before .before .before .before .before .check2 .ensures, c .before .before .before .before .before .before .before .before .before .before .has-quorum .ensures, c .before .before .before .before .before .before .before .before .before .before .before .check .ensures))
 
 returns : tie.Need-returns
@@ -88,9 +88,9 @@ install-spec =
     cast-i
     mul-l
     array-read-l
-    mul-behind-install
-    array-read-behind-install
-    behind-install-requires
+    mul-ranked-not-above
+    array-read-ranked-not-above
+    ranked-not-above-requires
     check-requires
     has-quorum-requires
     check-requires-2

@@ -9,8 +9,8 @@ use Rattle.cluster.proofs.settling.set_normal.Tie as tie
 heard-of-requires : tie.Need-heard-of-requires
 heard-of-requires c κs = search needs
 
-behind-normal-requires : tie.Need-behind-normal-requires
-behind-normal-requires c κs = search needs
+heard-enough-requires : tie.Need-heard-enough-requires
+heard-enough-requires c κs = search needs
 
 check-requires : tie.Need-check-requires
 check-requires c κs = search needs
@@ -34,7 +34,7 @@ check-requires-4 c κs = search needs
 answers : (c : tie.After-check4) → Answers (c .before .before .before .before .before .before .before .before .before .before .before .before .before .before .args .r) (c .before .before .before .before .before .before .before .before .before .before .before .before .before .before .args .c) setNormal (c .check4 .result)
 answers c =
     let a = c .before .before .before .before .before .before .before .before .before .before .before .before .before .before .args in
-    normal-answer (a .r) (a .c) _ _ _ (c .before .before .before .before .before .before .before .before .before .before .heard-of .ensures) (c .before .before .before .before .before .before .before .before .before .behind-normal .ensures)
+    normal-answer (a .r) (a .c) _ _ _ (c .before .before .before .before .before .before .before .before .before .before .heard-of .ensures) (c .before .before .before .before .before .before .before .before .before .heard-enough .ensures)
     (c .check4 .ensures ∙ rw (c .before .number .ensures, c .before .before .check3 .ensures, c .before .before .before .before .before .check2 .ensures, c .before .before .before .before .before .before .has-quorum .ensures, c .before .before .before .before .before .before .before .check .ensures))
 
 returns : tie.Need-returns
@@ -53,7 +53,7 @@ set-normal-spec =
     tie.close
     (tie.spec
     heard-of-requires
-    behind-normal-requires
+    heard-enough-requires
     check-requires
     has-quorum-requires
     check-requires-2

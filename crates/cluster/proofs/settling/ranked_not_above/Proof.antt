@@ -1,20 +1,20 @@
--- `settling::behind_normal` meets its contract: the loop gathers one replica after the other. Assumes nothing.
+-- `settling::ranked_not_above` meets its contract: the loop gathers one replica after the other. Assumes nothing.
 use native.Mathlib.Omega.{arith}
-use Rattle.cluster.proofs.Settlings.{gathered, long-enough-at}
+use Rattle.cluster.proofs.Settlings.{gathered, not-above-at}
 use mathlib.Core.Path.{_≡_, _∙_}
 use Prim.Native.Nat.{_≤_, _-_}
 use borrow.Author.Needs.{needs}
 use Rattle.members.specs.Mask.{bits, under}
 use Rattle.members.proofs.Laws.{under-none}
-use Rattle.cluster.specs.Parts.{longEnough}
-use Rattle.cluster.proofs.settling.behind_normal.Statement.{statement}
-use Rattle.cluster.proofs.settling.behind_normal.Tie as tie
+use Rattle.cluster.specs.Parts.{notAbove}
+use Rattle.cluster.proofs.settling.ranked_not_above.Statement.{statement}
+use Rattle.cluster.proofs.settling.ranked_not_above.Tie as tie
 
 abbrev Inv-loop : tie.InvT-loop
-Inv-loop low heard q₀ b₀ q b = (1 ≤ b) × (b ≤ 9) × (bits q ≡ under b (longEnough heard low))
+Inv-loop l k heard joined q₀ b₀ q b = (1 ≤ b) × (b ≤ 9) × (bits q ≡ under b (notAbove heard joined l k))
 
 abbrev μ-loop : tie.MeasureT-loop
-μ-loop low heard q₀ b₀ q b = 9 - b
+μ-loop l k heard joined q₀ b₀ q b = 9 - b
 
 loop-holds : tie.Need-loop-holds Inv-loop μ-loop
 loop-holds c = (search needs, search needs, under-none _)
@@ -25,14 +25,20 @@ sub-i c = search needs
 cast-i : tie.Need-cast-i Inv-loop μ-loop
 cast-i c = search needs
 
-mul-long-enough : tie.Need-mul-long-enough Inv-loop μ-loop
-mul-long-enough c = search needs
+mul-not-above : tie.Need-mul-not-above Inv-loop μ-loop
+mul-not-above c = search needs
 
-array-read-long-enough : tie.Need-array-read-long-enough Inv-loop μ-loop
-array-read-long-enough c = search needs
+array-read-not-above : tie.Need-array-read-not-above Inv-loop μ-loop
+array-read-not-above c = search needs
 
-long-enough-requires : tie.Need-long-enough-requires Inv-loop μ-loop
-long-enough-requires c κs = search needs
+mul-not-above-2 : tie.Need-mul-not-above-2 Inv-loop μ-loop
+mul-not-above-2 c = search needs
+
+array-read-not-above-2 : tie.Need-array-read-not-above-2 Inv-loop μ-loop
+array-read-not-above-2 c = search needs
+
+not-above-requires : tie.Need-not-above-requires Inv-loop μ-loop
+not-above-requires c κs = search needs
 
 put-requires : tie.Need-put-requires Inv-loop μ-loop
 put-requires c κs = search needs
@@ -50,7 +56,7 @@ loop-again c =
       search needs,
       search needs,
       gathered _ (l .b) (l .q) _ _ (l .inv .0) (search needs) (l .inv .2) (c .put .ensures)
-          (long-enough-at (a .t1) (a .low) (l .b) _ (l .inv .0) (c .before .long-enough .ensures)),
+          (not-above-at (a .t1) (a .t2) (a .l) (a .k) (l .b) _ (l .inv .0) (c .before .not-above .ensures)),
     )
 
 returns : tie.Need-returns Inv-loop μ-loop
@@ -59,8 +65,8 @@ returns c =
     let end : l .b ≡ 9 = omega arith in
     l .inv .2 ∙ rw end
 
-pub behind-normal-spec : {M : Type 1} → statement M
-behind-normal-spec =
+pub ranked-not-above-spec : {M : Type 1} → statement M
+ranked-not-above-spec =
     tie.close
     (tie.spec
     Inv-loop
@@ -68,9 +74,11 @@ behind-normal-spec =
     loop-holds
     sub-i
     cast-i
-    mul-long-enough
-    array-read-long-enough
-    long-enough-requires
+    mul-not-above
+    array-read-not-above
+    mul-not-above-2
+    array-read-not-above-2
+    not-above-requires
     put-requires
     add-b
     loop-less
