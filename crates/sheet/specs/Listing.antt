@@ -19,6 +19,10 @@ use Rattle.text.specs.Text.{Text, digits, over}
 
 -- The sheet
 
+-- Four bytes as a number, the low byte first.
+abbrev pub number : ℕ → ℕ → ℕ → ℕ → ℕ
+number a b c d = a + 256 * b + 65536 * c + 16777216 * d
+
 -- "A record is 8 bytes": the step, the board, b in step 9, a zero byte, the value with its low byte first.
 abbrev pub recordAt : Text → Record
 recordAt s = record {
@@ -26,7 +30,7 @@ recordAt s = record {
   board = getD s 1 0;
   other = getD s 2 0;
   spare = getD s 3 0;
-  value = getD s 4 0 + 256 * getD s 5 0 + 65536 * getD s 6 0 + 16777216 * getD s 7 0;
+  value = number (getD s 4 0) (getD s 5 0) (getD s 6 0) (getD s 7 0);
 }
 
 -- The first n records.
@@ -34,9 +38,9 @@ unfoldable pub records : ℕ → Text → List Record
 records zero s = []
 records (suc n) s = recordAt s ∷ records n (drop 8 s)
 
--- "A sheet has 1 to 4,095 records."
-abbrev pub wholeRecords : Text → Bool
-wholeRecords s = eqb (length s % 8) 0 && leb 1 (length s / 8) && leb (length s / 8) 4095
+-- "A sheet has 1 to 4,095 records": whether n bytes are so many.
+abbrev pub wholeRecords : ℕ → Bool
+wholeRecords n = eqb (n % 8) 0 && leb 1 (n / 8) && leb (n / 8) 4095
 
 -- "Step 0, opening, stands first", with its unused fields zero.
 abbrev pub isOpening : Record → Bool
@@ -44,7 +48,7 @@ isOpening r = eqb (r .step) 0 && isReplica (r .board) && eqb (r .other) 0 && eqb
 
 -- A sheet that refusal 2 lets through.
 abbrev pub isSheet : Text → Bool
-isSheet s = wholeRecords s && isOpening (recordAt s)
+isSheet s = wholeRecords (length s) && isOpening (recordAt s)
 
 -- Texts
 
