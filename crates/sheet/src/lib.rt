@@ -2,7 +2,8 @@ ghost use mathlib.Core.Path.{_≡_};
 ghost use Prim.Native.Nat.{_+_, _≤_};
 ghost use lib.ListN.{length, drop};
 ghost use Rattle.steps.specs.Call.{recordOf};
-ghost use Rattle.sheet.specs.Listing.{SampleHolds, RoomHolds, RefusedHolds, number, recordAt, wholeRecords, isOpening, isSheet};
+ghost use Rattle.text.specs.Text.{Wrote};
+ghost use Rattle.sheet.specs.Listing.{SampleHolds, RoomHolds, RefusedHolds, number, recordAt, wholeRecords, isOpening, isSheet, answerLine};
 use steps::Record;
 
 // The paper's sample sheet has the paper's listing, byte for byte; short slices and bad openings are refused. By the definitions: nothing to run.
@@ -55,4 +56,17 @@ pub fn is_sheet(sheet: &[u8]) -> bool
     }
     let r = decode(sheet, 0);
     opens(r)
+}
+
+// Writes the line of record k, from 1 on: its step, its answer. Inner layer: callers see to the room.
+pub fn put_answer(out: &mut [u8], at: usize, k: u32, step: u8, answer: u8) -> usize
+    requires { ⌜ at + length (answerLine k step answer) ≤ length (now out) ⌝ }
+    ensures { λ r. ⌜ Wrote (now (out .entry)) at (answerLine k step answer) (now (out .exit)) r ⌝ }
+{
+    let a = text::put_number(&mut *out, at, k);
+    let b = text::put_byte(&mut *out, a, 32);
+    let c = text::put_number(&mut *out, b, step as u32);
+    let d = text::put_byte(&mut *out, c, 32);
+    let e = text::put_number(&mut *out, d, answer as u32);
+    text::put_byte(&mut *out, e, 10)
 }

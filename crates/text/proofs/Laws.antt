@@ -1,7 +1,7 @@
 -- What a stored text leaves as it was, texts one after the other, and how many digits a number has. Assumes nothing.
 use mathlib.Core.Bool.{Bool, true, false, cond}
 use mathlib.Core.List.{[], _∷_, _++_, append-assoc}
-use mathlib.Core.Path.{_≡_, refl, sym, _∙_}
+use mathlib.Core.Path.{_≡_, refl, sym, ap, _∙_}
 use Prim.Native.Nat.{ℕ, zero, suc, zero-le, _+_, _/_, _%_, _^_, _<_, _≤_}
 use native.Mathlib.Nat.{add-zero, add-suc, suc-add, not-suc-le-zero, pow-le-pow-right}
 use native.Mathlib.Omega.{arith}
@@ -66,6 +66,18 @@ nothing d at = record { next = omega arith; text = sym (over-none d at) }
 pub then : {d e f : Text} {at p q : ℕ} {xs ys : Text} → Wrote d at xs e p → Wrote e p ys f q → Wrote d at (xs ++ ys) f q
 then {d} {e} {f} {at} {p} {q} {xs} {ys} w v =
     record { next = omega (arith, length-append xs ys); text = v .text ∙ rw (w .text, w .next) (sym (over-append d at xs ys)) }
+
+-- Room for two texts is room for the first,
+pub fits : (at : ℕ) {n : ℕ} (xs ys : Text) → at + length (xs ++ ys) ≤ n → at + length xs ≤ n
+fits at xs ys h = omega (arith, length-append xs ys, h)
+
+-- room for one byte is a place,
+pub byte : (at : ℕ) {n : ℕ} → at + 1 ≤ n → at < n
+byte at h = omega (arith, h)
+
+-- and, once the first is written, there is room for the second.
+pub rest : {d e : Text} {at p : ℕ} (xs ys : Text) → Wrote d at xs e p → at + length (xs ++ ys) ≤ length d → p + length ys ≤ length e
+rest {d = d} {e = e} {at = at} {p = p} xs ys w h = omega (arith, w .next, ap length (w .text) ∙ over-length d at xs, length-append xs ys, h)
 
 -- Digits
 
