@@ -63,16 +63,18 @@ space = 32 ∷ []
 abbrev pub newline : Text
 newline = 10 ∷ []
 
+-- The digit of b, if b is a member.
+abbrev pub memberText : Members → ℕ → Text
+memberText m b = cond (m b) ((48 + b) ∷ []) []
+
 -- "members as digits"
-abbrev pub membersText : Members → Text
-membersText m = one 1 ++ (one 2 ++ (one 3 ++ (one 4 ++ (one 5 ++ (one 6 ++ (one 7 ++ one 8))))))
-  where
-    one : ℕ → Text
-    one b = cond (m b) ((48 + b) ∷ []) []
+unfoldable pub membersText : Members → Text
+membersText m =
+    memberText m 1 ++ (memberText m 2 ++ (memberText m 3 ++ (memberText m 4 ++ (memberText m 5 ++ (memberText m 6 ++ (memberText m 7 ++ memberText m 8))))))
 
 -- "epoch, leader epoch, leader, members as digits"
 unfoldable pub viewText : View → Text
-unfolding digits
+unfolding digits membersText
 viewText v = digits (v .epoch) ++ (space ++ (digits (v .term) ++ (space ++ (digits (v .leader) ++ (space ++ membersText (v .members))))))
 
 abbrev pub statusWord : M.Status → Text

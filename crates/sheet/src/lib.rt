@@ -1,9 +1,12 @@
 ghost use mathlib.Core.Path.{_≡_};
 ghost use Prim.Native.Nat.{_+_, _≤_};
 ghost use lib.ListN.{length, drop};
+ghost use Rattle.members.specs.Mask.{bits};
+ghost use Rattle.cluster.specs.Layout.{viewOf};
 ghost use Rattle.steps.specs.Call.{recordOf};
 ghost use Rattle.text.specs.Text.{Wrote};
-ghost use Rattle.sheet.specs.Listing.{SampleHolds, RoomHolds, RefusedHolds, number, recordAt, wholeRecords, isOpening, isSheet, answerLine};
+ghost use Rattle.sheet.specs.Listing.{SampleHolds, RoomHolds, RefusedHolds, number, recordAt, wholeRecords, isOpening, isSheet, memberText, membersText, viewText, answerLine};
+use cluster::View;
 use steps::Record;
 
 // The paper's sample sheet has the paper's listing, byte for byte; short slices and bad openings are refused. By the definitions: nothing to run.
@@ -69,4 +72,52 @@ pub fn put_answer(out: &mut [u8], at: usize, k: u32, step: u8, answer: u8) -> us
     let d = text::put_byte(&mut *out, c, 32);
     let e = text::put_number(&mut *out, d, answer as u32);
     text::put_byte(&mut *out, e, 10)
+}
+
+// Writes the digit of b if b is a member.
+fn put_member(out: &mut [u8], at: usize, m: u8, b: u8) -> usize
+    requires { ⌜ (1 ≤ b) × (b ≤ 8) × (at + length (memberText (bits m) b) ≤ length (now out)) ⌝ }
+    ensures { λ r. ⌜ Wrote (now (out .entry)) at (memberText (bits m) b) (now (out .exit)) r ⌝ }
+{
+    if !members::has(m, b) {
+        return at;
+    }
+    text::put_byte(&mut *out, at, 48 + b)
+}
+
+// Writes a set of members.
+fn put_members(out: &mut [u8], at: usize, m: u8) -> usize
+    requires { ⌜ at + length (membersText (bits m)) ≤ length (now out) ⌝ }
+    ensures { λ r. ⌜ Wrote (now (out .entry)) at (membersText (bits m)) (now (out .exit)) r ⌝ }
+{
+    let a = put_member(&mut *out, at, m, 1);
+    let b = put_member(&mut *out, a, m, 2);
+    let c = put_member(&mut *out, b, m, 3);
+    let d = put_member(&mut *out, c, m, 4);
+    let e = put_member(&mut *out, d, m, 5);
+    let f = put_member(&mut *out, e, m, 6);
+    let g = put_member(&mut *out, f, m, 7);
+    put_member(&mut *out, g, m, 8)
+}
+
+// Writes the four parts of a view.
+fn put_parts(out: &mut [u8], at: usize, epoch: u16, term: u16, leader: u8, m: u8) -> usize
+    requires { ⌜ at + length (viewText (record { epoch = epoch; term = term; leader = leader; members = bits m })) ≤ length (now out) ⌝ }
+    ensures { λ r. ⌜ Wrote (now (out .entry)) at (viewText (record { epoch = epoch; term = term; leader = leader; members = bits m })) (now (out .exit)) r ⌝ }
+{
+    let a = text::put_number(&mut *out, at, epoch as u32);
+    let b = text::put_byte(&mut *out, a, 32);
+    let c = text::put_number(&mut *out, b, term as u32);
+    let d = text::put_byte(&mut *out, c, 32);
+    let e = text::put_number(&mut *out, d, leader as u32);
+    let f = text::put_byte(&mut *out, e, 32);
+    put_members(&mut *out, f, m)
+}
+
+// Writes a view: epoch, leader epoch, leader, members. Inner layer: callers see to the room.
+pub fn put_view(out: &mut [u8], at: usize, v: View) -> usize
+    requires { ⌜ at + length (viewText (viewOf v)) ≤ length (now out) ⌝ }
+    ensures { λ r. ⌜ Wrote (now (out .entry)) at (viewText (viewOf v)) (now (out .exit)) r ⌝ }
+{
+    put_parts(&mut *out, at, v.epoch, v.term, v.leader, v.members)
 }
