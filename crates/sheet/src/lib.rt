@@ -2,10 +2,14 @@ ghost use mathlib.Core.Path.{_≡_};
 ghost use Prim.Native.Nat.{_+_, _≤_};
 ghost use lib.ListN.{length, drop};
 ghost use Rattle.members.specs.Mask.{bits};
-ghost use Rattle.cluster.specs.Layout.{viewOf};
+ghost use Rattle.cluster.specs.Layout.{statusOf, stageOf, viewOf, registryOf, controllerOf};
 ghost use Rattle.steps.specs.Call.{recordOf};
 ghost use Rattle.text.specs.Text.{Wrote};
-ghost use Rattle.sheet.specs.Listing.{SampleHolds, RoomHolds, RefusedHolds, number, recordAt, wholeRecords, isOpening, isSheet, memberText, membersText, viewText, answerLine};
+ghost use Rattle.sheet.specs.Listing.{SampleHolds, RoomHolds, RefusedHolds, number, recordAt, wholeRecords, isOpening, isSheet, memberText, membersText, viewText, statusWord, stageWord, answerLine, registryLine, controlLine};
+use cluster::Controller;
+use cluster::Registry;
+use cluster::Stage;
+use cluster::Status;
 use cluster::View;
 use steps::Record;
 
@@ -120,4 +124,57 @@ pub fn put_view(out: &mut [u8], at: usize, v: View) -> usize
     ensures { λ r. ⌜ Wrote (now (out .entry)) at (viewText (viewOf v)) (now (out .exit)) r ⌝ }
 {
     put_parts(&mut *out, at, v.epoch, v.term, v.leader, v.members)
+}
+
+// Writes the registry's status.
+fn put_status(out: &mut [u8], at: usize, g: Status) -> usize
+    requires { ⌜ at + length (statusWord (statusOf g)) ≤ length (now out) ⌝ }
+    ensures { λ r. ⌜ Wrote (now (out .entry)) at (statusWord (statusOf g)) (now (out .exit)) r ⌝ }
+{
+    match g {
+        Status::Normal => text::put_bytes(&mut *out, at, b"normal"),
+        Status::Waiting => text::put_bytes(&mut *out, at, b"waiting"),
+        Status::Choosing => text::put_bytes(&mut *out, at, b"choosing"),
+    }
+}
+
+// Writes the controller's stage.
+fn put_stage(out: &mut [u8], at: usize, g: Stage) -> usize
+    requires { ⌜ at + length (stageWord (stageOf g)) ≤ length (now out) ⌝ }
+    ensures { λ r. ⌜ Wrote (now (out .entry)) at (stageWord (stageOf g)) (now (out .exit)) r ⌝ }
+{
+    match g {
+        Stage::Idle => text::put_bytes(&mut *out, at, b"idle"),
+        Stage::Leader => text::put_bytes(&mut *out, at, b"leader"),
+        Stage::Boards => text::put_bytes(&mut *out, at, b"boards"),
+        Stage::Choosing => text::put_bytes(&mut *out, at, b"choosing"),
+    }
+}
+
+// Writes the registry's line. Inner layer: callers see to the room.
+pub fn put_registry(out: &mut [u8], at: usize, r: Registry) -> usize
+    requires { ⌜ at + length (registryLine (registryOf r)) ≤ length (now out) ⌝ }
+    ensures { λ x. ⌜ Wrote (now (out .entry)) at (registryLine (registryOf r)) (now (out .exit)) x ⌝ }
+{
+    let v = r.view;
+    let g = r.status;
+    let a = text::put_bytes(&mut *out, at, b"registry ");
+    let b = put_view(&mut *out, a, v);
+    let c = text::put_byte(&mut *out, b, 32);
+    let d = put_status(&mut *out, c, g);
+    text::put_byte(&mut *out, d, 10)
+}
+
+// Writes the controller's line. Inner layer: callers see to the room.
+pub fn put_control(out: &mut [u8], at: usize, k: Controller) -> usize
+    requires { ⌜ at + length (controlLine (controllerOf k)) ≤ length (now out) ⌝ }
+    ensures { λ x. ⌜ Wrote (now (out .entry)) at (controlLine (controllerOf k)) (now (out .exit)) x ⌝ }
+{
+    let v = k.view;
+    let g = k.stage;
+    let a = text::put_bytes(&mut *out, at, b"control ");
+    let b = put_view(&mut *out, a, v);
+    let c = text::put_byte(&mut *out, b, 32);
+    let d = put_stage(&mut *out, c, g);
+    text::put_byte(&mut *out, d, 10)
 }
