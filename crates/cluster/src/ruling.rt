@@ -27,7 +27,7 @@ pub fn add(r: Registry, b: u8) -> Ruled
     let v = r.view;
     let g = r.status;
     let k = seat(b);
-    let n7 = check(v.epoch < 4000, 0, 7);
+    let n7 = check(v.epoch < 4000, 0, 7); // "Raise" is the last check, so the first made.
     let n5 = check(!members::has(v.members, k), n7, 5);
     let n4 = check(!choosing(g), n5, 4);
     let n = check(replica(b), n4, 1);

@@ -88,7 +88,7 @@ pub fn set_normal(r: Registry, c: Controller) -> Settled
     let q = heard_enough(heard, low);
     let n7 = check(w.epoch < 4000, 0, 7);
     let n14 = check(members::has_quorum(v.members, q), n7, 14);
-    let n16 = check(v.epoch == w.epoch, n14, 16);
+    let n16 = check(v.epoch == w.epoch, n14, 16); // Lengths heard in an earlier epoch do not count.
     let n = check(number(g) == 2, n16, 15);
     if n != 0 {
         return Settled {

@@ -1,4 +1,5 @@
-// The steps of the controller alone: news (10), read leader (11), read (12), hear (14).
+// The steps of the controller alone: news (10), read leader (11), read (12), hear (14). Inner layer: that a log's length is at
+// most 512 is the caller's to see to; the calls of `steps` refuse.
 
 ghost use mathlib.Core.Path.{_≡_};
 ghost use mathlib.Core.Bool.{true};

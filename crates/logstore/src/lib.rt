@@ -5,7 +5,7 @@ ghost use lib.ListN.{length, set, getD};
 ghost use Rattle.model.specs.Steps as S;
 ghost use Rattle.logstore.specs.Log.{place, logOf, visibleOf};
 
-// The log store is a lent slice of 4,096 numbers: replica b owns the 512 places from 512 * (b - 1). Callers see to it
+// The log store is a lent slice of 4,096 numbers: replica b owns the 512 places from 512 * (b - 1). Inner layer: callers see to it
 // that b is a replica, 1 to 8, and that a place is inside its log.
 
 // A replica's own part gets a new entry at the end of its log.

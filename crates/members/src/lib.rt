@@ -6,7 +6,7 @@ ghost use Rattle.model.specs.Members as M;
 ghost use Rattle.model.specs.Members.{_∩_};
 ghost use Rattle.members.specs.Mask.{bits};
 
-// A set of replicas as a mask, replica 1 the lowest bit. Callers see to it that b is a replica, 1 to 8.
+// A set of replicas as a mask, replica 1 the lowest bit. Inner layer: callers see to it that b is a replica, 1 to 8.
 
 // Whether b is in the set.
 pub fn has(m: u8, b: u8) -> bool

@@ -18,7 +18,7 @@ use cluster::check;
 use cluster::replica;
 use cluster::seat;
 
-// The steps of one replica: append (1), commit (2), refresh (6), join (7), receive (8), acknowledge (9). Callers see to it
+// The steps of one replica: append (1), commit (2), refresh (6), join (7), receive (8), acknowledge (9). Inner layer: callers see to it
 // that the row is one that refusal 1 lets through, and that the lent places have their lengths.
 
 // Step 1, b appends the value.

@@ -109,12 +109,19 @@ unfoldable pub controlLine : M.Controller → Text
 unfolding viewText
 controlLine c = word "control " ++ (viewText (c .view) ++ (space ++ (stageWord (c .stage) ++ newline)))
 
--- "number, those four, joined, length, and `late` if its epoch is below the registry's, else `current`"
-unfoldable pub boardLine : State ℕ → ℕ → Text
+-- "`late` if its epoch is below the registry's, else `current`"
+abbrev pub lateWord : Bool → Text
+lateWord late = cond late (word "late") (word "current")
+
+-- "number, those four, joined, length", and that word: board b with its view, its joined epoch and its log's length.
+unfoldable pub boardText : ℕ → View → ℕ → ℕ → Bool → Text
 unfolding digits viewText
-boardLine s b =
-    word "board " ++ (digits b ++ (space ++ (viewText (s .view b) ++ (space ++ (digits (s .joined b) ++ (space ++ (digits (length (s .log b)) ++ (space
-    ++ (cond (ltb (s .view b .epoch) (s .registry .view .epoch)) (word "late") (word "current") ++ newline)))))))))
+boardText b v joined len late =
+    word "board " ++ (digits b ++ (space ++ (viewText v ++ (space ++ (digits joined ++ (space ++ (digits len ++ (space ++ (lateWord late ++ newline)))))))))
+
+unfoldable pub boardLine : State ℕ → ℕ → Text
+unfolding boardText
+boardLine s b = boardText b (s .view b) (s .joined b) (length (s .log b)) (ltb (s .view b .epoch) (s .registry .view .epoch))
 
 -- "how many receipts, then their values"
 unfoldable pub valuesText : List ℕ → Text
@@ -126,14 +133,21 @@ unfoldable pub receiptsLine : List ℕ → Text
 unfolding digits valuesText
 receiptsLine vs = word "receipts " ++ (digits (length vs) ++ (valuesText vs ++ newline))
 
+unfoldable pub boardLines : State ℕ → Text
+unfolding boardLine
+boardLines s =
+    boardLine s 1 ++ (boardLine s 2 ++ (boardLine s 3 ++ (boardLine s 4 ++ (boardLine s 5 ++ (boardLine s 6 ++ (boardLine s 7 ++ boardLine s 8))))))
+
+-- The lines after the answers: the state s, and the receipts vs.
+unfoldable pub ending : State ℕ → List ℕ → Text
+unfolding registryLine controlLine boardLines receiptsLine
+ending s vs = registryLine (s .registry) ++ (controlLine (s .controller) ++ (boardLines s ++ receiptsLine vs))
+
 -- The listing of the opening with b and the records rs: the answers, then the state, then the receipts given.
 unfoldable pub listingOf : ℕ → List Record → Text
-unfolding answerLine answerLines registryLine controlLine boardLine receiptsLine
+unfolding answerLine answerLines ending
 listingOf b rs =
-    let s = after values b rs in
-    answerLine 1 0 0 ++ (answerLines 2 rs (answers values (opened b) rs) ++ (registryLine (s .registry) ++ (controlLine (s .controller)
-    ++ (boardLine s 1 ++ (boardLine s 2 ++ (boardLine s 3 ++ (boardLine s 4 ++ (boardLine s 5 ++ (boardLine s 6 ++ (boardLine s 7 ++ (boardLine s 8
-    ++ receiptsLine (receipts values b rs))))))))))))
+    answerLine 1 0 0 ++ (answerLines 2 rs (answers values (opened b) rs) ++ ending (after values b rs) (receipts values b rs))
 
 -- The listing of a sheet that refusal 2 lets through.
 unfoldable pub listing : Text → Text

@@ -4,7 +4,7 @@ ghost use Prim.Native.Nat.{_<_, _≤_, _+_};
 ghost use lib.ListN.{length};
 ghost use Rattle.text.specs.Text.{Wrote, digits};
 
-// Each writer stores a text in out from place at on and answers the place after it. The caller sees to the room.
+// Each writer stores a text in out from place at on and answers the place after it. Inner layer: callers see to the room.
 
 pub fn put_byte(out: &mut [u8], at: usize, b: u8) -> usize
     requires { ⌜ at < length (now out) ⌝ }

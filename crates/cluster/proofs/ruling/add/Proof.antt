@@ -1,3 +1,6 @@
+use mathlib.Core.Bool.{cond}
+use mathlib.Core.Path.{_≡_, _∙_}
+use lib.Dec.{ltb}
 use Rattle.cluster.proofs.Rulings.{rules-refused, rules-accepted, add-answer, add-after}
 use borrow.Author.Needs.{needs}
 use Rattle.cluster.proofs.ruling.add.Statement.{statement}
@@ -12,57 +15,49 @@ use Rattle.cluster.proofs.seat.Reads as seat-reads
 use Rattle.members.proofs.has.Reads as has-reads
 use Rattle.members.proofs.insert.Reads as insert-reads
 
--- src/lib.rt:146:9
 seat-requires : tie.Need-seat-requires
 seat-requires c κs = search needs
 
--- src/lib.rt:147:9
 check-requires : tie.Need-check-requires
 check-requires c κs = search needs
 
--- src/lib.rt:148:21
 has-requires : tie.Need-has-requires
 has-requires c κs = search needs
 
--- src/lib.rt:148:9
 check-requires-2 : tie.Need-check-requires-2
 check-requires-2 c κs = search needs
 
--- src/lib.rt:149:21
 choosing-requires : tie.Need-choosing-requires
 choosing-requires c κs = search needs
 
--- src/lib.rt:149:9
 check-requires-3 : tie.Need-check-requires-3
 check-requires-3 c κs = search needs
 
--- src/lib.rt:150:19
 replica-requires : tie.Need-replica-requires
 replica-requires c κs = search needs
 
--- src/lib.rt:150:9
 check-requires-4 : tie.Need-check-requires-4
 check-requires-4 c κs = search needs
 
--- src/lib.rt:152:9
+-- The check of "raise".
+raise : (c : tie.After-check) → c .check .result ≡ cond (ltb (c .before .before .before .before .args .r .view .epoch) 4000) 0 7
+raise c = c .check .ensures
+
 returns : tie.Need-returns
 returns c =
     let a = c .before .before .before .before .before .before .before .before .before .before .before .args in
-    rules-refused _ _ _ (add-answer (a .r) (a .b) _ (c .before .before .before .before .before .before .before .before .before .seat .ensures .2) _ (cc)) (c .if1 .taken)
+    rules-refused _ _ _ (add-answer (a .r) (a .b) _ (c .before .before .before .before .before .before .before .before .before .seat .ensures .2) _ (c .before .check4 .ensures ∙ rw (c .before .before .replica .ensures, c .before .before .before .check3 .ensures, c .before .before .before .before .choosing .ensures, c .before .before .before .before .before .check2 .ensures, c .before .before .before .before .before .before .has .ensures, raise (c .before .before .before .before .before .before .before)))) (c .if1 .taken)
 
--- src/lib.rt:154:9
 raised-requires : tie.Need-raised-requires
 raised-requires c κs = search needs
 
--- src/lib.rt:155:9
 insert-requires : tie.Need-insert-requires
 insert-requires c κs = search needs
 
--- src/lib.rt:141:1
 returns-2 : tie.Need-returns-2
 returns-2 c =
     let a = c .before .before .before .before .before .before .before .before .before .before .before .before .before .args in
-    rules-accepted _ _ _ _ (add-answer (a .r) (a .b) _ (c .before .before .before .before .before .before .before .before .before .before .before .seat .ensures .2) _ (cc)) (c .before .before .if1 .left) (add-after (a .r) (a .b) _ (c .before .before .before .before .before .before .before .before .before .before .before .seat .ensures .2) _ _ (c .before .raised .ensures) (c .insert .ensures))
+    rules-accepted _ _ _ _ (add-answer (a .r) (a .b) _ (c .before .before .before .before .before .before .before .before .before .before .before .seat .ensures .2) _ (c .before .before .before .check4 .ensures ∙ rw (c .before .before .before .before .replica .ensures, c .before .before .before .before .before .check3 .ensures, c .before .before .before .before .before .before .choosing .ensures, c .before .before .before .before .before .before .before .check2 .ensures, c .before .before .before .before .before .before .before .before .has .ensures, raise (c .before .before .before .before .before .before .before .before .before)))) (c .before .before .if1 .left) (add-after (a .r) (a .b) _ (c .before .before .before .before .before .before .before .before .before .before .before .seat .ensures .2) _ _ (c .before .raised .ensures) (c .insert .ensures))
 
 pub add-spec : {M : Type 1} → statement M
 add-spec =

@@ -1,5 +1,7 @@
 -- `settling::set_normal` meets its contract: the chain of checks is the model's, and so are registry and controller. Assumes nothing.
-use mathlib.Core.Path.{_∙_}
+use mathlib.Core.Bool.{cond}
+use mathlib.Core.Path.{_≡_, _∙_}
+use lib.Dec.{eqb}
 use Rattle.model.specs.Steps.{setNormal}
 use Rattle.cluster.proofs.Settlings.{Answers, settles-refused, settles-accepted, normal-answer, normal-after}
 use borrow.Author.Needs.{needs}
@@ -30,12 +32,17 @@ number-requires c κs = search needs
 check-requires-4 : tie.Need-check-requires-4
 check-requires-4 c κs = search needs
 
+-- The check that what was heard was heard in this epoch.
+heard-now : (c : tie.After-check3)
+    → c .check3 .result ≡ cond (eqb (c .before .before .before .before .before .before .before .before .before .before .before .before .args .c .view .epoch) (c .before .before .before .before .before .before .before .before .before .before .before .before .args .r .view .epoch)) (c .before .before .before .check2 .result) 16
+heard-now c = c .check3 .ensures
+
 -- The checks, the last one called first.
 answers : (c : tie.After-check4) → Answers (c .before .before .before .before .before .before .before .before .before .before .before .before .before .before .args .r) (c .before .before .before .before .before .before .before .before .before .before .before .before .before .before .args .c) setNormal (c .check4 .result)
 answers c =
     let a = c .before .before .before .before .before .before .before .before .before .before .before .before .before .before .args in
     normal-answer (a .r) (a .c) _ _ _ (c .before .before .before .before .before .before .before .before .before .before .heard-of .ensures) (c .before .before .before .before .before .before .before .before .before .heard-enough .ensures)
-    (c .check4 .ensures ∙ rw (c .before .number .ensures, c .before .before .check3 .ensures, c .before .before .before .before .before .check2 .ensures, c .before .before .before .before .before .before .has-quorum .ensures, c .before .before .before .before .before .before .before .check .ensures))
+    (c .check4 .ensures ∙ rw (c .before .number .ensures, heard-now (c .before .before), c .before .before .before .before .before .check2 .ensures, c .before .before .before .before .before .before .has-quorum .ensures, c .before .before .before .before .before .before .before .check .ensures))
 
 returns : tie.Need-returns
 returns c = settles-refused _ _ _ _ (answers (c .before)) (c .if1 .taken)
