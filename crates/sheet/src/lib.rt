@@ -6,6 +6,9 @@ ghost use Rattle.cluster.specs.Layout.{statusOf, stageOf, viewOf, registryOf, c
 ghost use Rattle.steps.specs.Call.{recordOf};
 ghost use Rattle.text.specs.Text.{Wrote};
 ghost use Rattle.sheet.specs.Listing.{SampleHolds, RoomHolds, RefusedHolds, number, recordAt, wholeRecords, isOpening, isSheet, memberText, membersText, viewText, statusWord, stageWord, answerLine, registryLine, controlLine};
+
+pub mod running;
+
 use cluster::Controller;
 use cluster::Registry;
 use cluster::Stage;

@@ -1,0 +1,120 @@
+-- One record more of a sheet that is run: the call's promise is the model's step. Assumes nothing.
+use mathlib.Core.Bool.{Bool, true, cond, _&&_}
+use mathlib.Core.List.{List, [], _∷_, _++_}
+use mathlib.Core.Path.{_≡_, refl, sym, subst, ap, ap₂, _∙_}
+use Prim.Native.Nat.{ℕ, zero, suc, _+_, _-_, _*_, _/_, _%_, _≤_, _<_}
+use native.Mathlib.Numerals.{add-one}
+use native.Mathlib.Omega.{arith}
+use lib.Dec.{T, eqb, leb, leb→le}
+use lib.ListN.{length, take, drop, set, length-set}
+use lib.Seq.{take-suc-set, drop-drop}
+use Rattle.model.specs.Members.{isReplica}
+use Rattle.model.specs.State.{State, outline, opened, values}
+use Rattle.model.specs.Steps.{answerOf, step}
+use Rattle.model.specs.Records.{Record, stepOf}
+use Rattle.model.specs.Runs.{run, answers}
+use Rattle.model.specs.Ranges.{inRange}
+use Rattle.model.specs.Claim.{after}
+use Rattle.model.proofs.Tests.{split-and, is-true, of-true}
+use Rattle.model.proofs.Bounds.{in-range}
+use Rattle.model.proofs.Theorem.{run-append}
+use Rattle.cluster.specs.declared.Cluster.{Cluster}
+use Rattle.cluster.specs.declared.Outcome.{Outcome}
+use Rattle.cluster.specs.Layout.{outlineOf}
+use Rattle.memory.specs.Memory.{abs, Shape, Ready, Turns}
+use Rattle.control.specs.Opening.{Opens, OpenedWith}
+use Rattle.steps.specs.Call.{valid, Did}
+use Rattle.steps.proofs.Calling.{ready, all-tests, did-step, did-lengths}
+use Rattle.text.specs.Text.{Text}
+use Rattle.sheet.specs.Listing.{recordAt, records, wholeRecords, isOpening, isSheet}
+use Rattle.sheet.specs.Running.{following, stateAt, Ran}
+
+-- What refusal 2 has seen.
+module _ (s : Text) (e : isSheet s ≡ true) where
+  parts : T (wholeRecords (length s)) × T (isOpening (recordAt s))
+  parts = split-and (wholeRecords (length s)) (isOpening (recordAt s)) (of-true e)
+
+  pub sheet-whole : wholeRecords (length s) ≡ true
+  sheet-whole = is-true (wholeRecords (length s)) (parts .0)
+
+  pub sheet-most : length s / 8 ≤ 4095
+  sheet-most = leb→le (length s / 8) 4095 (split-and (eqb (length s % 8) 0 && leb 1 (length s / 8)) (leb (length s / 8) 4095) (parts .0) .1)
+
+  pub sheet-real : T (isReplica (recordAt s .board))
+  sheet-real =
+      let r = recordAt s in
+      split-and (eqb (r .step) 0) (isReplica (r .board)) (split-and (eqb (r .step) 0 && isReplica (r .board)) (eqb (r .other) 0)
+      (split-and (eqb (r .step) 0 && isReplica (r .board) && eqb (r .other) 0) (eqb (r .spare) 0)
+      (split-and (eqb (r .step) 0 && isReplica (r .board) && eqb (r .other) 0 && eqb (r .spare) 0) (eqb (r .value) 0) (parts .1) .0) .0) .0) .1
+
+-- The opening call on its board.
+pub begun : (s : Text) → isSheet s ≡ true → (b : ℕ) → b ≡ recordAt s .board → (x : Outcome) → Opens b x → OpenedWith (recordAt s .board) (x .row)
+begun s e b h x o =
+    subst (λ n. OpenedWith n (x .row)) (ap (λ n. cond (isReplica n) n 1) h ∙ ap (λ t. cond t (recordAt s .board) 1) (is-true (isReplica (recordAt s .board)) (sheet-real s e))) (o .row)
+
+-- One record more.
+pub records-suc : (k : ℕ) (s : Text) → records (suc k) s ≡ records k s ++ (recordAt (drop (8 * k) s) ∷ [])
+unfolding records
+records-suc zero s = refl
+records-suc (suc k) s =
+    let n : 8 + 8 * k ≡ 8 * suc k = omega arith in
+    let d : drop (8 * k) (drop 8 s) ≡ drop (8 * suc k) s = drop-drop (8 * k) 8 s ∙ ap (λ m. drop m s) n in
+    ap (λ rs. recordAt s ∷ rs) (records-suc k (drop 8 s) ∙ ap (λ t. records k (drop 8 s) ++ (recordAt t ∷ [])) d)
+
+pub following-suc : (s : Text) (k : ℕ) → following s (suc k) ≡ following s k ++ (recordAt (drop (8 * k + 8) s) ∷ [])
+following-suc s k =
+    let n : 8 + 8 * k ≡ 8 * k + 8 = omega arith in
+    let d : drop (8 * k) (drop 8 s) ≡ drop (8 * k + 8) s = drop-drop (8 * k) 8 s ∙ ap (λ m. drop m s) n in
+    records-suc k (drop 8 s) ∙ ap (λ t. records k (drop 8 s) ++ (recordAt t ∷ [])) d
+
+pub answers-suc : (s : State ℕ) (rs : List Record) (r : Record) → answers values s (rs ++ (r ∷ [])) ≡ answers values s rs ++ (answerOf (outline (run values s rs)) (stepOf r) ∷ [])
+unfolding answers run
+answers-suc s [] r = refl
+answers-suc s (q ∷ rs) r = ap (λ ns. answerOf (outline s) (stepOf q) ∷ ns) (answers-suc (step values s (stepOf q)) rs r)
+
+module _ (s : Text) (sheet : isSheet s ≡ true) (k : ℕ) (row : Cluster) (store list ns : List ℕ) (h : Ran s k row store list ns) where
+  abbrev b : ℕ
+  b = recordAt s .board
+
+  fit : inRange (outlineOf row) ≡ true
+  fit = ap inRange (h .outlined) ∙ is-true (inRange (outline (stateAt s k))) (in-range values b (sheet-real s sheet) (following s k))
+
+  pub ran-ready : Shape row → Ready row
+  ran-ready shape = ready row shape fit
+
+  -- The record r that stands next, and the call of it.
+  module _ (r : Record) (place : r ≡ recordAt (drop (8 * k + 8) s)) {x : Outcome} {store′ list′ : List ℕ} (t : Turns (stepOf r) row store list x store′ list′) (small : k + 1 < length ns) where
+    did : Did (stepOf r) row store list x store′ list′
+    did = did-step (stepOf r) row store list (all-tests row store list (h .full) (h .long) fit) (h .full) (h .long) t
+
+    more : following s (suc k) ≡ following s k ++ (r ∷ [])
+    more = following-suc s k ∙ ap (λ q. following s k ++ (q ∷ [])) (sym place)
+
+    reached : step values (stateAt s k) (stepOf r) ≡ stateAt s (suc k)
+    unfolding run
+    reached = sym (run-append values (opened b) (following s k) (r ∷ [])) ∙ ap (after values b) (sym more)
+
+    pub ran-more : Ran s (suc k) (x .row) store′ list′ (set ns (k + 1) (x .answer))
+    ran-more = rw (add-one k) record {
+      state = t .state ∙ ap (λ y. step values y (stepOf r)) (h .state) ∙ reached;
+      outlined = did .outlined ∙ ap (λ u. cond u (outline (step values (abs row store list) (stepOf r))) (outlineOf row)) (all-tests row store list (h .full) (h .long) fit)
+          ∙ ap (λ y. outline (step values y (stepOf r))) (h .state) ∙ ap outline reached;
+      answered = take-suc-set ns (suc k) (x .answer) (omega arith) ∙ ap₂ (λ xs n. xs ++ (n ∷ [])) (h .answered) (t .answer ∙ ap (λ o. answerOf o (stepOf r)) (h .outlined))
+          ∙ ap (λ xs. 0 ∷ xs) (sym (answers-suc (opened b) (following s k) r) ∙ ap (answers values (opened b)) (sym more));
+      full = did-lengths (stepOf r) row store list did .0 ∙ h .full;
+      long = did-lengths (stepOf r) row store list did .1 ∙ h .long;
+      room = length-set ns (suc k) (x .answer) ∙ h .room;
+    }
+
+-- Nothing but the opening.
+pub ran-none : (s : Text) (row : Cluster) → OpenedWith (recordAt s .board) row → (store list ns : List ℕ) → length store ≡ 4096 → length list ≡ 512 → length ns ≡ 4096
+    → Ran s 0 row store list (set ns 0 0)
+unfolding records run answers
+ran-none s row o store list ns full long room = record {
+  state = o .state store list;
+  outlined = o .outline;
+  answered = take-suc-set ns 0 0 (omega arith);
+  full = full;
+  long = long;
+  room = length-set ns 0 0 ∙ room;
+}
