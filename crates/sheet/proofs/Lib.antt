@@ -1,2 +1,3 @@
 pub mod Records
 pub mod Playing
+pub mod Lines

@@ -5,7 +5,7 @@ use mathlib.Core.Path.{_≡_, refl, sym, subst, ap, ap₂, _∙_}
 use Prim.Native.Nat.{ℕ, zero, suc, _+_, _-_, _*_, _/_, _%_, _≤_, _<_}
 use native.Mathlib.Numerals.{add-one}
 use native.Mathlib.Omega.{arith}
-use lib.Dec.{T, eqb, leb, leb→le}
+use lib.Dec.{T, eqb, leb, leb→le, eqb→eq}
 use lib.ListN.{length, take, drop, set, length-set}
 use lib.Seq.{take-suc-set, drop-drop}
 use Rattle.model.specs.Members.{isReplica}
@@ -40,12 +40,18 @@ module _ (s : Text) (e : isSheet s ≡ true) where
   pub sheet-most : length s / 8 ≤ 4095
   sheet-most = leb→le (length s / 8) 4095 (split-and (eqb (length s % 8) 0 && leb 1 (length s / 8)) (leb (length s / 8) 4095) (parts .0) .1)
 
-  pub sheet-real : T (isReplica (recordAt s .board))
-  sheet-real =
+  first : T (eqb (recordAt s .step) 0) × T (isReplica (recordAt s .board))
+  first =
       let r = recordAt s in
       split-and (eqb (r .step) 0) (isReplica (r .board)) (split-and (eqb (r .step) 0 && isReplica (r .board)) (eqb (r .other) 0)
       (split-and (eqb (r .step) 0 && isReplica (r .board) && eqb (r .other) 0) (eqb (r .spare) 0)
-      (split-and (eqb (r .step) 0 && isReplica (r .board) && eqb (r .other) 0 && eqb (r .spare) 0) (eqb (r .value) 0) (parts .1) .0) .0) .0) .1
+      (split-and (eqb (r .step) 0 && isReplica (r .board) && eqb (r .other) 0 && eqb (r .spare) 0) (eqb (r .value) 0) (parts .1) .0) .0) .0)
+
+  pub sheet-step : recordAt s .step ≡ 0
+  sheet-step = eqb→eq (recordAt s .step) 0 (first .0)
+
+  pub sheet-real : T (isReplica (recordAt s .board))
+  sheet-real = first .1
 
 -- The opening call on its board.
 pub begun : (s : Text) → isSheet s ≡ true → (b : ℕ) → b ≡ recordAt s .board → (x : Outcome) → Opens b x → OpenedWith (recordAt s .board) (x .row)

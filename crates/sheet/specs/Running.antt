@@ -11,7 +11,7 @@ use Rattle.cluster.specs.declared.Cluster.{Cluster}
 use Rattle.cluster.specs.Layout.{outlineOf}
 use Rattle.memory.specs.Memory.{abs}
 use Rattle.text.specs.Text.{Text}
-use Rattle.sheet.specs.Listing.{recordAt, records}
+use Rattle.sheet.specs.Listing.{recordAt, records, answerLines}
 
 -- The first k records after the opening.
 abbrev pub following : Text → ℕ → List Record
@@ -29,3 +29,8 @@ pub record Ran (s : Text) (k : ℕ) (row : Cluster) (store list ns : List ℕ) :
   pub full : length store ≡ 4096
   pub long : length list ≡ 512
   pub room : length ns ≡ 4096
+
+-- The lines of the first n records of s, with the answers ns.
+unfoldable pub lines : Text → List ℕ → ℕ → Text
+unfolding records answerLines
+lines s ns n = answerLines 1 (records n s) (take n ns)

@@ -7,6 +7,7 @@ ghost use Rattle.steps.specs.Call.{recordOf};
 ghost use Rattle.text.specs.Text.{Wrote};
 ghost use Rattle.sheet.specs.Listing.{SampleHolds, RoomHolds, RefusedHolds, number, recordAt, wholeRecords, isOpening, isSheet, memberText, membersText, viewText, statusWord, stageWord, answerLine, registryLine, controlLine};
 
+pub mod answers;
 pub mod running;
 
 use cluster::Controller;
