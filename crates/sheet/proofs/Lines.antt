@@ -3,7 +3,7 @@ use mathlib.Core.Bool.{true, _&&_}
 use mathlib.Core.List.{List, [], _∷_, _++_, append-assoc, append-nil}
 use mathlib.Core.Path.{_≡_, refl, sym, subst, ap, ap₂, _∙_}
 use Prim.Native.Nat.{ℕ, zero, suc, _+_, _-_, _*_, _/_, _^_, _≤_, _<_}
-use native.Mathlib.Nat.{add-zero, add-suc}
+use native.Mathlib.Nat.{zero-add, add-zero, add-suc}
 use native.Mathlib.Numerals.{add-one}
 use native.Mathlib.Omega.{arith}
 use lib.Dec.{T, eqb}
@@ -13,10 +13,11 @@ use Rattle.model.specs.State.{values, opened}
 use Rattle.model.specs.Records.{Record}
 use Rattle.model.specs.Runs.{answers}
 use Rattle.cluster.specs.declared.Cluster.{Cluster}
-use Rattle.text.specs.Text.{Text, digits}
+use borrow.Author.Tests.{lt-leb, le-leb}
+use Rattle.text.specs.Text.{Text, Wrote, digits}
 use Rattle.text.proofs.Laws.{digits-most-10}
 use Rattle.sheet.specs.Listing.{space, newline, recordAt, records, isSheet, answerLine, answerLines}
-use Rattle.sheet.specs.Running.{following, Ran, lines}
+use Rattle.sheet.specs.Running.{following, Ran, lines, Delivered}
 use Rattle.sheet.proofs.Playing.{sheet-step, records-suc}
 
 -- One record and one answer more are one line more.
@@ -97,3 +98,10 @@ unfolding lines records answerLines
 lines-are s k row store list ns e h =
     ap (answerLines 1 (recordAt s ∷ following s k)) (h .answered)
     ∙ ap (λ n. answerLine 1 n 0 ++ answerLines 2 (following s k) (answers values (opened (recordAt s .board)) (following s k))) (sheet-step s e)
+
+-- A text that is too long, and one that was written.
+pub too-long : {text out : Text} → length out < length text → Delivered text out out 3
+too-long {text} {out} h = record { answer = rw (lt-leb (length text) (length out) h); left = rw (lt-leb (length text) (length out) h) }
+
+pub fitting : {text out out′ : Text} {r : ℕ} → length text ≤ length out → Wrote out 0 text out′ r → Delivered text out out′ r
+fitting {text} {out} h w = record { answer = w .next ∙ rw (le-leb (length text) (length out) h, zero-add (length text)); left = w .text ∙ rw (le-leb (length text) (length out) h) }

@@ -1,13 +1,15 @@
 // The first lines of a listing: record, step, answer.
 
 ghost use mathlib.Core.Path.{_≡_};
+ghost use mathlib.Core.List.{_++_};
 ghost use Prim.Native.Nat.{_+_, _/_, _≤_};
 ghost use lib.ListN.{length};
 ghost use Rattle.text.specs.Text.{Wrote};
 ghost use Rattle.sheet.specs.Listing.{answerLine};
-ghost use Rattle.sheet.specs.Running.{lines};
+ghost use Rattle.sheet.specs.Running.{lines, Delivered};
 use crate::put_answer;
 use text::number_length;
+use text::put_bytes;
 
 // How long the line of record k is.
 fn line_length(k: u32, step: u8, answer: u8) -> usize
@@ -19,7 +21,7 @@ fn line_length(k: u32, step: u8, answer: u8) -> usize
 // How long the lines of a sheet's records are. Inner layer: callers see to it that there is an answer for each record.
 pub fn answers_length(sheet: &[u8], answers: &[u8]) -> usize
     requires { ⌜ (length (now sheet) / 8 ≤ 4095) × (length (now sheet) / 8 ≤ length (now answers)) ⌝ }
-    ensures { λ r. ⌜ r ≡ length (lines (now (sheet .entry)) (now (answers .entry)) (length (now (sheet .entry)) / 8)) ⌝ }
+    ensures { λ r. ⌜ (r ≡ length (lines (now (sheet .entry)) (now (answers .entry)) (length (now (sheet .entry)) / 8))) × (r ≤ 135135) ⌝ }
 {
     let n = sheet.len() / 8;
     let mut total: usize = 0;
@@ -45,4 +47,17 @@ pub fn put_answers(out: &mut [u8], sheet: &[u8], answers: &[u8]) -> usize
         i += 1;
     }
     at
+}
+
+// Writes the lines of the records and the ending after them, if both fit; else refusal 3. Inner layer: as above, and the ending is short.
+pub fn deliver(sheet: &[u8], answers: &[u8], ending: &[u8], out: &mut [u8]) -> usize
+    requires { ⌜ (length (now sheet) / 8 ≤ 4095) × (length (now sheet) / 8 ≤ length (now answers)) × (length (now ending) ≤ 6656) ⌝ }
+    ensures { λ r. ⌜ Delivered (lines (now (sheet .entry)) (now (answers .entry)) (length (now (sheet .entry)) / 8) ++ now (ending .entry)) (now (out .entry)) (now (out .exit)) r ⌝ }
+{
+    let n = answers_length(sheet, answers) + ending.len();
+    if out.len() < n {
+        return 3;
+    }
+    let at = put_answers(&mut *out, sheet, answers);
+    put_bytes(&mut *out, at, ending)
 }
