@@ -87,13 +87,13 @@ pub fn random(mut rng: Rng) -> (Kind, Vec<u8>) {
 pub fn edges() -> Vec<Vec<u8>> {
     let opening = record(0, 1, 0, 0);
     let mut sheets = Vec::new();
-    // An opening with any byte in any place.
-    for place in 0..8 {
-        for byte in 0..=255 {
-            let mut sheet = opening.to_vec();
-            sheet[place] = byte;
-            sheets.push(sheet);
-        }
+    // An opening with any step and any board, and with unused bytes that are not 0.
+    let used = (0..=255).flat_map(|byte| [(0, byte), (1, byte)]);
+    let unused = (2..8).flat_map(|place| [(place, 1), (place, 128), (place, 255)]);
+    for (place, byte) in used.chain(unused) {
+        let mut sheet = opening.to_vec();
+        sheet[place] = byte;
+        sheets.push(sheet);
     }
     // Lengths about 0, 1 record, 4,095 records, and far too long.
     let longest = RECORDS_MAX * 8;

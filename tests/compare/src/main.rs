@@ -89,38 +89,50 @@ fn compare(sheets: u64, seed: u64, program: &Path) -> io::Result<u8> {
     Ok(if faults.is_empty() { 0 } else { 3 })
 }
 
+/// The C entry on two slices.
+fn run(sheet: &[u8], listing: &mut [u8]) -> usize {
+    // SAFETY: each pointer goes with its slice's length, and the two do not overlap.
+    unsafe {
+        run_sheet(
+            sheet.as_ptr(),
+            sheet.len(),
+            listing.as_mut_ptr(),
+            listing.len(),
+        )
+    }
+}
+
 /// Calls both programs on slices of random bytes: as long as the listing, one
 /// byte shorter, longer, and empty.
 fn call(sheet: &[u8], rng: &mut Rng) -> Result<(), String> {
     let exact = peer::list(sheet).map_or(300, |listing| listing.len());
     for length in [exact, exact - 1, exact + 1 + rng.below(100), 0] {
         // Bytes around the slice show a write outside it.
-        let (before, after) = (rng.below(64), 64);
-        let words = iter::repeat_with(|| rng.draw().to_le_bytes()).flatten();
-        let place: Vec<u8> = words.take(before + length + after).collect();
+        let before = 32 + rng.below(32);
+        let slice = before..before + length;
+        let bytes = iter::repeat_with(|| rng.draw().to_le_bytes()).flatten();
+        let place: Vec<u8> = bytes.take(slice.end + 32).collect();
         let (mut ours, mut theirs, given) = (place.clone(), place, sheet.to_vec());
-        let expected = peer::run(sheet, &mut theirs[before..before + length]);
-        // SAFETY: the pointers are to slices of these lengths, which do not overlap.
-        let result = unsafe {
-            let slice = ours[before..before + length].as_mut_ptr();
-            run_sheet(given.as_ptr(), given.len(), slice, length)
-        };
+        let result = run(&given, &mut ours[slice.clone()]);
+        let expected = peer::run(sheet, &mut theirs[slice]);
         let fault = if result != expected {
             format!("run_sheet gives {result}, the second program {expected}")
         } else if ours != theirs {
-            let at = iter::zip(&ours, &theirs).take_while(|(a, b)| a == b);
-            let at = at.count() as isize - before as isize;
-            format!("byte {at} of the slice, result {result}")
+            let same = iter::zip(&ours, &theirs).take_while(|(a, b)| a == b);
+            let at = same.count() as isize - before as isize;
+            format!("run_sheet gives {result}, byte {at} of the slice differs")
         } else if given != sheet {
             "the sheet was changed".into()
         } else {
             continue;
         };
+        let mut whole = vec![0; 60_000];
+        let end = run(sheet, &mut whole).min(whole.len());
         let lines = lines(
-            &ours[before..before + length],
-            &theirs[before..before + length],
+            &whole[..end],
+            peer::list(sheet).unwrap_or_default().as_bytes(),
         );
-        return Err(format!("in a slice of {length} bytes: {fault}{lines}"));
+        return Err(format!("in a slice of {length} bytes {fault}{lines}"));
     }
     Ok(())
 }
