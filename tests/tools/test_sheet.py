@@ -1,3 +1,4 @@
+#!/usr/bin/env python3
 """Tests of tools/sheet.py."""
 
 import random

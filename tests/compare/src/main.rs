@@ -128,10 +128,10 @@ fn call(sheet: &[u8], rng: &mut Rng) -> Result<(), String> {
         };
         let mut whole = vec![0; 60_000];
         let end = run(sheet, &mut whole).min(whole.len());
-        let lines = lines(
-            &whole[..end],
-            peer::list(sheet).unwrap_or_default().as_bytes(),
-        );
+        let lines = match peer::list(sheet) {
+            Ok(listing) if end > 3 => lines(&whole[..end], listing.as_bytes()),
+            _ => String::new(),
+        };
         return Err(format!("in a slice of {length} bytes {fault}{lines}"));
     }
     Ok(())

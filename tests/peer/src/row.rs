@@ -1,7 +1,7 @@
 //! The row and its fifteen steps, in the paper's order and words.
 
-/// Entries of a log. The receipts need no limit of their own: each is an entry
-/// of a longer log.
+/// Entries of a log. The receipts need no limit of their own: a receipt is given
+/// only where a log is longer than they are.
 pub const LOG_MAX: usize = 512;
 /// Epochs run from 1 to this.
 pub const EPOCH_MAX: u16 = 4000;
