@@ -5,7 +5,8 @@
 //! random one through the program that RUNSHEET names, over standard input.
 //!
 //! Exit status: 0 all agree; 1 a sheet differs; 2 bad usage, or the program does
-//! not run; 3 all agree, but something that a run can meet was not met.
+//! not run; 3 all agree, but something that a run can meet was not met (as may be
+//! with fewer than 1,000 sheets).
 
 mod coverage;
 mod generate;
