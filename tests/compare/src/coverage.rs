@@ -1,0 +1,209 @@
+//! Which answers each step can give in a run, and how often they were met.
+
+use peer::row::{Row, EPOCH_MAX, LOG_MAX};
+use std::fmt;
+
+/// Steps 0 to 15, and every step byte above as one.
+const STEPS: usize = 17;
+/// Answers 0 to 16.
+const ANSWERS: usize = 17;
+
+/// The answers that a run can meet, step by step. Besides 0 and 1 a step has the
+/// refusals in its own text and no others; 2 and 3 are of whole sheets. One pair
+/// of that text is never met: step 15 with 16. At stage choosing the controller
+/// holds the epoch of a choosing registry, and until a board is installed no
+/// step raises it: 3, 4 and 5 give 4, and 13 gives 15.
+const CAN_MEET: [&[u8]; STEPS] = [
+    &[0, 1],                   // 0, opening: 0 as the first record, 1 after it
+    &[0, 1, 8, 13],            // 1, append
+    &[0, 1, 8, 12, 14],        // 2, receipt
+    &[0, 1, 4, 5, 7],          // 3, add
+    &[0, 1, 4, 5, 6, 7],       // 4, remove
+    &[0, 1, 4, 6, 7],          // 5, change leader
+    &[0, 1, 12],               // 6, board takes news
+    &[0, 1, 5, 9, 10, 11],     // 7, join
+    &[0, 1, 5, 9, 10, 11, 12], // 8, receive
+    &[0, 1, 5, 8, 10, 11, 12], // 9, count
+    &[0, 1, 12],               // 10, controller takes news
+    &[0, 1, 15, 16],           // 11, controller reads leader
+    &[0, 1, 5, 6, 11, 12, 15], // 12, controller reads
+    &[0, 1, 7, 14, 15, 16],    // 13, set normal
+    &[0, 1, 5, 12, 15, 16],    // 14, controller hears
+    &[0, 1, 5, 7, 14, 15],     // 15, install
+    &[1],                      // 16 to 255, no step
+];
+
+/// A record's effect, and what came before it in the sheet.
+struct Seen<'a> {
+    before: &'a Row,
+    after: &'a Row,
+    step: u8,
+    b: u8,
+    answer: u8,
+    /// Changes of leader, this one included.
+    changes: u32,
+    /// Boards that were members before.
+    past: u8,
+}
+
+impl Seen<'_> {
+    fn gives(&self, step: u8, answer: u8) -> bool {
+        self.step == step && self.answer == answer
+    }
+
+    fn lengths(&self) -> (usize, usize) {
+        let length = |row: &Row| row.board(self.b).log.len();
+        (length(self.before), length(self.after))
+    }
+
+    /// Has another board a longer log heard than b?
+    fn longer_heard(&self) -> bool {
+        let heard = &self.before.control.heard;
+        let own = heard[usize::from(self.b) - 1].length;
+        heard.iter().any(|other| other.length > own)
+    }
+}
+
+type Event = (&'static str, fn(&Seen) -> bool);
+
+/// What the sheets should bring about besides the pairs.
+const EVENTS: [Event; 16] = [
+    ("change of leader that leaves one member", |s| {
+        s.gives(5, 0) && s.after.registry.leader != 0
+    }),
+    ("third change of leader in a sheet", |s| {
+        s.gives(5, 0) && s.changes == 3
+    }),
+    ("append by a replaced leader", |s| {
+        s.gives(1, 0) && s.after.registry.leader != s.b
+    }),
+    ("receipt by a replaced leader", |s| {
+        s.gives(2, 0) && s.after.registry.leader != s.b
+    }),
+    ("board added again", |s| {
+        s.gives(3, 0) && s.past & (1 << (s.b - 1)) != 0
+    }),
+    ("join that cuts a part", |s| {
+        s.gives(7, 0) && s.lengths().0 > s.lengths().1 && s.lengths().1 > 0
+    }),
+    ("join that keeps a log", |s| {
+        s.gives(7, 0) && s.lengths().0 == s.lengths().1 && s.lengths().1 > 0
+    }),
+    ("append of entry 512", |s| {
+        s.gives(1, 0) && s.lengths().1 == LOG_MAX
+    }),
+    ("receive of entry 512", |s| {
+        s.gives(8, 0) && s.lengths().1 == LOG_MAX
+    }),
+    ("receipt 512", |s| {
+        s.gives(2, 0) && s.after.receipts.len() == LOG_MAX
+    }),
+    ("epoch 4,000", |s| {
+        s.before.registry.epoch < EPOCH_MAX && s.after.registry.epoch == EPOCH_MAX
+    }),
+    ("join refused 9 for want of a leader", |s| {
+        s.gives(7, 9) && s.after.board(s.b).view.leader == 0
+    }),
+    ("receive refused 5 by the leader's members alone", |s| {
+        s.gives(8, 5) && s.after.board(s.b).view.has(s.b)
+    }),
+    ("news that keeps counts of others", |s| {
+        let some = |counts: &[usize]| counts.iter().filter(|&&n| n > 0).count();
+        s.gives(6, 0) && some(&s.after.board(s.b).counts) > 1
+    }),
+    ("read of a late board", |s| {
+        s.gives(12, 0) && s.after.board(s.b).view.epoch < s.after.registry.epoch
+    }),
+    ("install over a longer log heard", |s| {
+        s.gives(15, 0) && s.longer_heard()
+    }),
+];
+
+#[derive(Default)]
+pub struct Coverage {
+    met: [[u64; ANSWERS]; STEPS],
+    events: [u64; EVENTS.len()],
+}
+
+impl Coverage {
+    /// Plays a sheet that has a valid opening, and notes what it meets.
+    pub fn play(&mut self, sheet: &[u8]) {
+        let records = sheet.as_chunks::<8>().0;
+        let Ok(mut row) = Row::open(records[0][1]) else {
+            return;
+        };
+        self.met[0][0] += 1;
+        let (mut changes, mut past) = (0, 0);
+        for record in &records[1..] {
+            let before = row.clone();
+            let [step, b, ..] = *record;
+            let answer = row.step(record);
+            self.met[usize::from(step).min(STEPS - 1)][usize::from(answer)] += 1;
+            if (step, answer) == (5, 0) {
+                changes += 1;
+            }
+            past |= before.registry.members;
+            let seen = Seen {
+                before: &before,
+                after: &row,
+                step,
+                b,
+                answer,
+                changes,
+                past,
+            };
+            for (number, (_, came_about)) in self.events.iter_mut().zip(EVENTS) {
+                *number += u64::from(came_about(&seen));
+            }
+        }
+    }
+
+    /// What can be met and was not, and what cannot and was.
+    pub fn faults(&self) -> Vec<String> {
+        let mut faults = Vec::new();
+        for (step, answers) in self.met.iter().enumerate() {
+            for (answer, &number) in answers.iter().enumerate() {
+                match (CAN_MEET[step].contains(&(answer as u8)), number) {
+                    (true, 0) => faults.push(format!("not met: step {step}, answer {answer}")),
+                    (false, 1..) => faults.push(format!("met: step {step}, answer {answer}")),
+                    _ => {}
+                }
+            }
+        }
+        let events = EVENTS.iter().zip(self.events);
+        let absent = events.filter(|&(_, number)| number == 0);
+        faults.extend(absent.map(|((name, _), _)| format!("not met: {name}")));
+        faults
+    }
+}
+
+impl fmt::Display for Coverage {
+    fn fmt(&self, out: &mut fmt::Formatter) -> fmt::Result {
+        writeln!(out, "answers by step, - where a run cannot meet the pair:")?;
+        write!(out, "step")?;
+        for answer in (0..ANSWERS).filter(|answer| ![2, 3].contains(answer)) {
+            write!(out, "{answer:>8}")?;
+        }
+        for (step, answers) in self.met.iter().enumerate() {
+            let name = if step < 16 {
+                step.to_string()
+            } else {
+                "16+".into()
+            };
+            write!(out, "\n{name:>4}")?;
+            for (answer, number) in answers.iter().enumerate() {
+                match (answer, number) {
+                    (2 | 3, _) => {}
+                    (_, 0) if !CAN_MEET[step].contains(&(answer as u8)) => {
+                        write!(out, "{:>8}", "-")?
+                    }
+                    _ => write!(out, "{number:>8}")?,
+                }
+            }
+        }
+        for ((name, _), number) in EVENTS.iter().zip(self.events) {
+            write!(out, "\n{number:>8} {name}")?;
+        }
+        Ok(())
+    }
+}

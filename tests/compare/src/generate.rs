@@ -1,0 +1,382 @@
+//! Sheets from a seed.
+
+use peer::row::{Row, Status, EPOCH_MAX, LOG_MAX};
+use peer::RECORDS_MAX;
+use std::iter;
+
+/// A small generator of numbers (SplitMix64).
+pub struct Rng(u64);
+
+impl Rng {
+    pub fn new(seed: u64) -> Rng {
+        Rng(seed)
+    }
+
+    pub fn draw(&mut self) -> u64 {
+        self.0 = self.0.wrapping_add(0x9e37_79b9_7f4a_7c15);
+        let mut z = self.0;
+        z = (z ^ (z >> 30)).wrapping_mul(0xbf58_476d_1ce4_e5b9);
+        z = (z ^ (z >> 27)).wrapping_mul(0x94d0_49bb_1331_11eb);
+        z ^ (z >> 31)
+    }
+
+    /// A number below n.
+    pub fn below(&mut self, n: usize) -> usize {
+        (((self.draw() >> 32) * n as u64) >> 32) as usize
+    }
+
+    pub fn one_in(&mut self, n: usize) -> bool {
+        self.below(n) == 0
+    }
+
+    fn one_of<T: Copy>(&mut self, these: &[T]) -> T {
+        these[self.below(these.len())]
+    }
+}
+
+#[derive(Clone, Copy, Debug)]
+pub enum Kind {
+    /// Any steps on any boards, all well formed.
+    Uniform,
+    /// A guided sheet with malformed records between.
+    Malformed,
+    /// Mostly accepted steps: changes of leader, replaced leaders that go on
+    /// writing, joins that cut, boards added again.
+    Guided,
+    /// Guided, with logs near 512.
+    Logs,
+    /// Guided, with epochs near 4,000.
+    Epochs,
+    /// A sheet to be refused with 2.
+    Broken,
+}
+
+pub fn record(step: u8, a: u8, b: u8, value: u32) -> [u8; 8] {
+    let [v0, v1, v2, v3] = value.to_le_bytes();
+    [step, a, b, 0, v0, v1, v2, v3]
+}
+
+/// A random sheet and its kind.
+pub fn random(mut rng: Rng) -> (Kind, Vec<u8>) {
+    let kind = match rng.below(100) {
+        0..=19 => Kind::Uniform,
+        20..=39 => Kind::Malformed,
+        40..=74 => Kind::Guided,
+        75..=82 => Kind::Logs,
+        83..=94 => Kind::Epochs,
+        _ => Kind::Broken,
+    };
+    let records = match kind {
+        Kind::Logs => 1000 + rng.below(RECORDS_MAX - 999),
+        Kind::Epochs => RECORDS_MAX - rng.below(20),
+        Kind::Guided if rng.one_in(10) => RECORDS_MAX,
+        _ => 1 + rng.below(800),
+    };
+    let sheet = match kind {
+        Kind::Uniform => uniform(&mut rng, records),
+        Kind::Broken => broken(&mut rng, records),
+        Kind::Malformed => Guide::new(rng, records).finish(Some(6)),
+        Kind::Guided => Guide::new(rng, records).finish(None),
+        Kind::Logs => Guide::new(rng, records).fill_log().finish(None),
+        Kind::Epochs => Guide::new(rng, records).use_epochs().finish(None),
+    };
+    (kind, sheet)
+}
+
+/// Sheets at the limits of the paper.
+pub fn edges() -> Vec<Vec<u8>> {
+    let opening = record(0, 1, 0, 0);
+    let mut sheets = Vec::new();
+    // An opening with any step and any board, and with unused bytes that are not 0.
+    let used = (0..=255).flat_map(|byte| [(0, byte), (1, byte)]);
+    let unused = (2..8).flat_map(|place| [(place, 1), (place, 128), (place, 255)]);
+    for (place, byte) in used.chain(unused) {
+        let mut sheet = opening.to_vec();
+        sheet[place] = byte;
+        sheets.push(sheet);
+    }
+    // Lengths about 0, 1 record, 4,095 records, and far too long.
+    let longest = RECORDS_MAX * 8;
+    for length in (0..=17).chain(longest - 9..=longest + 9).chain([100_000]) {
+        let records = opening
+            .into_iter()
+            .chain(record(3, 2, 0, 0).into_iter().cycle());
+        sheets.push(records.take(length).collect());
+    }
+    // Every step with each field in turn at and beyond its limits.
+    let mut fields = Vec::new();
+    for step in 0..=255 {
+        for place in 1..8 {
+            for byte in [0, 1, 2, 8, 9, 128, 255] {
+                let mut r = well_formed(&mut Rng::new(step.into()), step, 8);
+                r[place] = byte;
+                fields.push(r);
+            }
+        }
+    }
+    for part in fields.chunks(RECORDS_MAX - 1) {
+        sheets.push([&[opening], part].concat().concat());
+    }
+    // One append and one receipt too many; eight members.
+    let full = |step, value| iter::repeat_n(record(step, 1, 0, value), LOG_MAX + 1);
+    let members = (2..=8).map(|b| record(3, b, 0, 0));
+    let steps = full(1, u32::MAX).chain(full(2, 0)).chain(members);
+    sheets.push(iter::once(opening).chain(steps).flatten().collect());
+    // Adding and removing in turn until no epoch is left.
+    let turns = [record(3, 2, 0, 0), record(4, 2, 0, 0)];
+    let steps = turns.into_iter().cycle().take(EPOCH_MAX.into());
+    let late = [record(3, 3, 0, 0)];
+    let sheet = iter::once(opening).chain(steps).chain(late);
+    sheets.push(sheet.flatten().collect());
+    sheets
+}
+
+/// A well-formed record of this step on boards 1 to `most`.
+fn well_formed(rng: &mut Rng, step: u8, most: usize) -> [u8; 8] {
+    let b = rng.below(most) as u8 + 1;
+    match step {
+        1 => record(1, b, 0, value(rng)),
+        5 | 10 | 11 | 13 => record(step, 0, 0, 0),
+        9 => {
+            // any board but b
+            let c = rng.below(most - 1) as u8 + 1;
+            record(9, b, c + u8::from(c >= b), 0)
+        }
+        _ => record(step, b, 0, 0),
+    }
+}
+
+/// A value: often one of few, so that different logs share entries.
+fn value(rng: &mut Rng) -> u32 {
+    let any = rng.draw() as u32;
+    rng.one_of(&[0, u32::MAX, 41, 42, any, any, any, any])
+}
+
+fn any_step(rng: &mut Rng) -> u8 {
+    1 + rng.below(15) as u8
+}
+
+fn uniform(rng: &mut Rng, records: usize) -> Vec<u8> {
+    // With fewer boards more steps meet.
+    let most = rng.one_of(&[2, 3, 4, 8]);
+    let mut sheet = well_formed(rng, 0, most).to_vec();
+    for _ in 1..records {
+        let step = any_step(rng);
+        sheet.extend(well_formed(rng, step, most));
+    }
+    sheet
+}
+
+/// A sheet of wrong length or without a valid opening.
+fn broken(rng: &mut Rng, records: usize) -> Vec<u8> {
+    let mut sheet = uniform(rng, records);
+    let some = 1 + rng.below(255) as u8;
+    match rng.below(5) {
+        0 => sheet.truncate(sheet.len() - 1 - rng.below(7)),
+        1 => sheet.resize(sheet.len() + 1 + rng.below(7), some),
+        2 => sheet[1] = rng.one_of(&[0, 9, some | 8 | 1]),
+        3 => sheet[0] = some,
+        _ => sheet[2 + rng.below(6)] = some,
+    }
+    sheet
+}
+
+/// A well-formed record spoiled: mostly one that is answered 1, now and then one
+/// that is still well formed.
+fn spoiled(rng: &mut Rng) -> [u8; 8] {
+    let step = any_step(rng);
+    let mut r = well_formed(rng, step, 8);
+    let any = rng.draw() as u8;
+    match rng.below(7) {
+        0 => r[0] = 0,
+        1 => r[0] = 16 + any % 240,
+        2 => r[1] = rng.one_of(&[0, 9, any]),
+        3 => r[2] = rng.one_of(&[0, 9, any, r[1]]),
+        4 => r[3 + rng.below(5)] = any,
+        5 => r[rng.below(8)] ^= 1 << (any % 8),
+        _ => r = rng.draw().to_le_bytes(),
+    }
+    r
+}
+
+/// Plays the row along and takes mostly records that are accepted.
+struct Guide {
+    rng: Rng,
+    row: Row,
+    sheet: Vec<u8>,
+    records: usize,
+    /// Boards 1 to `most` are used.
+    most: usize,
+    /// How often each step is tried.
+    weights: [usize; 16],
+}
+
+impl Guide {
+    fn new(mut rng: Rng, records: usize) -> Guide {
+        let most = rng.one_of(&[2, 3, 3, 4, 4, 5, 6, 8]);
+        let opening = well_formed(&mut rng, 0, most);
+        // Some steps are rarer or commoner in this sheet.
+        let mut weights = [0, 12, 12, 6, 3, 6, 24, 24, 40, 30, 16, 16, 20, 16, 20, 16];
+        for weight in &mut weights {
+            *weight = *weight * rng.one_of(&[1, 2, 2, 4]) / 2;
+        }
+        Guide {
+            rng,
+            row: Row::open(opening[1]).expect("a board of 1 to 8 opens"),
+            sheet: opening.to_vec(),
+            records,
+            most,
+            weights,
+        }
+    }
+
+    fn full(&self) -> bool {
+        self.sheet.len() >= self.records * 8
+    }
+
+    /// Takes a record if it is accepted; a refused one leaves the row as it was.
+    fn take(&mut self, r: [u8; 8]) -> bool {
+        let accepted = !self.full() && self.row.step(&r) == 0;
+        if accepted {
+            self.sheet.extend(r);
+        }
+        accepted
+    }
+
+    /// Takes a record whatever its answer.
+    fn keep(&mut self, r: [u8; 8]) {
+        self.row.step(&r);
+        self.sheet.extend(r);
+    }
+
+    /// A board that holds itself leader, the registry's or a replaced one.
+    fn some_leader(&mut self) -> u8 {
+        let named = self.row.registry.leader;
+        if named != 0 && self.rng.one_in(2) {
+            return named;
+        }
+        let from = self.rng.below(8) as u8;
+        let mut turn = (0..8).map(|i| (from + i) % 8 + 1);
+        turn.find(|&b| self.row.board(b).view.leader == b)
+            .unwrap_or(from + 1)
+    }
+
+    /// A step drawn by weight.
+    fn step(&mut self) -> u8 {
+        // While a change waits, further ones are rare, so that it gets through.
+        // With three members or more a change of leader leaves a choice.
+        let busy = self.row.status != Status::Normal;
+        let members = self.row.registry.size();
+        let mut weights = self.weights;
+        if busy {
+            weights[3] = weights[3].div_ceil(8);
+            weights[4] = weights[4].div_ceil(8);
+        } else if members < 3 {
+            weights[3] *= 4;
+        }
+        if members < 3 {
+            weights[5] = weights[5].div_ceil(4);
+        } else {
+            weights[5] *= 4;
+        }
+        let mut left = self.rng.below(weights.iter().sum());
+        let mut step = 0;
+        while left >= weights[step] {
+            left -= weights[step];
+            step += 1;
+        }
+        step as u8
+    }
+
+    fn propose(&mut self) -> [u8; 8] {
+        let step = self.step();
+        let mut r = well_formed(&mut self.rng, step, self.most);
+        let b = r[1];
+        match step {
+            1 | 2 if !self.rng.one_in(8) => r[1] = self.some_leader(),
+            9 if !self.rng.one_in(8) => {
+                let a = self.some_leader();
+                if r[2] != a {
+                    r[1] = a;
+                }
+            }
+            // A replaced leader hears of it late, and writes meanwhile.
+            6 if self.row.board(b).view.leader == b
+                && self.row.registry.leader != b
+                && !self.rng.one_in(8) =>
+            {
+                r = record(1, b, 0, value(&mut self.rng));
+            }
+            _ => {}
+        }
+        r
+    }
+
+    /// Fills the sheet: one record in eight is kept whatever its answer, the
+    /// others are accepted where such a one is found. One in `spoil` is malformed.
+    fn finish(mut self, spoil: Option<usize>) -> Vec<u8> {
+        while !self.full() {
+            if spoil.is_some_and(|n| self.rng.one_in(n)) {
+                let r = spoiled(&mut self.rng);
+                self.keep(r);
+                continue;
+            }
+            let r = match self.rng.below(16) {
+                0 => {
+                    let step = any_step(&mut self.rng);
+                    well_formed(&mut self.rng, step, self.most)
+                }
+                1 => self.propose(),
+                _ => {
+                    let found = (0..100).any(|_| {
+                        let r = self.propose();
+                        self.take(r)
+                    });
+                    if found {
+                        continue;
+                    }
+                    self.propose()
+                }
+            };
+            self.keep(r);
+        }
+        self.sheet
+    }
+
+    /// Some boards are added, then the leader's log nears 512.
+    fn fill_log(mut self) -> Guide {
+        for _ in 0..self.rng.below(120) {
+            let r = self.propose();
+            self.take(r);
+        }
+        let b = self.row.registry.leader;
+        let near = LOG_MAX - self.rng.below(16);
+        while b != 0 && self.row.board(b).log.len() < near {
+            let r = record(1, b, 0, value(&mut self.rng));
+            if !self.take(r) {
+                break;
+            }
+        }
+        // The others have far to go.
+        self.weights[8] *= 12;
+        self.weights[2] *= 4;
+        self
+    }
+
+    /// Adds and removes until few epochs are left.
+    fn use_epochs(mut self) -> Guide {
+        let near = EPOCH_MAX - 1 - self.rng.below(20) as u16;
+        while self.row.registry.epoch < near && !self.full() {
+            let step = 3 + self.rng.below(2) as u8;
+            let r = well_formed(&mut self.rng, step, self.most);
+            self.take(r);
+        }
+        // Then as many members as there may be, and mostly what brings a change
+        // of leader.
+        for b in 1..=self.most as u8 {
+            self.take(record(3, b, 0, 0));
+        }
+        self.weights[1..=4].fill(1);
+        self
+    }
+}

@@ -1,0 +1,396 @@
+//! The row and its fifteen steps, in the paper's order and words.
+
+/// Entries of a log. The receipts need no limit of their own: a receipt is given
+/// only where a log is longer than they are.
+pub const LOG_MAX: usize = 512;
+/// Epochs run from 1 to this.
+pub const EPOCH_MAX: u16 = 4000;
+
+#[derive(Clone, Copy, PartialEq, Eq, Debug)]
+pub enum Status {
+    Normal,
+    Waiting,
+    Choosing,
+}
+
+#[derive(Clone, Copy, PartialEq, Eq, Debug)]
+pub enum Stage {
+    Idle,
+    Leader,
+    Boards,
+    Choosing,
+}
+
+/// What the registry says, and what boards and controller take from it.
+#[derive(Clone, Copy, PartialEq, Eq, Debug)]
+pub struct View {
+    pub epoch: u16,
+    pub leader_epoch: u16,
+    /// 1 to 8; 0 is no board.
+    pub leader: u8,
+    /// Bit b - 1 stands for board b.
+    pub members: u8,
+}
+
+#[derive(Clone, PartialEq, Eq, Debug)]
+pub struct Board {
+    pub view: View,
+    /// The leader epoch whose leader's log its own log last followed.
+    pub joined: u16,
+    pub log: Vec<u32>,
+    /// A count for each of the 8 boards.
+    pub counts: [usize; 8],
+}
+
+/// What the controller heard of a board.
+#[derive(Clone, Copy, PartialEq, Eq, Debug)]
+pub struct Heard {
+    /// None is below 0, as in the order of `Option`.
+    pub length: Option<usize>,
+    pub joined: u16,
+}
+
+#[derive(Clone, PartialEq, Eq, Debug)]
+pub struct Control {
+    pub view: View,
+    pub stage: Stage,
+    pub heard: [Heard; 8],
+}
+
+#[derive(Clone, PartialEq, Eq, Debug)]
+pub struct Row {
+    pub registry: View,
+    pub status: Status,
+    pub control: Control,
+    pub boards: [Board; 8],
+    pub receipts: Vec<u32>,
+}
+
+/// A majority of n boards is n/2 rounded down, plus 1.
+pub fn majority(n: u32) -> u32 {
+    n / 2 + 1
+}
+
+/// Where board b, 1 to 8, stands in an array of eight.
+fn at(b: u8) -> usize {
+    usize::from(b) - 1
+}
+
+const UNHEARD: [Heard; 8] = [Heard {
+    length: None,
+    joined: 0,
+}; 8];
+
+/// A check of a step: where it does not hold, the step is refused with `n`.
+macro_rules! check {
+    ($holds:expr, $n:literal) => {
+        if !$holds {
+            return $n;
+        }
+    };
+}
+
+impl View {
+    pub fn has(&self, b: u8) -> bool {
+        self.members & (1 << at(b)) != 0
+    }
+
+    pub fn size(&self) -> u32 {
+        self.members.count_ones()
+    }
+
+    /// Does `holds` hold for a majority of the members?
+    fn majority_of(&self, holds: impl Fn(u8) -> bool) -> bool {
+        let number = (1..=8).filter(|&b| self.has(b) && holds(b)).count();
+        number as u32 >= majority(self.size())
+    }
+}
+
+impl Row {
+    /// Step 0, the opening with board b, or refusal 1.
+    pub fn open(b: u8) -> Result<Row, u8> {
+        if !(1..=8).contains(&b) {
+            return Err(1);
+        }
+        let view = View {
+            epoch: 1,
+            leader_epoch: 1,
+            leader: b,
+            members: 1 << at(b),
+        };
+        let board = Board {
+            view,
+            joined: 1,
+            log: Vec::new(),
+            counts: [0; 8],
+        };
+        Ok(Row {
+            registry: view,
+            status: Status::Normal,
+            control: Control {
+                view,
+                stage: Stage::Idle,
+                heard: UNHEARD,
+            },
+            boards: [(); 8].map(|_| board.clone()),
+            receipts: Vec::new(),
+        })
+    }
+
+    pub fn board(&self, b: u8) -> &Board {
+        &self.boards[at(b)]
+    }
+
+    fn board_mut(&mut self, b: u8) -> &mut Board {
+        &mut self.boards[at(b)]
+    }
+
+    /// One record after the opening: the answer, 0 if accepted. A refused step
+    /// leaves the row as it was. [1] comes before a step's own checks.
+    pub fn step(&mut self, record: &[u8; 8]) -> u8 {
+        match *record {
+            [1, b @ 1..=8, 0, 0, value @ ..] => self.append(b, u32::from_le_bytes(value)),
+            [2, b @ 1..=8, 0, 0, 0, 0, 0, 0] => self.receipt(b),
+            [3, b @ 1..=8, 0, 0, 0, 0, 0, 0] => self.add(b),
+            [4, b @ 1..=8, 0, 0, 0, 0, 0, 0] => self.remove(b),
+            [5, 0, 0, 0, 0, 0, 0, 0] => self.change_leader(),
+            [6, b @ 1..=8, 0, 0, 0, 0, 0, 0] => self.board_news(b),
+            [7, b @ 1..=8, 0, 0, 0, 0, 0, 0] => self.join(b),
+            [8, b @ 1..=8, 0, 0, 0, 0, 0, 0] => self.receive(b),
+            [9, a @ 1..=8, b @ 1..=8, 0, 0, 0, 0, 0] if a != b => self.count(a, b),
+            [10, 0, 0, 0, 0, 0, 0, 0] => self.controller_news(),
+            [11, 0, 0, 0, 0, 0, 0, 0] => self.read_leader(),
+            [12, b @ 1..=8, 0, 0, 0, 0, 0, 0] => self.read(b),
+            [13, 0, 0, 0, 0, 0, 0, 0] => self.set_normal(),
+            [14, b @ 1..=8, 0, 0, 0, 0, 0, 0] => self.hear(b),
+            [15, b @ 1..=8, 0, 0, 0, 0, 0, 0] => self.install(b),
+            // a field outside its values, a equal to b, step 0 in mid-sheet
+            _ => 1,
+        }
+    }
+
+    /// Step 1: append b, value.
+    fn append(&mut self, b: u8, value: u32) -> u8 {
+        let board = self.board_mut(b);
+        check!(board.view.leader == b, 8);
+        check!(board.log.len() < LOG_MAX, 13);
+        board.log.push(value);
+        board.counts[at(b)] = board.log.len();
+        0
+    }
+
+    /// Step 2: receipt by b.
+    fn receipt(&mut self, b: u8) -> u8 {
+        let given = self.receipts.len();
+        let board = self.board(b);
+        check!(board.view.leader == b, 8);
+        check!(board.log.len() > given, 12);
+        check!(board.view.majority_of(|m| board.counts[at(m)] > given), 14);
+        self.receipts.push(board.log[given]);
+        0
+    }
+
+    /// Step 3: add b.
+    fn add(&mut self, b: u8) -> u8 {
+        check!(self.status != Status::Choosing, 4);
+        check!(!self.registry.has(b), 5);
+        check!(self.registry.epoch < EPOCH_MAX, 7);
+        self.registry.epoch += 1;
+        self.registry.members |= 1 << at(b);
+        self.status = Status::Waiting;
+        0
+    }
+
+    /// Step 4: remove b.
+    fn remove(&mut self, b: u8) -> u8 {
+        check!(self.status != Status::Choosing, 4);
+        check!(self.registry.has(b), 5);
+        check!(self.registry.leader != b, 6);
+        check!(self.registry.epoch < EPOCH_MAX, 7);
+        self.registry.epoch += 1;
+        self.registry.members &= !(1 << at(b));
+        // Normal if exactly one member is left, else waiting.
+        self.status = match self.registry.size() {
+            1 => Status::Normal,
+            _ => Status::Waiting,
+        };
+        0
+    }
+
+    /// Step 5: change leader.
+    fn change_leader(&mut self) -> u8 {
+        check!(self.status == Status::Normal, 4);
+        check!(self.registry.size() >= 2, 6);
+        check!(self.registry.epoch < EPOCH_MAX, 7);
+        let registry = &mut self.registry;
+        registry.epoch += 1;
+        registry.members &= !(1 << at(registry.leader));
+        if registry.size() == 1 {
+            registry.leader = registry.members.trailing_zeros() as u8 + 1;
+            registry.leader_epoch = registry.epoch;
+        } else {
+            registry.leader = 0;
+            self.status = Status::Choosing;
+        }
+        0
+    }
+
+    /// Step 6: board b takes news.
+    fn board_news(&mut self, b: u8) -> u8 {
+        let news = self.registry;
+        let board = self.board_mut(b);
+        check!(board.view.epoch < news.epoch, 12);
+        let changed = board.view.leader_epoch != news.leader_epoch;
+        board.view = news;
+        if changed {
+            board.counts = [0; 8];
+            board.counts[at(b)] = board.log.len();
+            if news.leader == b {
+                board.joined = news.leader_epoch;
+            }
+        }
+        0
+    }
+
+    /// Step 7: join b.
+    fn join(&mut self, b: u8) -> u8 {
+        let board = self.board(b);
+        let l = board.view.leader;
+        check!(l != 0 && l != b, 9);
+        let leader = self.board(l);
+        check!(board.view.has(b), 5);
+        check!(board.view.leader_epoch == leader.view.leader_epoch, 10);
+        check!(board.joined != board.view.leader_epoch, 11);
+        let both = board.log.iter().zip(&leader.log);
+        let shared = both.take_while(|(own, led)| own == led).count();
+        let board = self.board_mut(b);
+        board.log.truncate(shared);
+        board.joined = board.view.leader_epoch;
+        0
+    }
+
+    /// Step 8: receive b.
+    fn receive(&mut self, b: u8) -> u8 {
+        let board = self.board(b);
+        let l = board.view.leader;
+        check!(l != 0 && l != b, 9);
+        let leader = self.board(l);
+        check!(board.view.has(b) && leader.view.has(b), 5);
+        check!(board.view.leader_epoch == leader.view.leader_epoch, 10);
+        check!(board.joined == board.view.leader_epoch, 11);
+        check!(board.log.len() < leader.log.len(), 12);
+        let entry = leader.log[board.log.len()];
+        self.board_mut(b).log.push(entry);
+        0
+    }
+
+    /// Step 9: leader a counts b.
+    fn count(&mut self, a: u8, b: u8) -> u8 {
+        let (leader, board) = (self.board(a), self.board(b));
+        check!(leader.view.leader == a, 8);
+        check!(board.view.has(b), 5);
+        check!(leader.view.leader_epoch == board.view.leader_epoch, 10);
+        check!(board.joined == board.view.leader_epoch, 11);
+        let length = board.log.len();
+        check!(leader.counts[at(b)] < length, 12);
+        self.board_mut(a).counts[at(b)] = length;
+        0
+    }
+
+    /// Step 10: the controller takes news.
+    fn controller_news(&mut self) -> u8 {
+        check!(self.control.view.epoch < self.registry.epoch, 12);
+        self.control = Control {
+            view: self.registry,
+            stage: match self.status {
+                Status::Normal => Stage::Idle,
+                Status::Waiting => Stage::Leader,
+                Status::Choosing => Stage::Choosing,
+            },
+            heard: UNHEARD,
+        };
+        0
+    }
+
+    /// Step 11: the controller reads its leader.
+    fn read_leader(&mut self) -> u8 {
+        check!(self.control.stage == Stage::Leader, 15);
+        let l = self.control.view.leader;
+        let leader = self.board(l);
+        check!(leader.view.epoch == self.control.view.epoch, 16);
+        self.control.heard[at(l)] = Heard {
+            length: Some(leader.log.len()),
+            joined: 0,
+        };
+        self.control.stage = Stage::Boards;
+        0
+    }
+
+    /// Step 12: the controller reads b.
+    fn read(&mut self, b: u8) -> u8 {
+        let (control, board) = (&self.control, self.board(b));
+        check!(control.stage == Stage::Boards, 15);
+        check!(control.view.leader != b, 6);
+        check!(control.view.has(b), 5);
+        check!(board.joined == control.view.leader_epoch, 11);
+        let length = Some(board.log.len());
+        check!(control.heard[at(b)].length < length, 12);
+        self.control.heard[at(b)] = Heard { length, joined: 0 };
+        0
+    }
+
+    /// Step 13: set normal.
+    fn set_normal(&mut self) -> u8 {
+        let (control, registry) = (&mut self.control, &mut self.registry);
+        check!(control.stage == Stage::Boards, 15);
+        check!(control.view.epoch == registry.epoch, 16);
+        // At stage boards the leader is heard, so a length not below its is heard too.
+        let least = control.heard[at(control.view.leader)].length;
+        let heard = |m| control.heard[at(m)].length >= least;
+        check!(control.view.majority_of(heard), 14);
+        check!(registry.epoch < EPOCH_MAX, 7);
+        registry.epoch += 1;
+        self.status = Status::Normal;
+        control.stage = Stage::Idle;
+        control.heard = UNHEARD;
+        control.view.epoch = registry.epoch;
+        0
+    }
+
+    /// Step 14: the controller hears b.
+    fn hear(&mut self, b: u8) -> u8 {
+        let (control, board) = (&self.control, self.board(b));
+        check!(control.stage == Stage::Choosing, 15);
+        check!(control.view.has(b), 5);
+        check!(board.view.epoch == control.view.epoch, 16);
+        let length = Some(board.log.len());
+        check!(control.heard[at(b)].length < length, 12);
+        let joined = board.joined;
+        self.control.heard[at(b)] = Heard { length, joined };
+        0
+    }
+
+    /// Step 15: install b.
+    fn install(&mut self, b: u8) -> u8 {
+        let (control, registry) = (&mut self.control, &mut self.registry);
+        check!(control.stage == Stage::Choosing, 15);
+        check!(control.view.has(b), 5);
+        check!(control.view.epoch == registry.epoch, 16);
+        // Ranks go by joined epoch first, then length.
+        let rank = |m| (control.heard[at(m)].joined, control.heard[at(m)].length);
+        let heard = |m| control.heard[at(m)].length.is_some();
+        let not_above = |m| heard(m) && rank(m) <= rank(b);
+        check!(heard(b) && control.view.majority_of(not_above), 14);
+        check!(registry.epoch < EPOCH_MAX, 7);
+        registry.epoch += 1;
+        registry.leader = b;
+        registry.leader_epoch = registry.epoch;
+        self.status = Status::Waiting;
+        control.view.epoch = registry.epoch;
+        control.view.leader = b;
+        control.view.leader_epoch = registry.epoch;
+        control.stage = Stage::Leader;
+        control.heard = UNHEARD;
+        0
+    }
+}
