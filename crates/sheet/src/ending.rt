@@ -1,0 +1,56 @@
+// The lines after the answers, from the row and the committed list. Inner layer: callers see to the room.
+
+ghost use Prim.Native.Nat.{_+_, _≤_};
+ghost use lib.ListN.{length, take};
+ghost use Rattle.cluster.specs.Layout.{viewOf};
+ghost use Rattle.text.specs.Text.{Wrote};
+ghost use Rattle.sheet.specs.Listing.{lateWord, boardText, valuesText, receiptsLine};
+ghost use Rattle.sheet.specs.Ending.{replicaText, replicasText, endingText};
+use cluster::Cluster;
+use cluster::View;
+
+// Writes whether a replica is late.
+fn put_late(out: &mut [u8], at: usize, late: bool) -> usize
+    requires { ⌜ at + length (lateWord late) ≤ length (now out) ⌝ }
+    ensures { λ r. ⌜ Wrote (now (out .entry)) at (lateWord late) (now (out .exit)) r ⌝ }
+{
+    if late {
+        return text::put_bytes(&mut *out, at, b"late");
+    }
+    text::put_bytes(&mut *out, at, b"current")
+}
+
+// Writes the line of a replica: its number, its view, its joined epoch, its log's length, whether it is late.
+fn put_board(out: &mut [u8], at: usize, b: u8, v: View, joined: u16, len: u16, late: bool) -> usize
+    requires { ⌜ at + length (boardText b (viewOf v) joined len late) ≤ length (now out) ⌝ }
+    ensures { λ r. ⌜ Wrote (now (out .entry)) at (boardText b (viewOf v) joined len late) (now (out .exit)) r ⌝ }
+{
+    let p0 = text::put_bytes(&mut *out, at, b"board ");
+    let p1 = text::put_number(&mut *out, p0, b as u32);
+    let p2 = text::put_byte(&mut *out, p1, 32);
+    let p3 = crate::put_view(&mut *out, p2, v);
+    let p4 = text::put_byte(&mut *out, p3, 32);
+    let p5 = text::put_number(&mut *out, p4, joined as u32);
+    let p6 = text::put_byte(&mut *out, p5, 32);
+    let p7 = text::put_number(&mut *out, p6, len as u32);
+    let p8 = text::put_byte(&mut *out, p7, 32);
+    let p9 = put_late(&mut *out, p8, late);
+    text::put_byte(&mut *out, p9, 10)
+}
+
+// Writes the line of the replica b.
+fn put_replica(out: &mut [u8], at: usize, row: Cluster, b: u8) -> usize
+    requires { ⌜ (1 ≤ b) × (b ≤ 8) × (at + length (replicaText row b) ≤ length (now out)) ⌝ }
+    ensures { λ r. ⌜ Wrote (now (out .entry)) at (replicaText row b) (now (out .exit)) r ⌝ }
+{
+    let i = (b - 1) as usize;
+    let views = row.views;
+    let joins = row.joined;
+    let lens = row.len;
+    let g = row.registry;
+    let w = g.view;
+    let v = views[i];
+    let j = joins[i];
+    let n = lens[i];
+    put_board(&mut *out, at, b, v, j, n, v.epoch < w.epoch)
+}
