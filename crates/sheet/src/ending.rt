@@ -54,3 +54,18 @@ fn put_replica(out: &mut [u8], at: usize, row: Cluster, b: u8) -> usize
     let n = lens[i];
     put_board(&mut *out, at, b, v, j, n, v.epoch < w.epoch)
 }
+
+// Writes the lines of the eight replicas.
+fn put_replicas(out: &mut [u8], at: usize, row: Cluster) -> usize
+    requires { ⌜ at + length (replicasText row) ≤ length (now out) ⌝ }
+    ensures { λ r. ⌜ Wrote (now (out .entry)) at (replicasText row) (now (out .exit)) r ⌝ }
+{
+    let p1 = put_replica(&mut *out, at, row, 1);
+    let p2 = put_replica(&mut *out, p1, row, 2);
+    let p3 = put_replica(&mut *out, p2, row, 3);
+    let p4 = put_replica(&mut *out, p3, row, 4);
+    let p5 = put_replica(&mut *out, p4, row, 5);
+    let p6 = put_replica(&mut *out, p5, row, 6);
+    let p7 = put_replica(&mut *out, p6, row, 7);
+    put_replica(&mut *out, p7, row, 8)
+}
