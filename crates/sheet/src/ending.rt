@@ -69,3 +69,18 @@ fn put_replicas(out: &mut [u8], at: usize, row: Cluster) -> usize
     let p7 = put_replica(&mut *out, p6, row, 7);
     put_replica(&mut *out, p7, row, 8)
 }
+
+// Writes the first n values of a list.
+fn put_values(out: &mut [u8], at: usize, list: &[u32], n: usize) -> usize
+    requires { ⌜ (n ≤ length (now list)) × (at + length (valuesText (take n (now list))) ≤ length (now out)) ⌝ }
+    ensures { λ r. ⌜ Wrote (now (out .entry)) at (valuesText (take n (now (list .entry)))) (now (out .exit)) r ⌝ }
+{
+    let mut i = 0;
+    let mut p = at;
+    while i < n {
+        let q = text::put_byte(&mut *out, p, 32);
+        p = text::put_number(&mut *out, q, list[i]);
+        i += 1;
+    }
+    p
+}
