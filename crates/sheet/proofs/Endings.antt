@@ -12,7 +12,7 @@ use Rattle.cluster.specs.Layout.{viewOf, noView}
 use Rattle.cluster.proofs.Laws.{at-index}
 use Rattle.text.specs.Text.{Text, Wrote, digits}
 use Rattle.text.proofs.Laws.{over-length, rest}
-use Rattle.sheet.specs.Listing.{space, boardText, valuesText}
+use Rattle.sheet.specs.Listing.{word, space, newline, boardText, valuesText, receiptsLine}
 use Rattle.sheet.specs.Ending.{replicaText}
 
 -- A writer leaves the slice as long as it was.
@@ -55,3 +55,8 @@ pub values-room :
     → at + length (valuesText (take n s)) ≤ length d → p + length (space ++ (digits (getD s i 0) ++ valuesLeft s n i)) ≤ length e
 values-room {d} {e} {at} {p} s n i h k w r =
     rest (valuesText (take i s)) (space ++ (digits (getD s i 0) ++ valuesLeft s n i)) w (subst (λ t. at + length t ≤ length d) (values-split s n i h k) r)
+
+-- The line of n receipts.
+pub receipts-is : (s : List ℕ) (n : ℕ) → n ≤ length s → receiptsLine (take n s) ≡ word "receipts " ++ (digits n ++ (valuesText (take n s) ++ newline))
+unfolding receiptsLine
+receipts-is s n h = rw (length-take-le n s h)

@@ -84,3 +84,14 @@ fn put_values(out: &mut [u8], at: usize, list: &[u32], n: usize) -> usize
     }
     p
 }
+
+// Writes the line of the receipts: how many, and the values.
+fn put_receipts(out: &mut [u8], at: usize, list: &[u32], n: u16) -> usize
+    requires { ⌜ (n ≤ length (now list)) × (at + length (receiptsLine (take n (now list))) ≤ length (now out)) ⌝ }
+    ensures { λ r. ⌜ Wrote (now (out .entry)) at (receiptsLine (take n (now (list .entry)))) (now (out .exit)) r ⌝ }
+{
+    let a = text::put_bytes(&mut *out, at, b"receipts ");
+    let b = text::put_number(&mut *out, a, n as u32);
+    let c = put_values(&mut *out, b, list, n as usize);
+    text::put_byte(&mut *out, c, 10)
+}
