@@ -95,3 +95,17 @@ fn put_receipts(out: &mut [u8], at: usize, list: &[u32], n: u16) -> usize
     let c = put_values(&mut *out, b, list, n as usize);
     text::put_byte(&mut *out, c, 10)
 }
+
+// Writes the ending at the start of a slice: the registry, the controller, the replicas, the receipts.
+pub fn put_ending(out: &mut [u8], row: Cluster, list: &[u32]) -> usize
+    requires { ⌜ (row .count ≤ length (now list)) × (length (endingText row (now list)) ≤ length (now out)) ⌝ }
+    ensures { λ r. ⌜ Wrote (now (out .entry)) 0 (endingText row (now (list .entry))) (now (out .exit)) r ⌝ }
+{
+    let g = row.registry;
+    let k = row.controller;
+    let n = row.count;
+    let a = crate::put_registry(&mut *out, 0, g);
+    let b = crate::put_control(&mut *out, a, k);
+    let c = put_replicas(&mut *out, b, row);
+    put_receipts(&mut *out, c, list, n)
+}
