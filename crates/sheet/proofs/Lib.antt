@@ -1,3 +1,4 @@
 pub mod Records
 pub mod Playing
 pub mod Lines
+pub mod Endings

@@ -5,9 +5,10 @@ ghost use Rattle.members.specs.Mask.{bits};
 ghost use Rattle.cluster.specs.Layout.{statusOf, stageOf, viewOf, registryOf, controllerOf};
 ghost use Rattle.steps.specs.Call.{recordOf};
 ghost use Rattle.text.specs.Text.{Wrote};
-ghost use Rattle.sheet.specs.Listing.{SampleHolds, RoomHolds, RefusedHolds, number, recordAt, wholeRecords, isOpening, isSheet, memberText, membersText, viewText, statusWord, stageWord, answerLine, registryLine, controlLine};
+ghost use Rattle.sheet.specs.Listing.{SampleHolds, RoomHolds, RefusedHolds, number, recordAt, wholeRecords, isOpening, isSheet, memberText, membersText, viewText, statusWord, stageWord, answerLine, registryLine, controlLine, result, left};
 
 pub mod answers;
+pub mod ending;
 pub mod running;
 
 use cluster::Controller;
@@ -181,4 +182,23 @@ pub fn put_control(out: &mut [u8], at: usize, k: Controller) -> usize
     let c = text::put_byte(&mut *out, b, 32);
     let d = put_stage(&mut *out, c, g);
     text::put_byte(&mut *out, d, 10)
+}
+
+// The call of the hub's firmware: sheet in, listing out. It returns the listing's length, 2 for a sheet of wrong length or without
+// a valid opening, 3 for a slice that is shorter than the listing. Nothing is written before both are decided: the sheet is run in
+// places of this call's own, and the ending, whose length is then known, is written aside.
+#[no_mangle]
+pub extern "C" fn run_sheet(sheet: &[u8], listing: &mut [u8]) -> usize
+    ensures { λ r. ⌜ (r ≡ result (now (sheet .entry)) (now (listing .entry))) × (now (listing .exit) ≡ left (now (sheet .entry)) (now (listing .entry))) ⌝ }
+{
+    if !is_sheet(sheet) {
+        return 2;
+    }
+    let mut store = [0u32; 4096];
+    let mut list = [0u32; 512];
+    let mut answers = [0u8; 4096];
+    let row = running::play(sheet, &mut store, &mut list, &mut answers);
+    let mut end = [0u8; 6656];
+    let n = ending::put_ending(&mut end, row, &list);
+    answers::deliver(sheet, &answers, &end[..n], listing)
 }
