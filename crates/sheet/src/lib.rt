@@ -6,14 +6,15 @@ ghost use Rattle.cluster.specs.Layout.{statusOf, stageOf, viewOf, registryOf, c
 ghost use Rattle.steps.specs.Call.{recordOf};
 ghost use Rattle.text.specs.Text.{Wrote};
 ghost use Rattle.sheet.specs.Listing.{SampleHolds, RoomHolds, RefusedHolds, number, recordAt, wholeRecords, isOpening, isSheet, memberText, membersText, viewText, statusWord, stageWord, answerLine, registryLine, controlLine};
+
+pub mod ending;
+
 use cluster::Controller;
 use cluster::Registry;
 use cluster::Stage;
 use cluster::Status;
 use cluster::View;
 use steps::Record;
-
-pub mod ending;
 
 // The paper's sample sheet has the paper's listing, byte for byte; short slices and bad openings are refused. By the definitions: nothing to run.
 pub fn sample()
