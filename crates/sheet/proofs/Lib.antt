@@ -2,3 +2,4 @@ pub mod Records
 pub mod Playing
 pub mod Lines
 pub mod Endings
+pub mod Listings

@@ -16,6 +16,7 @@ use Rattle.model.specs.Runs.{run, answers}
 use Rattle.model.specs.Ranges.{inRange}
 use Rattle.model.specs.Claim.{after}
 use Rattle.model.proofs.Tests.{split-and, is-true, of-true}
+use Rattle.model.proofs.Range.{to-ranges}
 use Rattle.model.proofs.Bounds.{in-range}
 use Rattle.model.proofs.Theorem.{run-append}
 use Rattle.cluster.specs.declared.Cluster.{Cluster}
@@ -82,16 +83,19 @@ module _ (s : Text) (sheet : isSheet s ≡ true) (k : ℕ) (row : Cluster) (stor
   abbrev b : ℕ
   b = recordAt s .board
 
-  fit : inRange (outlineOf row) ≡ true
-  fit = ap inRange (h .outlined) ∙ is-true (inRange (outline (stateAt s k))) (in-range values b (sheet-real s sheet) (following s k))
+  pub ran-fits : inRange (outlineOf row) ≡ true
+  ran-fits = ap inRange (h .outlined) ∙ is-true (inRange (outline (stateAt s k))) (in-range values b (sheet-real s sheet) (following s k))
+
+  pub ran-count : row .count ≤ length list
+  ran-count = omega (arith, h .long, to-ranges (outlineOf row) (of-true ran-fits) .committed)
 
   pub ran-ready : Shape row → Ready row
-  ran-ready shape = ready row shape fit
+  ran-ready shape = ready row shape ran-fits
 
   -- The record r that stands next, and the call of it.
   module _ (r : Record) (place : r ≡ recordAt (drop (8 * k + 8) s)) {x : Outcome} {store′ list′ : List ℕ} (t : Turns (stepOf r) row store list x store′ list′) (small : k + 1 < length ns) where
     did : Did (stepOf r) row store list x store′ list′
-    did = did-step (stepOf r) row store list (all-tests row store list (h .full) (h .long) fit) (h .full) (h .long) t
+    did = did-step (stepOf r) row store list (all-tests row store list (h .full) (h .long) ran-fits) (h .full) (h .long) t
 
     more : following s (suc k) ≡ following s k ++ (r ∷ [])
     more = following-suc s k ∙ ap (λ q. following s k ++ (q ∷ [])) (sym place)
@@ -103,7 +107,7 @@ module _ (s : Text) (sheet : isSheet s ≡ true) (k : ℕ) (row : Cluster) (stor
     pub ran-more : Ran s (suc k) (x .row) store′ list′ (set ns (k + 1) (x .answer))
     ran-more = rw (add-one k) record {
       state = t .state ∙ ap (λ y. step values y (stepOf r)) (h .state) ∙ reached;
-      outlined = did .outlined ∙ ap (λ u. cond u (outline (step values (abs row store list) (stepOf r))) (outlineOf row)) (all-tests row store list (h .full) (h .long) fit)
+      outlined = did .outlined ∙ ap (λ u. cond u (outline (step values (abs row store list) (stepOf r))) (outlineOf row)) (all-tests row store list (h .full) (h .long) ran-fits)
           ∙ ap (λ y. outline (step values y (stepOf r))) (h .state) ∙ ap outline reached;
       answered = take-suc-set ns (suc k) (x .answer) (omega arith) ∙ ap₂ (λ xs n. xs ++ (n ∷ [])) (h .answered) (t .answer ∙ ap (λ o. answerOf o (stepOf r)) (h .outlined))
           ∙ ap (λ xs. 0 ∷ xs) (sym (answers-suc (opened b) (following s k) r) ∙ ap (answers values (opened b)) (sym more));

@@ -10,18 +10,15 @@ use Rattle.sheet.specs.Listing.{registryLine, controlLine, boardText, re
 
 -- The line of the replica b.
 unfoldable pub replicaText : Cluster → ℕ → Text
-unfolding boardText
 replicaText row b =
     boardText b (viewOf (at noView (row .views) b)) (at 0 (row .joined) b) (at 0 (row .len) b) (ltb (at noView (row .views) b .epoch) (row .registry .view .epoch))
 
 -- The lines of the eight.
 unfoldable pub replicasText : Cluster → Text
-unfolding replicaText
 replicasText row =
     replicaText row 1 ++ (replicaText row 2 ++ (replicaText row 3 ++ (replicaText row 4 ++ (replicaText row 5 ++ (replicaText row 6 ++ (replicaText row 7 ++ replicaText row 8))))))
 
 -- All of them: the registry, the controller, the replicas, the receipts. Listing's `ending`, by the law `ending-is`.
 unfoldable pub endingText : Cluster → List ℕ → Text
-unfolding registryLine controlLine replicasText receiptsLine
 endingText row list =
     registryLine (registryOf (row .registry)) ++ (controlLine (controllerOf (row .controller)) ++ (replicasText row ++ receiptsLine (take (row .count) list)))

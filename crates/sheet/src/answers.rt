@@ -51,7 +51,7 @@ pub fn put_answers(out: &mut [u8], sheet: &[u8], answers: &[u8]) -> usize
 
 // Writes the lines of the records and the ending after them, if both fit; else refusal 3. Inner layer: as above, and the ending is short.
 pub fn deliver(sheet: &[u8], answers: &[u8], ending: &[u8], out: &mut [u8]) -> usize
-    requires { ⌜ (length (now sheet) / 8 ≤ 4095) × (length (now sheet) / 8 ≤ length (now answers)) × (length (now ending) ≤ 6656) ⌝ }
+    requires { ⌜ (length (now sheet) / 8 ≤ 4095) × (length (now sheet) / 8 ≤ length (now answers)) × (length (now ending) ≤ 6144) ⌝ }
     ensures { λ r. ⌜ Delivered (lines (now (sheet .entry)) (now (answers .entry)) (length (now (sheet .entry)) / 8) ++ now (ending .entry)) (now (out .entry)) (now (out .exit)) r ⌝ }
 {
     let n = answers_length(sheet, answers) + ending.len();

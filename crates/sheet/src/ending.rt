@@ -1,8 +1,11 @@
 // The lines after the answers, from the row and the committed list. Inner layer: callers see to the room.
 
+ghost use mathlib.Core.Bool.{true};
+ghost use mathlib.Core.Path.{_≡_};
 ghost use Prim.Native.Nat.{_+_, _≤_};
 ghost use lib.ListN.{length, take};
-ghost use Rattle.cluster.specs.Layout.{viewOf};
+ghost use Rattle.model.specs.Ranges.{inRange};
+ghost use Rattle.cluster.specs.Layout.{viewOf, outlineOf};
 ghost use Rattle.text.specs.Text.{Wrote};
 ghost use Rattle.sheet.specs.Listing.{lateWord, boardText, valuesText, receiptsLine};
 ghost use Rattle.sheet.specs.Ending.{replicaText, replicasText, endingText};
@@ -97,7 +100,7 @@ fn put_receipts(out: &mut [u8], at: usize, list: &[u32], n: u16) -> usize
 }
 
 // Writes the ending at the start of a slice: the registry, the controller, the replicas, the receipts.
-pub fn put_ending(out: &mut [u8], row: Cluster, list: &[u32]) -> usize
+fn put_state(out: &mut [u8], row: Cluster, list: &[u32]) -> usize
     requires { ⌜ (row .count ≤ length (now list)) × (length (endingText row (now list)) ≤ length (now out)) ⌝ }
     ensures { λ r. ⌜ Wrote (now (out .entry)) 0 (endingText row (now (list .entry))) (now (out .exit)) r ⌝ }
 {
@@ -108,4 +111,12 @@ pub fn put_ending(out: &mut [u8], row: Cluster, list: &[u32]) -> usize
     let b = crate::put_control(&mut *out, a, k);
     let c = put_replicas(&mut *out, b, row);
     put_receipts(&mut *out, c, list, n)
+}
+
+// The same for any row in range, in a slice that is long enough for all of them.
+pub fn put_ending(out: &mut [u8], row: Cluster, list: &[u32]) -> usize
+    requires { ⌜ (inRange (outlineOf row) ≡ true) × (row .count ≤ length (now list)) × (6144 ≤ length (now out)) ⌝ }
+    ensures { λ r. ⌜ Wrote (now (out .entry)) 0 (endingText row (now (list .entry))) (now (out .exit)) r × (r ≤ 6144) ⌝ }
+{
+    put_state(&mut *out, row, list)
 }

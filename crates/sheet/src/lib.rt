@@ -198,7 +198,7 @@ pub extern "C" fn run_sheet(sheet: &[u8], listing: &mut [u8]) -> usize
     let mut list = [0u32; 512];
     let mut answers = [0u8; 4096];
     let row = running::play(sheet, &mut store, &mut list, &mut answers);
-    let mut end = [0u8; 6656];
+    let mut end = [0u8; 6144];
     let n = ending::put_ending(&mut end, row, &list);
     answers::deliver(sheet, &answers, &end[..n], listing)
 }

@@ -1,0 +1,64 @@
+-- A sheet that was run, and its listing: what was written is what the definition says. Assumes nothing.
+use mathlib.Core.Bool.{Bool, true, false, cond, _&&_}
+use mathlib.Core.List.{List, [], _∷_, _++_, append-assoc}
+use mathlib.Core.Path.{_≡_, refl, sym, subst, ap, ap₂, _∙_}
+use Prim.Native.Nat.{ℕ, suc, _+_, _-_, _/_, _^_, _<_, _≤_}
+use native.Mathlib.Omega.{arith}
+use lib.Dec.{T, leb}
+use lib.ListN.{length, take, getD}
+use Rattle.model.specs.State.{outline, opened, values}
+use Rattle.model.specs.Runs.{answers}
+use Rattle.model.specs.Ranges.{inRange}
+use Rattle.model.specs.Claim.{after, receipts}
+use Rattle.model.proofs.Theorem.{safe}
+use Rattle.cluster.specs.declared.Cluster.{Cluster}
+use Rattle.cluster.specs.Layout.{outlineOf}
+use Rattle.memory.specs.Memory.{abs}
+use Rattle.text.specs.Text.{Text, over, Wrote}
+use Rattle.text.proofs.Laws.{over-holds}
+use Rattle.sheet.specs.Listing.{recordAt, isSheet, answerLine, answerLines, ending, listingOf, listing, result, left}
+use Rattle.sheet.specs.Running.{following, stateAt, Ran, lines, Delivered}
+use Rattle.sheet.specs.Ending.{endingText}
+use Rattle.sheet.proofs.Records.{room}
+use Rattle.sheet.proofs.Playing.{sheet-whole, sheet-real}
+use Rattle.sheet.proofs.Lines.{lines-are}
+use Rattle.sheet.proofs.Endings.{ending-is}
+
+-- What was written aside, read back.
+pub read-back : {d xs e : Text} {r : ℕ} → Wrote d 0 xs e r → r ≤ length d → take r e ≡ xs
+read-back {d} {xs} {e} {r} w h =
+    let n : r ≡ length xs = omega (arith, w .next) in
+    ap₂ take n (w .text) ∙ over-holds d 0 xs (omega (arith, h, n))
+
+-- Refusal 2.
+pub no-sheet : (s out : Text) → isSheet s ≡ false → (2 ≡ result s out) × (out ≡ left s out)
+unfolding result left
+no-sheet s out e = (rw e, rw e)
+
+module _ (s : Text) (e : isSheet s ≡ true) (row : Cluster) (store list ns : List ℕ) (h : Ran s (length s / 8 - 1) row store list ns) where
+  abbrev k : ℕ
+  k = length s / 8 - 1
+
+  some : suc k ≡ length s / 8
+  some = omega (arith, room (length s) (sheet-whole s e))
+
+  -- The list holds the receipts given.
+  kept : take (row .count) list ≡ receipts values (recordAt s .board) (following s k)
+  kept = ap (λ x. x .committed) (h .state) ∙ safe values (recordAt s .board) (sheet-real s e) (following s k) .kept
+
+  pub ended : endingText row list ≡ ending (stateAt s k) (receipts values (recordAt s .board) (following s k))
+  ended = ending-is row store list (h .outlined ∙ ap outline (sym (h .state))) ∙ ap₂ ending (h .state) kept
+
+  pub listed : lines s ns (length s / 8) ++ endingText row list ≡ listing s
+  unfolding listing listingOf
+  listed =
+      ap₂ (λ x y. x ++ y) (ap (lines s ns) (sym some) ∙ lines-are s k row store list ns e h) ended
+      ∙ append-assoc (answerLine 1 0 0) (answerLines 2 (following s k) (answers values (opened (recordAt s .board)) (following s k))) (ending (stateAt s k) (receipts values (recordAt s .board) (following s k)))
+
+  pub delivered : {text out out′ : Text} {r : ℕ} → text ≡ endingText row list → Delivered (lines s ns (length s / 8) ++ text) out out′ r → (r ≡ result s out) × (out′ ≡ left s out)
+  unfolding result left
+  delivered {text} {out} {out′} {r} t d =
+      let l : lines s ns (length s / 8) ++ text ≡ listing s = ap (λ x. lines s ns (length s / 8) ++ x) t ∙ listed in (
+        d .answer ∙ ap (λ x. cond (leb (length x) (length out)) (length x) 3) l ∙ ap (λ t. cond t (cond (leb (length (listing s)) (length out)) (length (listing s)) 3) 2) (sym e),
+        d .left ∙ ap (λ x. cond (leb (length x) (length out)) (over out 0 x) out) l ∙ ap (λ t. cond (t && leb (length (listing s)) (length out)) (over out 0 (listing s)) out) (sym e),
+      )

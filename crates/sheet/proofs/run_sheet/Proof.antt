@@ -1,0 +1,98 @@
+-- `run_sheet` meets its contract: the sheet is run, and what is delivered is its listing. Assumes nothing.
+use mathlib.Core.Path.{_≡_, refl, sym, ap, _∙_}
+use native.Mathlib.Omega.{arith}
+use lib.ListN.{length, length-take}
+use lib.Seq.{length-take-le}
+use denote.Ref.{now}
+use borrow.Author.Tests.{not-true, not-false}
+use Rattle.sheet.proofs.Playing.{sheet-most, ran-fits, ran-count}
+use Rattle.sheet.proofs.Endings.{wrote-length}
+use Rattle.sheet.proofs.Listings.{read-back, no-sheet, delivered}
+use borrow.Author.Needs.{needs}
+use Rattle.sheet.proofs.run_sheet.Statement.{statement}
+use Rattle.sheet.proofs.run_sheet.Tie as tie
+
+is-sheet-requires : tie.Need-is-sheet-requires
+is-sheet-requires c κs = search needs
+
+returns : tie.Need-returns
+returns c =
+    let a = c .before .before .before .before .args in
+    no-sheet (now (a .sheet)) (now (a .listing)) (sym (c .before .is-sheet .ensures) ∙ not-true _ (c .if1 .taken))
+
+slice-aggregate-play : tie.Need-slice-aggregate-play
+slice-aggregate-play c = search needs
+
+slice-aggregate-play-2 : tie.Need-slice-aggregate-play-2
+slice-aggregate-play-2 c = search needs
+
+slice-aggregate-play-3 : tie.Need-slice-aggregate-play-3
+slice-aggregate-play-3 c = search needs
+
+play-requires : tie.Need-play-requires
+play-requires c κs = (sym (c .before .before .before .before .is-sheet .ensures) ∙ not-false _ (c .before .before .before .if1 .left), refl, refl, refl)
+
+slice-aggregate-put-ending : tie.Need-slice-aggregate-put-ending
+slice-aggregate-put-ending c = search needs
+
+slice-aggregate-put-ending-2 : tie.Need-slice-aggregate-put-ending-2
+slice-aggregate-put-ending-2 c = search needs
+
+put-ending-requires : tie.Need-put-ending-requires
+put-ending-requires c κs =
+    let s = now (c .before .before .before .before .before .before .before .before .before .before .before .before .before .args .sheet) in
+    let e = sym (c .before .before .before .before .before .before .before .before .before .before .is-sheet .ensures) ∙ not-false _ (c .before .before .before .before .before .before .before .before .before .if1 .left) in
+    let h = c .before .before .before .before .before .play .ensures in
+    (ran-fits s e _ _ _ _ _ h, ran-count s e _ _ _ _ _ h, omega arith)
+
+slice-aggregate-deliver : tie.Need-slice-aggregate-deliver
+slice-aggregate-deliver c = search needs
+
+array-share-prefix-end : tie.Need-array-share-prefix-end
+array-share-prefix-end c =
+    let w = c .before .before .put-ending .ensures in
+    omega (arith, w .1, wrote-length (w .0))
+
+slice-aggregate-deliver-2 : tie.Need-slice-aggregate-deliver-2
+slice-aggregate-deliver-2 c =
+    let w = c .before .before .before .put-ending .ensures in
+    sym (length-take-le _ _ (omega (arith, w .1, wrote-length (w .0))))
+
+deliver-requires : tie.Need-deliver-requires
+deliver-requires c κs =
+    let s = now (c .before .before .before .before .before .before .before .before .before .before .before .before .before .before .before .before .before .before .args .sheet) in
+    let e = sym (c .before .before .before .before .before .before .before .before .before .before .before .before .before .before .before .is-sheet .ensures) ∙ not-false _ (c .before .before .before .before .before .before .before .before .before .before .before .before .before .before .if1 .left) in
+    let h = c .before .before .before .before .before .before .before .before .before .before .play .ensures in
+    let w = c .before .before .before .before .put-ending .ensures in
+    (sheet-most s e, omega (arith, sheet-most s e, h .room), omega (arith, w .1, length-take (c .before .before .before .before .put-ending .result) (c .before .before .before .before .put-ending .last .0)))
+
+same-length : tie.Need-same-length
+same-length c = search needs
+
+returns-2 : tie.Need-returns-2
+returns-2 c =
+    let s = now (c .before .before .before .before .before .before .before .before .before .before .before .before .before .before .before .before .before .before .before .before .before .args .sheet) in
+    let e = sym (c .before .before .before .before .before .before .before .before .before .before .before .before .before .before .before .before .before .before .is-sheet .ensures) ∙ not-false _ (c .before .before .before .before .before .before .before .before .before .before .before .before .before .before .before .before .before .if1 .left) in
+    let h = c .before .before .before .before .before .before .before .before .before .before .before .before .before .play .ensures in
+    let w = c .before .before .before .before .before .before .before .put-ending .ensures in
+    delivered s e _ _ _ _ h (read-back (w .0) (omega (arith, w .1))) (c .before .before .deliver .ensures)
+
+pub run-sheet-spec : {M : Type 1} → statement M
+run-sheet-spec =
+    tie.close
+    (tie.spec
+    is-sheet-requires
+    returns
+    slice-aggregate-play
+    slice-aggregate-play-2
+    slice-aggregate-play-3
+    play-requires
+    slice-aggregate-put-ending
+    slice-aggregate-put-ending-2
+    put-ending-requires
+    slice-aggregate-deliver
+    array-share-prefix-end
+    slice-aggregate-deliver-2
+    deliver-requires
+    same-length
+    returns-2)
