@@ -6,6 +6,7 @@ use Prim.Native.Nat.{ℕ, suc, _+_, _-_, _/_, _^_, _<_, _≤_}
 use native.Mathlib.Omega.{arith}
 use lib.Dec.{T, leb}
 use lib.ListN.{length, take, getD}
+use borrow.Author.Tests.{leb-true}
 use Rattle.model.specs.State.{outline, opened, values}
 use Rattle.model.specs.Runs.{answers}
 use Rattle.model.specs.Ranges.{inRange}
@@ -15,7 +16,7 @@ use Rattle.cluster.specs.declared.Cluster.{Cluster}
 use Rattle.cluster.specs.Layout.{outlineOf}
 use Rattle.memory.specs.Memory.{abs}
 use Rattle.text.specs.Text.{Text, over, Wrote}
-use Rattle.text.proofs.Laws.{over-holds}
+use Rattle.text.proofs.Laws.{over-holds, over-length}
 use Rattle.sheet.specs.Listing.{recordAt, isSheet, answerLine, answerLines, ending, listingOf, listing, result, left}
 use Rattle.sheet.specs.Running.{following, stateAt, Ran, lines, Delivered}
 use Rattle.sheet.specs.Ending.{endingText}
@@ -62,3 +63,26 @@ module _ (s : Text) (e : isSheet s ≡ true) (row : Cluster) (store list ns : Li
         d .answer ∙ ap (λ x. cond (leb (length x) (length out)) (length x) 3) l ∙ ap (λ t. cond t (cond (leb (length (listing s)) (length out)) (length (listing s)) 3) 2) (sym e),
         d .left ∙ ap (λ x. cond (leb (length x) (length out)) (over out 0 x) out) l ∙ ap (λ t. cond (t && leb (length (listing s)) (length out)) (over out 0 (listing s)) out) (sym e),
       )
+
+-- A result that is no refusal is a length within the slice,
+within : (a t : Bool) (n m : ℕ) → leb n m ≡ t → 3 < cond a (cond t n 3) 2 → cond a (cond t n 3) 2 ≤ m
+within true true n m e h = leb-true n m e
+within true false n m e h = absurd (omega (arith, h))
+within false t n m e h = absurd (omega (arith, h))
+
+result-within : (s out : Text) → 3 < result s out → result s out ≤ length out
+unfolding result
+result-within s out h = within (isSheet s) (leb (length (listing s)) (length out)) (length (listing s)) (length out) refl h
+
+-- and the slice is as long as it was.
+kept-length : (t : Bool) (out xs : Text) → length (cond t (over out 0 xs) out) ≡ length out
+kept-length true out xs = over-length out 0 xs
+kept-length false out xs = refl
+
+left-length : (s out : Text) → length (left s out) ≡ length out
+unfolding left
+left-length s out = kept-length (isSheet s && leb (length (listing s)) (length out)) out (listing s)
+
+-- So a caller can read the listing back.
+pub readable : (s out : Text) {r : ℕ} {out′ : Text} → (r ≡ result s out) × (out′ ≡ left s out) → 4 ≤ r → r ≤ length out′
+readable s out p h = omega (arith, p .0, result-within s out (omega (arith, h, p .0)), ap length (p .1), left-length s out)
