@@ -96,8 +96,7 @@ fn put_receipts(out: &mut [u8], at: usize, list: &[u32], n: u16) -> usize
     text::put_byte(&mut *out, c, 10)
 }
 
-// Writes the ending at the start of a slice: the registry, the controller, the replicas, the receipts. Inner layer: callers see to the room,
-// and that the list has as many values as the row counts.
+// Writes the ending at the start of a slice: the registry, the controller, the replicas, the receipts.
 pub fn put_ending(out: &mut [u8], row: Cluster, list: &[u32]) -> usize
     requires { ⌜ (row .count ≤ length (now list)) × (length (endingText row (now list)) ≤ length (now out)) ⌝ }
     ensures { λ r. ⌜ Wrote (now (out .entry)) 0 (endingText row (now (list .entry))) (now (out .exit)) r ⌝ }

@@ -37,24 +37,24 @@ start2 c = start1 (c .before .before .before .before)
 abbrev start3 : tie.After-put-replicas → tie.Start
 start3 c = start2 (c .before .before .before .before)
 
-put-registry-requires : tie.Need-put-registry-requires
-put-registry-requires c κs = let e = c .before .before .before .before .before in fits _ (registryLine (registryOf (e .args .row .registry))) (text1 e) (room0 e)
-
--- The room that is left after the call j, then the need of the next.
+-- The room that is left after the call j.
 room1 : (c : tie.After-put-registry) → c .put-registry .result + length (text1 (start1 c)) ≤ length (c .put-registry .last .0)
 room1 c = let e = start1 c in rest (registryLine (registryOf (e .args .row .registry))) (text1 e) (c .put-registry .ensures) (room0 e)
-
-put-control-requires : tie.Need-put-control-requires
-put-control-requires c κs = let e = start1 (c .before .before .before) in fits _ (controlLine (controllerOf (e .args .row .controller))) (text2 e) (room1 (c .before .before .before))
 
 room2 : (c : tie.After-put-control) → c .put-control .result + length (text2 (start2 c)) ≤ length (c .put-control .last .0)
 room2 c = let e = start2 c in rest (controlLine (controllerOf (e .args .row .controller))) (text2 e) (c .put-control .ensures) (room1 (c .before .before .before .before))
 
-put-replicas-requires : tie.Need-put-replicas-requires
-put-replicas-requires c κs = let e = start2 (c .before .before .before) in fits _ (replicasText (e .args .row)) (text3 e) (room2 (c .before .before .before))
-
 room3 : (c : tie.After-put-replicas) → c .put-replicas .result + length (text3 (start3 c)) ≤ length (c .put-replicas .last .0)
 room3 c = let e = start3 c in rest (replicasText (e .args .row)) (text3 e) (c .put-replicas .ensures) (room2 (c .before .before .before .before))
+
+put-registry-requires : tie.Need-put-registry-requires
+put-registry-requires c κs = let e = c .before .before .before .before .before in fits _ (registryLine (registryOf (e .args .row .registry))) (text1 e) (room0 e)
+
+put-control-requires : tie.Need-put-control-requires
+put-control-requires c κs = let e = start1 (c .before .before .before) in fits _ (controlLine (controllerOf (e .args .row .controller))) (text2 e) (room1 (c .before .before .before))
+
+put-replicas-requires : tie.Need-put-replicas-requires
+put-replicas-requires c κs = let e = start2 (c .before .before .before) in fits _ (replicasText (e .args .row)) (text3 e) (room2 (c .before .before .before))
 
 put-receipts-requires : tie.Need-put-receipts-requires
 put-receipts-requires c κs = let e = start3 (c .before .before .before) in (e .pre .0, room3 (c .before .before .before))
