@@ -73,38 +73,6 @@ start9 c = start8 (c .before .before .before .before)
 abbrev start10 : tie.After-put-late → tie.Start
 start10 c = start9 (c .before .before .before .before)
 
--- The room that is left after the call j.
-room1 : (c : tie.After-put-bytes) → c .put-bytes .result + length (text1 (start1 c)) ≤ length (c .put-bytes .last .0)
-unfolding boardText
-room1 c = let e = start1 c in rest (word "board ") (text1 e) (c .put-bytes .ensures) (e .pre)
-
-room2 : (c : tie.After-put-number) → c .put-number .result + length (text2 (start2 c)) ≤ length (c .put-number .last .0)
-room2 c = let e = start2 c in rest (digits (e .args .b)) (text2 e) (c .put-number .ensures) (room1 (c .before .before .before .before))
-
-room3 : (c : tie.After-put-byte) → c .put-byte .result + length (text3 (start3 c)) ≤ length (c .put-byte .last .0)
-room3 c = let e = start3 c in rest space (text3 e) (c .put-byte .ensures) (room2 (c .before .before .before .before))
-
-room4 : (c : tie.After-put-view) → c .put-view .result + length (text4 (start4 c)) ≤ length (c .put-view .last .0)
-room4 c = let e = start4 c in rest (viewText (viewOf (e .args .v))) (text4 e) (c .put-view .ensures) (room3 (c .before .before .before .before))
-
-room5 : (c : tie.After-put-byte2) → c .put-byte2 .result + length (text5 (start5 c)) ≤ length (c .put-byte2 .last .0)
-room5 c = let e = start5 c in rest space (text5 e) (c .put-byte2 .ensures) (room4 (c .before .before .before .before))
-
-room6 : (c : tie.After-put-number2) → c .put-number2 .result + length (text6 (start6 c)) ≤ length (c .put-number2 .last .0)
-room6 c = let e = start6 c in rest (digits (e .args .joined)) (text6 e) (c .put-number2 .ensures) (room5 (c .before .before .before .before))
-
-room7 : (c : tie.After-put-byte3) → c .put-byte3 .result + length (text7 (start7 c)) ≤ length (c .put-byte3 .last .0)
-room7 c = let e = start7 c in rest space (text7 e) (c .put-byte3 .ensures) (room6 (c .before .before .before .before))
-
-room8 : (c : tie.After-put-number3) → c .put-number3 .result + length (text8 (start8 c)) ≤ length (c .put-number3 .last .0)
-room8 c = let e = start8 c in rest (digits (e .args .len)) (text8 e) (c .put-number3 .ensures) (room7 (c .before .before .before .before))
-
-room9 : (c : tie.After-put-byte4) → c .put-byte4 .result + length (text9 (start9 c)) ≤ length (c .put-byte4 .last .0)
-room9 c = let e = start9 c in rest space (text9 e) (c .put-byte4 .ensures) (room8 (c .before .before .before .before))
-
-room10 : (c : tie.After-put-late) → c .put-late .result + length (text10 (start10 c)) ≤ length (c .put-late .last .0)
-room10 c = let e = start10 c in rest (lateWord (e .args .late)) (text10 e) (c .put-late .ensures) (room9 (c .before .before .before .before))
-
 slice-aggregate-put-bytes : tie.Need-slice-aggregate-put-bytes
 slice-aggregate-put-bytes c = search needs
 
@@ -112,32 +80,64 @@ put-bytes-requires : tie.Need-put-bytes-requires
 unfolding boardText
 put-bytes-requires c κs = let e = c .before .before .before in fits _ (word "board ") (text1 e) (e .pre)
 
+-- The room that is left after the call j, then the need of the next.
+room1 : (c : tie.After-put-bytes) → c .put-bytes .result + length (text1 (start1 c)) ≤ length (c .put-bytes .last .0)
+unfolding boardText
+room1 c = let e = start1 c in rest (word "board ") (text1 e) (c .put-bytes .ensures) (e .pre)
+
 put-number-requires : tie.Need-put-number-requires
 put-number-requires c κs = let e = start1 (c .before .before .before) in fits _ (digits (e .args .b)) (text2 e) (room1 (c .before .before .before))
+
+room2 : (c : tie.After-put-number) → c .put-number .result + length (text2 (start2 c)) ≤ length (c .put-number .last .0)
+room2 c = let e = start2 c in rest (digits (e .args .b)) (text2 e) (c .put-number .ensures) (room1 (c .before .before .before .before))
 
 put-byte-requires : tie.Need-put-byte-requires
 put-byte-requires c κs = let e = start2 (c .before .before .before) in byte _ (fits _ space (text3 e) (room2 (c .before .before .before)))
 
+room3 : (c : tie.After-put-byte) → c .put-byte .result + length (text3 (start3 c)) ≤ length (c .put-byte .last .0)
+room3 c = let e = start3 c in rest space (text3 e) (c .put-byte .ensures) (room2 (c .before .before .before .before))
+
 put-view-requires : tie.Need-put-view-requires
 put-view-requires c κs = let e = start3 (c .before .before .before) in fits _ (viewText (viewOf (e .args .v))) (text4 e) (room3 (c .before .before .before))
+
+room4 : (c : tie.After-put-view) → c .put-view .result + length (text4 (start4 c)) ≤ length (c .put-view .last .0)
+room4 c = let e = start4 c in rest (viewText (viewOf (e .args .v))) (text4 e) (c .put-view .ensures) (room3 (c .before .before .before .before))
 
 put-byte-requires-2 : tie.Need-put-byte-requires-2
 put-byte-requires-2 c κs = let e = start4 (c .before .before .before) in byte _ (fits _ space (text5 e) (room4 (c .before .before .before)))
 
+room5 : (c : tie.After-put-byte2) → c .put-byte2 .result + length (text5 (start5 c)) ≤ length (c .put-byte2 .last .0)
+room5 c = let e = start5 c in rest space (text5 e) (c .put-byte2 .ensures) (room4 (c .before .before .before .before))
+
 put-number-requires-2 : tie.Need-put-number-requires-2
 put-number-requires-2 c κs = let e = start5 (c .before .before .before) in fits _ (digits (e .args .joined)) (text6 e) (room5 (c .before .before .before))
+
+room6 : (c : tie.After-put-number2) → c .put-number2 .result + length (text6 (start6 c)) ≤ length (c .put-number2 .last .0)
+room6 c = let e = start6 c in rest (digits (e .args .joined)) (text6 e) (c .put-number2 .ensures) (room5 (c .before .before .before .before))
 
 put-byte-requires-3 : tie.Need-put-byte-requires-3
 put-byte-requires-3 c κs = let e = start6 (c .before .before .before) in byte _ (fits _ space (text7 e) (room6 (c .before .before .before)))
 
+room7 : (c : tie.After-put-byte3) → c .put-byte3 .result + length (text7 (start7 c)) ≤ length (c .put-byte3 .last .0)
+room7 c = let e = start7 c in rest space (text7 e) (c .put-byte3 .ensures) (room6 (c .before .before .before .before))
+
 put-number-requires-3 : tie.Need-put-number-requires-3
 put-number-requires-3 c κs = let e = start7 (c .before .before .before) in fits _ (digits (e .args .len)) (text8 e) (room7 (c .before .before .before))
+
+room8 : (c : tie.After-put-number3) → c .put-number3 .result + length (text8 (start8 c)) ≤ length (c .put-number3 .last .0)
+room8 c = let e = start8 c in rest (digits (e .args .len)) (text8 e) (c .put-number3 .ensures) (room7 (c .before .before .before .before))
 
 put-byte-requires-4 : tie.Need-put-byte-requires-4
 put-byte-requires-4 c κs = let e = start8 (c .before .before .before) in byte _ (fits _ space (text9 e) (room8 (c .before .before .before)))
 
+room9 : (c : tie.After-put-byte4) → c .put-byte4 .result + length (text9 (start9 c)) ≤ length (c .put-byte4 .last .0)
+room9 c = let e = start9 c in rest space (text9 e) (c .put-byte4 .ensures) (room8 (c .before .before .before .before))
+
 put-late-requires : tie.Need-put-late-requires
 put-late-requires c κs = let e = start9 (c .before .before .before) in fits _ (lateWord (e .args .late)) (text10 e) (room9 (c .before .before .before))
+
+room10 : (c : tie.After-put-late) → c .put-late .result + length (text10 (start10 c)) ≤ length (c .put-late .last .0)
+room10 c = let e = start10 c in rest (lateWord (e .args .late)) (text10 e) (c .put-late .ensures) (room9 (c .before .before .before .before))
 
 put-byte-requires-5 : tie.Need-put-byte-requires-5
 put-byte-requires-5 c κs = byte _ (room10 (c .before .before .before))

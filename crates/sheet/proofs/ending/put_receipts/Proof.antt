@@ -35,27 +35,27 @@ start2 c = start1 (c .before .before .before .before)
 abbrev start3 : tie.After-put-values → tie.Start
 start3 c = start2 (c .before .before .before .before)
 
--- The room that is left after the call j.
-room1 : (c : tie.After-put-bytes) → c .put-bytes .result + length (text1 (start1 c)) ≤ length (c .put-bytes .last .0)
-room1 c = let e = start1 c in rest (word "receipts ") (text1 e) (c .put-bytes .ensures) (room0 e)
-
-room2 : (c : tie.After-put-number) → c .put-number .result + length (text2 (start2 c)) ≤ length (c .put-number .last .0)
-room2 c = let e = start2 c in rest (digits (e .args .n)) (text2 e) (c .put-number .ensures) (room1 (c .before .before .before .before))
-
-room3 : (c : tie.After-put-values) → c .put-values .result + length (text3 (start3 c)) ≤ length (c .put-values .last .0)
-room3 c = let e = start3 c in rest (valuesText (take (e .args .n) (now (e .args .list)))) (text3 e) (c .put-values .ensures) (room2 (c .before .before .before .before))
-
 slice-aggregate-put-bytes : tie.Need-slice-aggregate-put-bytes
 slice-aggregate-put-bytes c = search needs
 
 put-bytes-requires : tie.Need-put-bytes-requires
 put-bytes-requires c κs = let e = c .before .before .before .before in fits _ (word "receipts ") (text1 e) (room0 e)
 
+-- The room that is left after the call j, then the need of the next.
+room1 : (c : tie.After-put-bytes) → c .put-bytes .result + length (text1 (start1 c)) ≤ length (c .put-bytes .last .0)
+room1 c = let e = start1 c in rest (word "receipts ") (text1 e) (c .put-bytes .ensures) (room0 e)
+
 put-number-requires : tie.Need-put-number-requires
 put-number-requires c κs = let e = start1 (c .before .before .before) in fits _ (digits (e .args .n)) (text2 e) (room1 (c .before .before .before))
 
+room2 : (c : tie.After-put-number) → c .put-number .result + length (text2 (start2 c)) ≤ length (c .put-number .last .0)
+room2 c = let e = start2 c in rest (digits (e .args .n)) (text2 e) (c .put-number .ensures) (room1 (c .before .before .before .before))
+
 put-values-requires : tie.Need-put-values-requires
 put-values-requires c κs = let e = start2 (c .before .before .before) in (e .pre .0, fits _ (valuesText (take (e .args .n) (now (e .args .list)))) (text3 e) (room2 (c .before .before .before)))
+
+room3 : (c : tie.After-put-values) → c .put-values .result + length (text3 (start3 c)) ≤ length (c .put-values .last .0)
+room3 c = let e = start3 c in rest (valuesText (take (e .args .n) (now (e .args .list)))) (text3 e) (c .put-values .ensures) (room2 (c .before .before .before .before))
 
 put-byte-requires : tie.Need-put-byte-requires
 put-byte-requires c κs = byte _ (room3 (c .before .before .before))

@@ -54,50 +54,50 @@ start6 c = start5 (c .before .before .before .before)
 abbrev start7 : tie.After-put-replica7 → tie.Start
 start7 c = start6 (c .before .before .before .before)
 
--- The room that is left after the call j.
-room1 : (c : tie.After-put-replica) → c .put-replica .result + length (text1 (start1 c)) ≤ length (c .put-replica .last .0)
-unfolding replicasText
-room1 c = let e = start1 c in rest (replicaText (e .args .row) 1) (text1 e) (c .put-replica .ensures) (e .pre)
-
-room2 : (c : tie.After-put-replica2) → c .put-replica2 .result + length (text2 (start2 c)) ≤ length (c .put-replica2 .last .0)
-room2 c = let e = start2 c in rest (replicaText (e .args .row) 2) (text2 e) (c .put-replica2 .ensures) (room1 (c .before .before .before .before))
-
-room3 : (c : tie.After-put-replica3) → c .put-replica3 .result + length (text3 (start3 c)) ≤ length (c .put-replica3 .last .0)
-room3 c = let e = start3 c in rest (replicaText (e .args .row) 3) (text3 e) (c .put-replica3 .ensures) (room2 (c .before .before .before .before))
-
-room4 : (c : tie.After-put-replica4) → c .put-replica4 .result + length (text4 (start4 c)) ≤ length (c .put-replica4 .last .0)
-room4 c = let e = start4 c in rest (replicaText (e .args .row) 4) (text4 e) (c .put-replica4 .ensures) (room3 (c .before .before .before .before))
-
-room5 : (c : tie.After-put-replica5) → c .put-replica5 .result + length (text5 (start5 c)) ≤ length (c .put-replica5 .last .0)
-room5 c = let e = start5 c in rest (replicaText (e .args .row) 5) (text5 e) (c .put-replica5 .ensures) (room4 (c .before .before .before .before))
-
-room6 : (c : tie.After-put-replica6) → c .put-replica6 .result + length (text6 (start6 c)) ≤ length (c .put-replica6 .last .0)
-room6 c = let e = start6 c in rest (replicaText (e .args .row) 6) (text6 e) (c .put-replica6 .ensures) (room5 (c .before .before .before .before))
-
-room7 : (c : tie.After-put-replica7) → c .put-replica7 .result + length (text7 (start7 c)) ≤ length (c .put-replica7 .last .0)
-room7 c = let e = start7 c in rest (replicaText (e .args .row) 7) (text7 e) (c .put-replica7 .ensures) (room6 (c .before .before .before .before))
-
 put-replica-requires : tie.Need-put-replica-requires
 unfolding replicasText
 put-replica-requires c κs = let e = c .before .before in (omega arith, omega arith, fits _ (replicaText (e .args .row) 1) (text1 e) (e .pre))
 
+-- The room that is left after the call j, then the need of the next.
+room1 : (c : tie.After-put-replica) → c .put-replica .result + length (text1 (start1 c)) ≤ length (c .put-replica .last .0)
+unfolding replicasText
+room1 c = let e = start1 c in rest (replicaText (e .args .row) 1) (text1 e) (c .put-replica .ensures) (e .pre)
+
 put-replica-requires-2 : tie.Need-put-replica-requires-2
 put-replica-requires-2 c κs = let e = start1 (c .before .before .before) in (omega arith, omega arith, fits _ (replicaText (e .args .row) 2) (text2 e) (room1 (c .before .before .before)))
+
+room2 : (c : tie.After-put-replica2) → c .put-replica2 .result + length (text2 (start2 c)) ≤ length (c .put-replica2 .last .0)
+room2 c = let e = start2 c in rest (replicaText (e .args .row) 2) (text2 e) (c .put-replica2 .ensures) (room1 (c .before .before .before .before))
 
 put-replica-requires-3 : tie.Need-put-replica-requires-3
 put-replica-requires-3 c κs = let e = start2 (c .before .before .before) in (omega arith, omega arith, fits _ (replicaText (e .args .row) 3) (text3 e) (room2 (c .before .before .before)))
 
+room3 : (c : tie.After-put-replica3) → c .put-replica3 .result + length (text3 (start3 c)) ≤ length (c .put-replica3 .last .0)
+room3 c = let e = start3 c in rest (replicaText (e .args .row) 3) (text3 e) (c .put-replica3 .ensures) (room2 (c .before .before .before .before))
+
 put-replica-requires-4 : tie.Need-put-replica-requires-4
 put-replica-requires-4 c κs = let e = start3 (c .before .before .before) in (omega arith, omega arith, fits _ (replicaText (e .args .row) 4) (text4 e) (room3 (c .before .before .before)))
+
+room4 : (c : tie.After-put-replica4) → c .put-replica4 .result + length (text4 (start4 c)) ≤ length (c .put-replica4 .last .0)
+room4 c = let e = start4 c in rest (replicaText (e .args .row) 4) (text4 e) (c .put-replica4 .ensures) (room3 (c .before .before .before .before))
 
 put-replica-requires-5 : tie.Need-put-replica-requires-5
 put-replica-requires-5 c κs = let e = start4 (c .before .before .before) in (omega arith, omega arith, fits _ (replicaText (e .args .row) 5) (text5 e) (room4 (c .before .before .before)))
 
+room5 : (c : tie.After-put-replica5) → c .put-replica5 .result + length (text5 (start5 c)) ≤ length (c .put-replica5 .last .0)
+room5 c = let e = start5 c in rest (replicaText (e .args .row) 5) (text5 e) (c .put-replica5 .ensures) (room4 (c .before .before .before .before))
+
 put-replica-requires-6 : tie.Need-put-replica-requires-6
 put-replica-requires-6 c κs = let e = start5 (c .before .before .before) in (omega arith, omega arith, fits _ (replicaText (e .args .row) 6) (text6 e) (room5 (c .before .before .before)))
 
+room6 : (c : tie.After-put-replica6) → c .put-replica6 .result + length (text6 (start6 c)) ≤ length (c .put-replica6 .last .0)
+room6 c = let e = start6 c in rest (replicaText (e .args .row) 6) (text6 e) (c .put-replica6 .ensures) (room5 (c .before .before .before .before))
+
 put-replica-requires-7 : tie.Need-put-replica-requires-7
 put-replica-requires-7 c κs = let e = start6 (c .before .before .before) in (omega arith, omega arith, fits _ (replicaText (e .args .row) 7) (text7 e) (room6 (c .before .before .before)))
+
+room7 : (c : tie.After-put-replica7) → c .put-replica7 .result + length (text7 (start7 c)) ≤ length (c .put-replica7 .last .0)
+room7 c = let e = start7 c in rest (replicaText (e .args .row) 7) (text7 e) (c .put-replica7 .ensures) (room6 (c .before .before .before .before))
 
 put-replica-requires-8 : tie.Need-put-replica-requires-8
 put-replica-requires-8 c κs = (omega arith, omega arith, room7 (c .before .before .before))
