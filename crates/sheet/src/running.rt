@@ -16,8 +16,8 @@ fn begin(sheet: &[u8]) -> Cluster
     ensures { λ r. ⌜ OpenedWith (recordAt (now (sheet .entry)) .board) r ⌝ }
 {
     let r = decode(sheet, 0);
-    let x = steps::opening(r.board);
-    x.row
+    let o = steps::opening(r.board);
+    o.row
 }
 
 // The record after k others and the opening.
