@@ -1,4 +1,5 @@
 -- `ruling::change` meets its contract: the chain of checks is the model's, and so is the registry left. Assumes nothing.
+use mathlib.Core.Path.{_∙_}
 use Rattle.cluster.proofs.Rulings.{rules-refused, rules-accepted, change-answer, change-after}
 use borrow.Author.Needs.{needs}
 use Rattle.cluster.proofs.ruling.change.Statement.{statement}
@@ -21,7 +22,7 @@ check-requires-3 c κs = search needs
 
 returns : tie.Need-returns
 returns c =
-    rules-refused _ _ _ (change-answer (c .before .before .before .before .before .before .before .before .args .r) _ (cc)) (c .if1 .taken)
+    rules-refused _ _ _ (change-answer (c .before .before .before .before .before .before .before .before .args .r) _ (c .before .check3 .ensures ∙ rw (c .before .before .normal .ensures, c .before .before .before .check2 .ensures, c .before .before .before .before .size .ensures, c .before .before .before .before .before .check .ensures))) (c .if1 .taken)
 
 raised-requires : tie.Need-raised-requires
 raised-requires c κs = search needs
@@ -35,7 +36,7 @@ succession-requires c κs = search needs
 returns-2 : tie.Need-returns-2
 returns-2 c =
     let r = c .before .before .before .before .before .before .before .before .before .before .before .args .r in
-    rules-accepted _ _ _ _ (change-answer r _ (cc)) (c .before .before .before .if1 .left)
+    rules-accepted _ _ _ _ (change-answer r _ (c .before .before .before .before .check3 .ensures ∙ rw (c .before .before .before .before .before .normal .ensures, c .before .before .before .before .before .before .check2 .ensures, c .before .before .before .before .before .before .before .size .ensures, c .before .before .before .before .before .before .before .before .check .ensures))) (c .before .before .before .if1 .left)
     (change-after r _ _ (c .succession .result) (c .before .before .raised .ensures) (c .before .without .ensures) (c .succession .ensures))
 
 pub change-spec : {M : Type 1} → statement M

@@ -1,4 +1,5 @@
 -- `ruling::remove` meets its contract: the chain of checks is the model's, and so is the registry left. Assumes nothing.
+use mathlib.Core.Path.{_∙_}
 use Rattle.cluster.proofs.Rulings.{rules-refused, rules-accepted, remove-answer, remove-after}
 use borrow.Author.Needs.{needs}
 use Rattle.cluster.proofs.ruling.remove.Statement.{statement}
@@ -34,7 +35,7 @@ check-requires-5 c κs = search needs
 returns : tie.Need-returns
 returns c =
     let a = c .before .before .before .before .before .before .before .before .before .before .before .before .before .args in
-    rules-refused _ _ _ (remove-answer (a .r) (a .b) _ (c .before .before .before .before .before .before .before .before .before .before .before .seat .ensures .2) _ (cc)) (c .if1 .taken)
+    rules-refused _ _ _ (remove-answer (a .r) (a .b) _ (c .before .before .before .before .before .before .before .before .before .before .before .seat .ensures .2) _ (c .before .check5 .ensures ∙ rw (c .before .before .replica .ensures, c .before .before .before .check4 .ensures, c .before .before .before .before .choosing .ensures, c .before .before .before .before .before .check3 .ensures, c .before .before .before .before .before .before .has .ensures, c .before .before .before .before .before .before .before .check2 .ensures, c .before .before .before .before .before .before .before .before .before .check .ensures))) (c .if1 .taken)
 
 raised-requires : tie.Need-raised-requires
 raised-requires c κs = search needs
@@ -52,7 +53,7 @@ returns-2 : tie.Need-returns-2
 returns-2 c =
     let a = c .before .before .before .before .before .before .before .before .before .before .before .before .before .before .before .before .before .args in
     let seat = c .before .before .before .before .before .before .before .before .before .before .before .before .before .before .before .seat .ensures .2 in
-    rules-accepted _ _ _ _ (remove-answer (a .r) (a .b) _ seat _ (cc)) (c .before .before .before .before .if1 .left)
+    rules-accepted _ _ _ _ (remove-answer (a .r) (a .b) _ seat _ (c .before .before .before .before .before .check5 .ensures ∙ rw (c .before .before .before .before .before .before .replica .ensures, c .before .before .before .before .before .before .before .check4 .ensures, c .before .before .before .before .before .before .before .before .choosing .ensures, c .before .before .before .before .before .before .before .before .before .check3 .ensures, c .before .before .before .before .before .before .before .before .before .before .has .ensures, c .before .before .before .before .before .before .before .before .before .before .before .check2 .ensures, c .before .before .before .before .before .before .before .before .before .before .before .before .before .check .ensures))) (c .before .before .before .before .if1 .left)
     (remove-after (a .r) (a .b) _ seat _ _ _ (c .settled .result) (c .before .before .before .raised .ensures) (c .before .before .remove .ensures) (c .before .size .ensures) (c .settled .ensures))
 
 pub remove-spec : {M : Type 1} → statement M
