@@ -1,5 +1,5 @@
--- Sheets and listings of document 01, byte for byte, through the model's run. Cited by the promise of `sample`, and by the runner of sheets
--- to come. Assumes nothing.
+-- Sheets and listings of document 01, byte for byte, through the model's run. Cited by the promises of `run_sheet`, `sample` and the writers of
+-- lines. Assumes nothing.
 use mathlib.Core.Bool.{Bool, true, false, cond, _&&_}
 use mathlib.Core.List.{List, [], _∷_, _++_}
 use mathlib.Core.Path.{_≡_}
