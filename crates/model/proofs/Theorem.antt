@@ -15,7 +15,7 @@ use Rattle.model.specs.State.{outline, Entries, values, State, opened, f
 use Rattle.model.specs.Steps.{Step, append, commit, add, remove, changeLeader, refresh, join, receive, acknowledge, refreshController, readLeader, read, setNormal, hear, install, malformed, checks, next, accepted, step, entryAt}
 use Rattle.model.specs.Records.{Record, unused, rules, stepOf}
 use Rattle.model.specs.Runs.{run, gives, given}
-use Rattle.model.specs.Claim.{LeadsUnder, after, receipts, Safe, Safety, DemandThree}
+use Rattle.model.specs.Claim.{LeadsUnder, after, receipts, Safe, Safety}
 use Rattle.model.proofs.Tests.{Holds, facts, by-test, by-cond, is-true, is-false, upd-idle, eqb-same}
 use Rattle.model.proofs.Prefix.{begins-refl, begins-nil, begins-more}
 use Rattle.model.proofs.Quorum.{by-replica, replica-ne}
@@ -236,3 +236,8 @@ module _ (𝓔 : Entries) where
           ∙ subst (λ u. j .history u ≡ y) (l .2) (acting (j .inv) y (replica-ne y (l .0)) (l .1));
       kept = run-given (opened b) rs;
     }
+
+-- The claim for every kind of entry.
+pub safety : Safety
+unfolding Safety
+safety 𝓔 b real rs = safe 𝓔 b real rs
