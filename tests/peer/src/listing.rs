@@ -20,6 +20,7 @@ pub fn write(slice: &mut [u8], records: &[[u8; 8]], answers: &[u8], row: &Row) {
 }
 
 trait Out {
+    fn byte(&mut self, byte: u8);
     fn text(&mut self, text: &[u8]);
     fn number(&mut self, n: u32);
 }
@@ -33,10 +34,20 @@ struct Place<'a> {
 
 /// How many digits a number has.
 fn digits(n: u32) -> usize {
-    (n | 1).ilog10() as usize + 1
+    match n {
+        0..=9 => 1,
+        10..=99 => 2,
+        100..=999 => 3,
+        1000..=9999 => 4,
+        _ => 4 + digits(n / 10_000),
+    }
 }
 
 impl Out for Count {
+    fn byte(&mut self, _: u8) {
+        self.0 += 1;
+    }
+
     fn text(&mut self, text: &[u8]) {
         self.0 += text.len();
     }
@@ -47,6 +58,11 @@ impl Out for Count {
 }
 
 impl Out for Place<'_> {
+    fn byte(&mut self, byte: u8) {
+        self.slice[self.end] = byte;
+        self.end += 1;
+    }
+
     fn text(&mut self, text: &[u8]) {
         let end = self.end + text.len();
         self.slice[self.end..end].copy_from_slice(text);
@@ -54,6 +70,9 @@ impl Out for Place<'_> {
     }
 
     fn number(&mut self, mut n: u32) {
+        if n < 10 {
+            return self.byte(b'0' + n as u8);
+        }
         let end = self.end + digits(n);
         for place in self.slice[self.end..end].iter_mut().rev() {
             *place = b'0' + (n % 10) as u8;
@@ -67,11 +86,11 @@ fn list(out: &mut impl Out, records: &[[u8; 8]], answers: &[u8], row: &Row) {
     // record, step (byte 0 as it is), answer
     for (number, (record, &answer)) in (1..).zip(records.iter().zip(answers)) {
         out.number(number);
-        out.text(b" ");
+        out.byte(b' ');
         out.number(record[0].into());
-        out.text(b" ");
+        out.byte(b' ');
         out.number(answer.into());
-        out.text(b"\n");
+        out.byte(b'\n');
     }
     out.text(b"registry ");
     view(out, &row.registry);
@@ -91,10 +110,10 @@ fn list(out: &mut impl Out, records: &[[u8; 8]], answers: &[u8], row: &Row) {
     for (b, board) in (1..).zip(&row.boards) {
         out.text(b"board ");
         out.number(b);
-        out.text(b" ");
+        out.byte(b' ');
         view(out, &board.view);
         out.number(board.joined.into());
-        out.text(b" ");
+        out.byte(b' ');
         out.number(board.log.len() as u32);
         out.text(match board.view.epoch < row.registry.epoch {
             true => b" late\n",
@@ -105,20 +124,20 @@ fn list(out: &mut impl Out, records: &[[u8; 8]], answers: &[u8], row: &Row) {
     out.text(b"receipts ");
     out.number(row.receipts.len() as u32);
     for &value in row.receipts.iter() {
-        out.text(b" ");
+        out.byte(b' ');
         out.number(value);
     }
-    out.text(b"\n");
+    out.byte(b'\n');
 }
 
 /// Epoch, leader epoch, leader, members as digits, and a space after each.
 fn view(out: &mut impl Out, view: &View) {
     for n in [view.epoch, view.leader_epoch, view.leader.into()] {
         out.number(n.into());
-        out.text(b" ");
+        out.byte(b' ');
     }
     for b in (1..=8).filter(|&b| view.has(b)) {
         out.number(b.into());
     }
-    out.text(b" ");
+    out.byte(b' ');
 }
