@@ -13,13 +13,11 @@ use std::error::Error;
 use std::ffi::OsStr;
 use std::path::{Path, PathBuf};
 use std::process::{Command, ExitCode};
-use std::time::{Duration, Instant};
+use std::time::Instant;
 use std::{env, fs, slice};
 
 const SEED: u64 = 1;
-const ROUNDS: usize = 31;
-/// In a round each program gets about so many records of each kind.
-const ROUND_RECORDS: usize = 40_000;
+const ROUNDS: usize = 301;
 /// Room for any listing.
 const LISTING_LEN: usize = 55_230;
 
@@ -99,9 +97,12 @@ fn bench(directory: &Path, seed: u64) -> Result<(), Box<dyn Error>> {
     let sets = sheets::all(seed);
     sets.iter().try_for_each(agree)?;
     // Times with the slice as the call before left it, and with it cleared.
-    let mut samples = vec![[const { Samples(Vec::new()) }; 2]; sets.len()];
+    let mut times: Vec<_> = sets
+        .iter()
+        .map(|set| [Times::none(set), Times::none(set)])
+        .collect();
     for round in 0..ROUNDS {
-        for (set, [left, cleared]) in sets.iter().zip(&mut samples) {
+        for (set, [left, cleared]) in sets.iter().zip(&mut times) {
             left.take(set, round, false);
             cleared.take(set, round, true);
         }
@@ -109,16 +110,16 @@ fn bench(directory: &Path, seed: u64) -> Result<(), Box<dyn Error>> {
     let counted = Command::new("valgrind").arg("--version").output().is_ok();
     println!("{}", about(seed));
     let mut guided = Vec::new();
-    for (set, [left, cleared]) in sets.iter().zip(&samples) {
+    for (set, [left, cleared]) in sets.iter().zip(&times) {
         let (number, records) = (set.sheets.len(), set.records);
-        let [ours, theirs] = [0, 1].map(|n| left.time(n));
+        let all = (number * records) as f64;
+        let [ours, theirs] = [0, 1].map(|n| left.total(n) / all);
         print!("{:<12} {number:>6} {records:>7}", set.name);
         print!(" {ours:>9.1} {theirs:>9.1}");
         print!(" {:>7.2} {:>7.2}", left.ratio(), cleared.ratio());
         let files = keep(directory, set)?;
         let count = |program| -> Result<f64, Box<dyn Error>> {
-            let all = instructions(directory, program, &files)?;
-            Ok(all as f64 / (number * records) as f64)
+            Ok(instructions(directory, program, &files)? as f64 / all)
         };
         if counted {
             let (ours, theirs) = (count("run_sheet")?, count("peer_sheet")?);
@@ -144,10 +145,10 @@ fn bench(directory: &Path, seed: u64) -> Result<(), Box<dyn Error>> {
 fn about(seed: u64) -> String {
     format!(
         "\
-Guided sheets from seed {seed}. Times: the median of {ROUNDS} rounds, the two programs in turn,
-in a slice as the call before left it; `cleared` is the ratio in a slice that is
-cleared before each call (not timed). Both programs clear their own arrays in
-each call. Instructions: callgrind's count, of one call a sheet.
+Guided sheets from seed {seed}. Times: for each sheet the median of {ROUNDS} calls, the two
+programs in turn, in a slice as the call before left it; `cleared` is the ratio in
+a slice that is cleared before each call (not timed). Both programs clear their own
+arrays in each call. Instructions: callgrind's count, of one call a sheet.
 
                                ns a record               cleared instructions a record
 sheets       number records run_sheet      peer   ratio   ratio run_sheet      peer   ratio"
@@ -183,47 +184,44 @@ fn agree(set: &Set) -> Result<(), Box<dyn Error>> {
     Ok(())
 }
 
-/// Times a record, in nanoseconds: a pair for each round.
+/// The times of the calls, in nanoseconds: for each sheet, those of either program.
 #[derive(Clone)]
-struct Samples(Vec<[f64; 2]>);
+struct Times(Vec<[Vec<u128>; 2]>);
 
-impl Samples {
-    /// Both programs on all sheets of a set.
-    fn take(&mut self, set: &Set, round: usize, clear: bool) {
-        let records = set.sheets.len() * set.records;
-        let times = ROUND_RECORDS.div_ceil(records);
-        let mut pair = [0.0; 2];
-        for n in [round % 2, (round + 1) % 2] {
-            let (_, program) = PROGRAMS[n];
-            let mut listing = vec![0; LISTING_LEN];
-            let mut spent = Duration::ZERO;
-            for _ in 0..times {
-                for sheet in &set.sheets {
-                    if clear {
-                        listing.fill(0);
-                    }
-                    let start = Instant::now();
-                    call(program, sheet, &mut listing);
-                    spent += start.elapsed();
-                }
-            }
-            pair[n] = spent.as_nanos() as f64 / (times * records) as f64;
-        }
-        self.0.push(pair);
+impl Times {
+    fn none(set: &Set) -> Times {
+        Times(vec![[const { Vec::new() }; 2]; set.sheets.len()])
     }
 
-    fn time(&self, n: usize) -> f64 {
-        median(self.0.iter().map(|pair| pair[n]).collect())
+    /// One call of both programs on each sheet of a set, this one or that one first.
+    fn take(&mut self, set: &Set, round: usize, clear: bool) {
+        let mut listing = vec![0; LISTING_LEN];
+        for (sheet, times) in set.sheets.iter().zip(&mut self.0) {
+            for n in [round % 2, (round + 1) % 2] {
+                if clear {
+                    listing.fill(0);
+                }
+                let start = Instant::now();
+                call(PROGRAMS[n].1, sheet, &mut listing);
+                times[n].push(start.elapsed().as_nanos());
+            }
+        }
+    }
+
+    /// The time of all sheets by a program, each the median of its calls. A call is
+    /// so short that the machine seldom does something else meanwhile.
+    fn total(&self, n: usize) -> f64 {
+        let median = |times: &[Vec<u128>; 2]| {
+            let mut times = times[n].clone();
+            times.sort();
+            times[times.len() / 2] as f64
+        };
+        self.0.iter().map(median).sum()
     }
 
     fn ratio(&self) -> f64 {
-        median(self.0.iter().map(|[ours, theirs]| ours / theirs).collect())
+        self.total(0) / self.total(1)
     }
-}
-
-fn median(mut numbers: Vec<f64>) -> f64 {
-    numbers.sort_by(f64::total_cmp);
-    numbers[numbers.len() / 2]
 }
 
 /// The instructions of one call for each file, as callgrind counts them.
