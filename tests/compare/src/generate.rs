@@ -76,11 +76,16 @@ pub fn random(mut rng: Rng) -> (Kind, Vec<u8>) {
         Kind::Uniform => uniform(&mut rng, records),
         Kind::Broken => broken(&mut rng, records),
         Kind::Malformed => Guide::new(rng, records).finish(Some(6)),
-        Kind::Guided => Guide::new(rng, records).finish(None),
+        Kind::Guided => guided(rng, records),
         Kind::Logs => Guide::new(rng, records).fill_log().finish(None),
         Kind::Epochs => Guide::new(rng, records).use_epochs().finish(None),
     };
     (kind, sheet)
+}
+
+/// A guided sheet of so many records.
+pub fn guided(rng: Rng, records: usize) -> Vec<u8> {
+    Guide::new(rng, records).finish(None)
 }
 
 /// Sheets at the limits of the paper.

@@ -9,7 +9,6 @@
 //! with fewer than 1,000 sheets).
 
 mod coverage;
-mod generate;
 
 use coverage::Coverage;
 use generate::Rng;

@@ -1,61 +1,143 @@
-//! The text of a listing.
+//! The text of a listing. What lists serves twice: to count the bytes, and to
+//! write them.
 
 use crate::row::{Row, Stage, Status, View};
-use std::fmt::{self, Write};
 
-/// The listing: the steps (byte 0 of each record) with their answers, then the
-/// row as the last record left it.
-pub fn text<'a>(answers: impl Iterator<Item = (&'a u8, &'a u8)>, row: &Row) -> String {
-    let mut out = String::new();
-    write(&mut out, answers, row).expect("a String takes any text");
-    out
+/// No listing is longer: 4,095 lines of at most 12 bytes, two of at most 39,
+/// eight of at most 46, and the receipts' of at most 13 + 512 * 11.
+pub const LENGTH_MAX: usize = 4095 * 12 + 2 * 39 + 8 * 46 + 13 + 512 * 11;
+
+/// The length of a listing in bytes.
+pub fn length(records: &[[u8; 8]], answers: &[u8], row: &Row) -> usize {
+    let mut count = Count(0);
+    list(&mut count, records, answers, row);
+    count.0
 }
 
-fn write<'a>(
-    out: &mut String,
-    answers: impl Iterator<Item = (&'a u8, &'a u8)>,
-    row: &Row,
-) -> fmt::Result {
-    // record, step (byte 0 as it is), answer
-    for (record, (step, answer)) in (1..).zip(answers) {
-        writeln!(out, "{record} {step} {answer}")?;
+/// Writes a listing from the start of a slice that is long enough.
+pub fn write(slice: &mut [u8], records: &[[u8; 8]], answers: &[u8], row: &Row) {
+    list(&mut Place { slice, end: 0 }, records, answers, row);
+}
+
+trait Out {
+    fn byte(&mut self, byte: u8);
+    fn text(&mut self, text: &[u8]);
+    fn number(&mut self, n: u32);
+}
+
+struct Count(usize);
+
+struct Place<'a> {
+    slice: &'a mut [u8],
+    end: usize,
+}
+
+/// How many digits a number has.
+fn digits(n: u32) -> usize {
+    match n {
+        0..=9 => 1,
+        10..=99 => 2,
+        100..=999 => 3,
+        1000..=9999 => 4,
+        _ => 4 + digits(n / 10_000),
     }
-    let status = match row.status {
-        Status::Normal => "normal",
-        Status::Waiting => "waiting",
-        Status::Choosing => "choosing",
-    };
-    writeln!(out, "registry {} {status}", row.registry)?;
-    let stage = match row.control.stage {
-        Stage::Idle => "idle",
-        Stage::Leader => "leader",
-        Stage::Boards => "boards",
-        Stage::Choosing => "choosing",
-    };
-    writeln!(out, "control {} {stage}", row.control.view)?;
+}
+
+impl Out for Count {
+    fn byte(&mut self, _: u8) {
+        self.0 += 1;
+    }
+
+    fn text(&mut self, text: &[u8]) {
+        self.0 += text.len();
+    }
+
+    fn number(&mut self, n: u32) {
+        self.0 += digits(n);
+    }
+}
+
+impl Out for Place<'_> {
+    fn byte(&mut self, byte: u8) {
+        self.slice[self.end] = byte;
+        self.end += 1;
+    }
+
+    fn text(&mut self, text: &[u8]) {
+        let end = self.end + text.len();
+        self.slice[self.end..end].copy_from_slice(text);
+        self.end = end;
+    }
+
+    fn number(&mut self, mut n: u32) {
+        if n < 10 {
+            return self.byte(b'0' + n as u8);
+        }
+        let end = self.end + digits(n);
+        for place in self.slice[self.end..end].iter_mut().rev() {
+            *place = b'0' + (n % 10) as u8;
+            n /= 10;
+        }
+        self.end = end;
+    }
+}
+
+fn list(out: &mut impl Out, records: &[[u8; 8]], answers: &[u8], row: &Row) {
+    // record, step (byte 0 as it is), answer
+    for (number, (record, &answer)) in (1..).zip(records.iter().zip(answers)) {
+        out.number(number);
+        out.byte(b' ');
+        out.number(record[0].into());
+        out.byte(b' ');
+        out.number(answer.into());
+        out.byte(b'\n');
+    }
+    out.text(b"registry ");
+    view(out, &row.registry);
+    out.text(match row.status {
+        Status::Normal => b"normal\n",
+        Status::Waiting => b"waiting\n",
+        Status::Choosing => b"choosing\n",
+    });
+    out.text(b"control ");
+    view(out, &row.control.view);
+    out.text(match row.control.stage {
+        Stage::Idle => b"idle\n",
+        Stage::Leader => b"leader\n",
+        Stage::Boards => b"boards\n",
+        Stage::Choosing => b"choosing\n",
+    });
     for (b, board) in (1..).zip(&row.boards) {
-        let (view, joined, length) = (&board.view, board.joined, board.log.len());
-        let age = match view.epoch < row.registry.epoch {
-            true => "late",
-            false => "current",
-        };
-        writeln!(out, "board {b} {view} {joined} {length} {age}")?;
+        out.text(b"board ");
+        out.number(b);
+        out.byte(b' ');
+        view(out, &board.view);
+        out.number(board.joined.into());
+        out.byte(b' ');
+        out.number(board.log.len() as u32);
+        out.text(match board.view.epoch < row.registry.epoch {
+            true => b" late\n",
+            false => b" current\n",
+        });
     }
     // how many receipts, then their values
-    write!(out, "receipts {}", row.receipts.len())?;
-    for value in &row.receipts {
-        write!(out, " {value}")?;
+    out.text(b"receipts ");
+    out.number(row.receipts.len() as u32);
+    for &value in row.receipts.iter() {
+        out.byte(b' ');
+        out.number(value);
     }
-    writeln!(out)
+    out.byte(b'\n');
 }
 
-/// Epoch, leader epoch, leader, members as digits.
-impl fmt::Display for View {
-    fn fmt(&self, out: &mut fmt::Formatter) -> fmt::Result {
-        write!(out, "{} {} {} ", self.epoch, self.leader_epoch, self.leader)?;
-        for b in (1..=8).filter(|&b| self.has(b)) {
-            write!(out, "{b}")?;
-        }
-        Ok(())
+/// Epoch, leader epoch, leader, members as digits, and a space after each.
+fn view(out: &mut impl Out, view: &View) {
+    for n in [view.epoch, view.leader_epoch, view.leader.into()] {
+        out.number(n.into());
+        out.byte(b' ');
     }
+    for b in (1..=8).filter(|&b| view.has(b)) {
+        out.number(b.into());
+    }
+    out.byte(b' ');
 }

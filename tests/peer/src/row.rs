@@ -1,5 +1,8 @@
 //! The row and its fifteen steps, in the paper's order and words.
 
+use std::array;
+use std::ops::Deref;
+
 /// Entries of a log. The receipts need no limit of their own: a receipt is given
 /// only where a log is longer than they are.
 pub const LOG_MAX: usize = 512;
@@ -32,12 +35,19 @@ pub struct View {
     pub members: u8,
 }
 
+/// A list of entries, or of receipts, in its own 512 places.
+#[derive(Clone, PartialEq, Eq, Debug)]
+pub struct Log {
+    places: [u32; LOG_MAX],
+    length: usize,
+}
+
 #[derive(Clone, PartialEq, Eq, Debug)]
 pub struct Board {
     pub view: View,
     /// The leader epoch whose leader's log its own log last followed.
     pub joined: u16,
-    pub log: Vec<u32>,
+    pub log: Log,
     /// A count for each of the 8 boards.
     pub counts: [usize; 8],
 }
@@ -63,7 +73,7 @@ pub struct Row {
     pub status: Status,
     pub control: Control,
     pub boards: [Board; 8],
-    pub receipts: Vec<u32>,
+    pub receipts: Log,
 }
 
 /// A majority of n boards is n/2 rounded down, plus 1.
@@ -88,6 +98,38 @@ macro_rules! check {
             return $n;
         }
     };
+}
+
+impl Log {
+    const EMPTY: Log = Log {
+        places: [0; LOG_MAX],
+        length: 0,
+    };
+
+    pub fn len(&self) -> usize {
+        self.length
+    }
+
+    pub fn is_empty(&self) -> bool {
+        self.length == 0
+    }
+
+    fn push(&mut self, value: u32) {
+        self.places[self.length] = value;
+        self.length += 1;
+    }
+
+    fn truncate(&mut self, length: usize) {
+        self.length = self.length.min(length);
+    }
+}
+
+impl Deref for Log {
+    type Target = [u32];
+
+    fn deref(&self) -> &[u32] {
+        &self.places[..self.length]
+    }
 }
 
 impl View {
@@ -118,12 +160,6 @@ impl Row {
             leader: b,
             members: 1 << at(b),
         };
-        let board = Board {
-            view,
-            joined: 1,
-            log: Vec::new(),
-            counts: [0; 8],
-        };
         Ok(Row {
             registry: view,
             status: Status::Normal,
@@ -132,8 +168,13 @@ impl Row {
                 stage: Stage::Idle,
                 heard: UNHEARD,
             },
-            boards: [(); 8].map(|_| board.clone()),
-            receipts: Vec::new(),
+            boards: array::from_fn(|_| Board {
+                view,
+                joined: 1,
+                log: Log::EMPTY,
+                counts: [0; 8],
+            }),
+            receipts: Log::EMPTY,
         })
     }
 
@@ -261,7 +302,7 @@ impl Row {
         check!(board.view.has(b), 5);
         check!(board.view.leader_epoch == leader.view.leader_epoch, 10);
         check!(board.joined != board.view.leader_epoch, 11);
-        let both = board.log.iter().zip(&leader.log);
+        let both = board.log.iter().zip(leader.log.iter());
         let shared = both.take_while(|(own, led)| own == led).count();
         let board = self.board_mut(b);
         board.log.truncate(shared);

@@ -1,0 +1,98 @@
+/*
+ * stack SHEET...: how deep run_sheet goes into the stack, for each sheet.
+ *
+ * The call is made on a stack of its own, painted before; the first byte from
+ * the far end that lost its paint is the high-water mark. It is counted from
+ * the caller's frame, with the return address. Each sheet is run on two paints,
+ * so that a byte that happens to have one of them is seen on the other.
+ *
+ * Link with -z now: a call that is bound when first made takes stack of its own.
+ */
+#define _XOPEN_SOURCE 600
+#include <stdio.h>
+#include <stdlib.h>
+#include <string.h>
+#include <ucontext.h>
+
+#include "row.h"
+
+enum { STACK_LEN = 1 << 20 };
+
+typedef size_t (*program)(const uint8_t *, size_t, uint8_t *, size_t);
+
+static uint8_t stack[STACK_LEN];
+static uint8_t sheet[ROW_RECORDS_MAX * ROW_RECORD_LEN + 1];
+static size_t sheet_len;
+static uint8_t listing[ROW_LISTING_LEN(ROW_RECORDS_MAX)];
+
+static ucontext_t here, there;
+static program called;
+static size_t result;
+
+static void call(void)
+{
+    result = called(sheet, sheet_len, listing, sizeof listing);
+}
+
+/* A call that takes nothing but its return address. */
+static size_t nothing(const uint8_t *in, size_t in_len, uint8_t *out, size_t out_len)
+{
+    (void)in, (void)in_len, (void)out, (void)out_len;
+    return 0;
+}
+
+/* How many bytes at the stack's near end lose this paint. */
+static size_t depth(program p, int paint)
+{
+    size_t kept = 0;
+
+    memset(stack, paint, sizeof stack);
+    called = p;
+    if (getcontext(&there) != 0) {
+        perror("stack");
+        exit(2);
+    }
+    there.uc_stack.ss_sp = stack;
+    there.uc_stack.ss_size = sizeof stack;
+    there.uc_link = &here;
+    makecontext(&there, call, 0);
+    if (swapcontext(&here, &there) != 0) {
+        perror("stack");
+        exit(2);
+    }
+    while (kept < sizeof stack && stack[kept] == paint)
+        kept++;
+    return sizeof stack - kept;
+}
+
+static size_t deepest(program p)
+{
+    size_t a = depth(p, 0xa5), b = depth(p, 0x5a);
+
+    return a > b ? a : b;
+}
+
+int main(int argc, char **argv)
+{
+    size_t before = deepest(nothing) - sizeof(void (*)(void)), most = 0;
+    int n;
+
+    for (n = 1; n < argc; n++) {
+        FILE *file = fopen(argv[n], "rb");
+        size_t mark;
+
+        if (file == NULL) {
+            perror(argv[n]);
+            return 2;
+        }
+        sheet_len = fread(sheet, 1, sizeof sheet, file);
+        fclose(file);
+        mark = deepest(run_sheet) - before;
+        if (mark > most)
+            most = mark;
+        printf("%8zu  %s (%zu records, result %zu)\n", mark, argv[n],
+               sheet_len / ROW_RECORD_LEN, result);
+    }
+    printf("%8zu  the most\n", most);
+    return 0;
+}
