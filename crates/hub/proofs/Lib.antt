@@ -1,3 +1,4 @@
 pub mod Fitting
 pub mod Lending
+pub mod Putting
 pub mod Walk

@@ -1,4 +1,5 @@
 ghost use Rattle.hub.specs.Lent.{TakesNews, ReadsLeader, Reads, Hears};
+ghost use Rattle.hub.specs.Whole.{PutBack};
 use cluster::Controller;
 use cluster::Registry;
 
@@ -51,3 +52,9 @@ pub fn hear(c: &mut Controller, x: Report) -> u8
     *c = a.controller;
     a.answer
 }
+
+// The whole row: the lent controller put back into it gives what the step by value gives. Nothing to run: the promise is the
+// statement.
+pub fn claim()
+    ensures { λ r. ⌜ PutBack ⌝ }
+{}
