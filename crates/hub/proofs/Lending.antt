@@ -3,13 +3,14 @@ use mathlib.Core.Bool.{Bool, true, false, not, cond, _&&_, _||_}
 use mathlib.Core.Path.{_≡_, refl, sym, ap, subst, _∙_}
 use Prim.Native.Nat.{ℕ}
 use lib.Dec.{T, leb, eqb, eqb→eq}
-use lib.ListN.{length, replicate, length-replicate}
+use lib.ListN.{length}
 use borrow.Author.Tests.{eqb-false, eq-eqb}
 use Rattle.model.specs.Members.{isReplica}
-use Rattle.model.specs.State.{State, outline, values, opened, noView, stageNumber}
-use Rattle.model.specs.Steps.{Step, accepted, answerOf, next, step, withController}
-use Rattle.model.specs.Ranges.{every, isEpoch}
+use Rattle.model.specs.State.{State, outline, values, stageNumber}
+use Rattle.model.specs.Steps.{Step, accepted, next, step, withController}
+use Rattle.model.specs.Ranges.{every}
 use Rattle.model.proofs.Tests.{of-true, is-true, split-and}
+use Rattle.model.proofs.Range.{AllTrue, of-every}
 use Rattle.cluster.specs.declared.Controller.{Controller}
 use Rattle.cluster.specs.declared.Told.{Told}
 use Rattle.cluster.specs.Layout.{stageOf, controllerOf}
@@ -27,7 +28,7 @@ module _ (st : Step) (only : (s : State ℕ) → next values s st ≡ withContro
       go false = refl
 
 -- The core's step of c gave a; refusal 1 is checked before it, and what is refused leaves c.
-module _ (st : Step) (only : (s : State ℕ) → next values s st ≡ withController s (next values s st .controller)) (c : Controller) {Known′ : State ℕ → Type 0} (a : Told) (h : Tells Known′ st c a) where
+module _ (st : Step) (only : (s : State ℕ) → next values s st ≡ withController s (next values s st .controller)) (c : Controller) (Known′ : State ℕ → Type 0) (a : Told) (h : Tells Known′ st c a) where
   pub lends : (fits : Bool) (Known : State ℕ → Type 0) → ((s : State ℕ) → fits ≡ true → Known s → Known′ s) → (n : ℕ) → n ≡ cond fits (a .answer) 1
       → (t : Told) → t .answer ≡ n → t .controller ≡ cond (eqb n 0) (a .controller) c → Lends fits Known st c (t .answer) (t .controller)
   lends true Known k n e t ea ec =
@@ -45,44 +46,36 @@ module _ (st : Step) (only : (s : State ℕ) → next values s st ≡ withContro
       let left : t .controller ≡ c = ec ∙ ap (λ m. cond (eqb m 0) (a .controller) c) e in
       record { answer = λ s f. ea ∙ e; state = λ s f. ap (λ d. withController s (controllerOf d)) left; refused = λ _. left }
 
--- What every board tells is so somewhere: the promise is about some state for every report.
-pub somewhere : (x : Report) → (s : State ℕ) × Reported x s
-somewhere x = (
-  record {
-    registry = opened {E = ℕ} 1 .registry;
-    controller = opened {E = ℕ} 1 .controller;
-    view = λ b. record { epoch = x .epoch; term = 0; leader = 0; members = noView .members };
-    joined = λ b. x .joined;
-    acked = λ a b. 0;
-    log = λ b. replicate (x .len) 0;
-    committed = replicate 0 0;
-  },
-  record { epoch = refl; joined = refl; len = length-replicate (x .len) 0 },
-)
+-- What the core's steps 11, 12 and 14 of c are told in place of the report x: the length l, which is a length in any case.
+module _ (c : Controller) (x : Report) (l : ℕ) (s : State ℕ) where
+  abbrev pub LeaderTold : Type 0
+  LeaderTold = stageNumber (stageOf (c .stage)) ≡ 1 → (isReplica (c .view .leader) ≡ true) × (s .view (c .view .leader) .epoch ≡ x .epoch) × (length (s .log (c .view .leader)) ≡ l)
 
--- What the core's step is told is so, where the report is so and fits. The core is told the length l, which is one in any case.
-module _ (c : Controller) (x : Report) (l : ℕ) (short : leb (x .len) 512 ≡ true → l ≡ x .len) (s : State ℕ) (k : Reported x s) where
-  len-known : reportFits c x ≡ true → length (s .log (x .board)) ≡ l
-  len-known t =
-      let a = split-and (controllerFits c) (every (told x)) (of-true t) .1 in
-      let b = split-and (isReplica (x .board)) _ a .1 in
-      let d = split-and (isEpoch (x .epoch)) _ b .1 in
-      let e = split-and (isEpoch (x .joined)) _ d .1 in
-      k .len ∙ sym (short (is-true (leb (x .len) 512) (split-and (leb (x .len) 512) true e .0)))
+  abbrev pub ReadTold : Type 0
+  ReadTold = isReplica (x .board) ≡ true → (s .joined (x .board) ≡ x .joined) × (length (s .log (x .board)) ≡ l)
 
-  pub read-known : reportFits c x ≡ true → isReplica (x .board) ≡ true → (s .joined (x .board) ≡ x .joined) × (length (s .log (x .board)) ≡ l)
-  read-known t _ = (k .joined, len-known t)
+  abbrev pub HearTold : Type 0
+  HearTold = isReplica (x .board) ≡ true → (s .view (x .board) .epoch ≡ x .epoch) × (s .joined (x .board) ≡ x .joined) × (length (s .log (x .board)) ≡ l)
 
-  pub hear-known : reportFits c x ≡ true → isReplica (x .board) ≡ true → (s .view (x .board) .epoch ≡ x .epoch) × (s .joined (x .board) ≡ x .joined) × (length (s .log (x .board)) ≡ l)
-  hear-known t _ = (k .epoch, k .joined, len-known t)
+-- It is so, where the report fits and is so.
+module _ (c : Controller) (x : Report) (l : ℕ) (short : leb (x .len) 512 ≡ true → l ≡ x .len) (s : State ℕ) where
+  fields : reportFits c x ≡ true → AllTrue (told x)
+  fields t = of-every (told x) (split-and (controllerFits c) (every (told x)) (of-true t) .1)
+
+  len-told : reportFits c x ≡ true → Reported x s → length (s .log (x .board)) ≡ l
+  len-told t k = k .len ∙ sym (short (is-true (leb (x .len) 512) (fields t .1 .1 .1 .0)))
+
+  pub read-told : reportFits c x ≡ true → Reported x s → ReadTold c x l s
+  read-told t k _ = (k .joined, len-told t k)
+
+  pub hear-told : reportFits c x ≡ true → Reported x s → HearTold c x l s
+  hear-told t k _ = (k .epoch, k .joined, len-told t k)
 
   -- At stage leader the report is the controller's leader's.
-  pub leader-known : leaderFits c x ≡ true → stageNumber (stageOf (c .stage)) ≡ 1
-      → (isReplica (c .view .leader) ≡ true) × (s .view (c .view .leader) .epoch ≡ x .epoch) × (length (s .log (c .view .leader)) ≡ l)
-  leader-known t g =
+  pub leader-told : leaderFits c x ≡ true → Reported x s → LeaderTold c x l s
+  leader-told t k g =
       let a = split-and (reportFits c x) (not (eqb (stageNumber (stageOf (c .stage))) 1) || eqb (x .board) (c .view .leader)) (of-true t) in
       let f = is-true (reportFits c x) (a .0) in
       let q : T (eqb (x .board) (c .view .leader)) = subst (λ u. T (not u || eqb (x .board) (c .view .leader))) (eq-eqb (stageNumber (stageOf (c .stage))) 1 g) (a .1) in
-      let r = split-and (isReplica (x .board)) _ (split-and (controllerFits c) (every (told x)) (a .0) .1) .0 in
       subst (λ b. (isReplica b ≡ true) × (s .view b .epoch ≡ x .epoch) × (length (s .log b) ≡ l)) (eqb→eq (x .board) (c .view .leader) q)
-      (is-true (isReplica (x .board)) r, k .epoch, len-known f)
+      (is-true (isReplica (x .board)) (fields f .0), k .epoch, len-told f k)

@@ -1,45 +1,29 @@
--- Lending the controller and putting it back is the step by value, since both are the model's step of the row. And a controller's record is fixed
--- by what it stands for, so what a lent call promises fixes the record that it leaves. Assumes nothing.
+-- Lending the controller and putting it back is the step by value, since both are the model's step of the row. Assumes nothing.
 use mathlib.Core.Bool.{Bool, true, false, not, cond, _&&_, _||_}
 use mathlib.Core.List.{List, [], _∷_}
 use mathlib.Core.Path.{_≡_, refl, sym, ap, subst, _∙_}
-use Prim.Native.Nat.{ℕ, _<_}
+use Prim.Native.Nat.{ℕ}
 use lib.Dec.{T, leb, eqb, eqb→eq}
 use lib.ListN.{length}
 use borrow.Author.Tests.{eqb-true, eq-eqb}
 use Rattle.model.specs.Members.{isReplica}
 use Rattle.model.specs.State.{State, Outline, outline, values, stageNumber}
 use Rattle.model.specs.Steps as S
-use Rattle.model.specs.Steps.{Step, accepted, answerOf, step, withController}
-use Rattle.model.specs.Ranges.{every, viewRanges, isEpoch, replicaRanges, leaderNamed, controllerLeaderNamed, ranges, inRange}
+use Rattle.model.specs.Steps.{Step, accepted, answerOf, step}
+use Rattle.model.specs.Ranges.{every, viewRanges, replicaRanges, leaderNamed, controllerLeaderNamed, ranges, inRange}
 use Rattle.model.proofs.Tests.{of-true, is-true, split-and}
 use Rattle.model.proofs.Range.{AllTrue, of-every, to-every, of-eight, to-eight}
 use Rattle.cluster.specs.declared.Controller.{Controller}
 use Rattle.cluster.specs.declared.Cluster.{Cluster}
 use Rattle.cluster.specs.declared.Outcome.{Outcome}
-use Rattle.cluster.specs.Layout.{stageOf, at, noView, controllerOf, registryOf, outlineOf}
+use Rattle.cluster.specs.Layout.{stageOf, at, outlineOf}
 use Rattle.memory.specs.Memory.{abs, Shape, Ready, storeAfter, listAfter}
 use Rattle.memory.proofs.Turning.{log-len, outline-abs}
-use Rattle.memory.proofs.Rows.{at-equal, view-equal, stage-equal}
 use Rattle.steps.specs.Call.{valid, Did}
 use Rattle.steps.proofs.Calling.{ready}
 use Rattle.hub.specs.Lent.{registryFits, controllerFits, told, reportFits, leaderFits, Reported, Lends}
-use Rattle.hub.specs.Whole.{putBack, reportOf, Agrees, Same, LentAsWhole, PutBack}
+use Rattle.hub.specs.Whole.{putBack, reportOf, Agrees, PutBack}
 use Rattle.hub.proofs.Fitting.{registry-fits, hearings, controller-fits}
-
--- What a controller's type fixes: the lengths of its arrays, and that its members are a mask.
-pub record Typed (c : Controller) : Type 0 where
-  pub heard : length (c .heard) ≡ 8
-  pub joined : length (c .joined) ≡ 8
-  pub members : c .view .members < 256
-
-pub controllers-equal : (c d : Controller) → Typed c → Typed d → controllerOf c ≡ controllerOf d → c ≡ d
-controllers-equal c d t u e =
-    let v = view-equal (c .view) (d .view) (t .members) (u .members) (λ i. e i .view) in
-    let s = stage-equal (c .stage) (d .stage) (λ i. e i .stage) in
-    let h = at-equal 0 (c .heard) (d .heard) (t .heard ∙ sym (u .heard)) (λ b i. e i .heard b) in
-    let j = at-equal 0 (c .joined) (d .joined) (t .joined ∙ sym (u .joined)) (λ b i. e i .heardJoined b) in
-    λ i. record { view = v i; stage = s i; heard = h i; joined = j i }
 
 -- A choice of two that are the same.
 same-choice : {A : Type 0} (t : Bool) {x y z : A} → x ≡ y → z ≡ cond t x y → z ≡ y

@@ -36,14 +36,14 @@ reportFits c x = controllerFits c && every (told x)
 abbrev pub leaderFits : Controller → Report → Bool
 leaderFits c x = reportFits c x && (not (eqb (stageNumber (stageOf (c .stage))) 1) || eqb (x .board) (c .view .leader))
 
--- What the board tells is so in the state s. For every x there is such a state (hub/proofs/Lending.antt, `somewhere`).
+-- What the board tells is so in the state s.
 pub record Reported (x : Report) (s : State ℕ) : Type 0 where
   pub epoch : s .view (x .board) .epoch ≡ x .epoch
   pub joined : s .joined (x .board) ≡ x .joined
   pub len : length (s .log (x .board)) ≡ x .len
 
--- A call of the step st, lent the controller c: it answers n and leaves c′. If what it is given fits, this is so of any state in which what
--- it was told is so; if not, of any state.
+-- A call of the step st, lent the controller c: it answers n and leaves c′. If what it is given fits, this is so of any state in which what it was
+-- told is so; if not, of any state. There are such states, and one fixes n and c′ (hub/proofs/Fixed.antt, `somewhere` and `fixed`).
 pub record Lends (fits : Bool) (Known : State ℕ → Type 0) (st : Step) (c : Controller) (n : ℕ) (c′ : Controller) : Type 0 where
   -- Refusal 1 first, then the model's answer.
   pub answer : (s : State ℕ) → (fits ≡ true → Known s) → n ≡ cond fits (answerOf (outline (withController s (controllerOf c))) st) 1

@@ -1,15 +1,12 @@
+-- `hub::copied::ended` meets its contract. Assumes nothing.
 use mathlib.Core.Path.{refl}
 use borrow.Author.Tests.{eq-eqb, ne-eqb}
 use Rattle.hub.proofs.copied.ended.Statement.{statement}
 use Rattle.hub.proofs.copied.ended.Tie as tie
-use Rattle.hub.proofs.copied.ended.Reads as reads
-use Rattle.hub.proofs.copied.ended.Lts as lts
 
--- src/copied.rt:21:9
 returns : tie.Need-returns
 returns c = (refl, rw (eq-eqb _ _ (c .if1 .taken)))
 
--- src/copied.rt:17:1
 returns-2 : tie.Need-returns-2
 returns-2 c = (refl, rw (ne-eqb _ _ (c .if1 .left)))
 

@@ -1,8 +1,9 @@
+-- `hub::fits::hearings` meets its contract. The loop's invariant: ok is the tests of the boards above b. Assumes nothing.
 use mathlib.Core.Bool.{and-true}
-use lib.ListN.{getD}
 use mathlib.Core.List.{[], _∷_}
 use mathlib.Core.Path.{_≡_, _∙_}
 use Prim.Native.Nat.{_≤_, _-_}
+use lib.ListN.{getD}
 use lib.Dec.{leb}
 use borrow.Author.Needs.{needs}
 use Rattle.model.specs.Ranges.{every}
@@ -11,9 +12,6 @@ use Rattle.cluster.proofs.Laws.{at-index}
 use Rattle.cluster.proofs.Ranging.{rest, rest-none, rest-more, rest-all}
 use Rattle.hub.proofs.fits.hearings.Statement.{statement}
 use Rattle.hub.proofs.fits.hearings.Tie as tie
-use Rattle.hub.proofs.fits.hearings.Reads as reads
-use Rattle.hub.proofs.fits.hearings.Lts as lts
-use Rattle.cluster.proofs.ranges.both.Reads as both-reads
 
 abbrev Inv-loop : tie.InvT-loop
 Inv-loop heard joined ok₀ b₀ ok b = (b ≤ 8) × (ok ≡ rest (λ x. every (leb (at 0 heard x) 513 ∷ leb (at 0 joined x) 4000 ∷ [])) b)
@@ -21,47 +19,36 @@ Inv-loop heard joined ok₀ b₀ ok b = (b ≤ 8) × (ok ≡ rest (λ x. every (
 abbrev μ-loop : tie.MeasureT-loop
 μ-loop heard joined ok₀ b₀ ok b = b
 
--- src/fits.rt:29:5
 loop-holds : tie.Need-loop-holds Inv-loop μ-loop
 loop-holds c = (search needs, rest-none _)
 
--- src/fits.rt:30:17
 sub-i : tie.Need-sub-i Inv-loop μ-loop
 sub-i c = search needs
 
--- src/fits.rt:31:17
 mul-n : tie.Need-mul-n Inv-loop μ-loop
 mul-n c = search needs
 
--- src/fits.rt:31:17
 array-read-n : tie.Need-array-read-n Inv-loop μ-loop
 array-read-n c = search needs
 
--- src/fits.rt:32:17
 mul-j : tie.Need-mul-j Inv-loop μ-loop
 mul-j c = search needs
 
--- src/fits.rt:32:17
 array-read-j : tie.Need-array-read-j Inv-loop μ-loop
 array-read-j c = search needs
 
--- src/fits.rt:33:13
 both-requires : tie.Need-both-requires Inv-loop μ-loop
 both-requires c κs = search needs
 
--- src/fits.rt:34:9
 both-requires-2 : tie.Need-both-requires-2 Inv-loop μ-loop
 both-requires-2 c κs = search needs
 
--- src/fits.rt:35:13
 sub-b : tie.Need-sub-b Inv-loop μ-loop
 sub-b c = search needs
 
--- src/fits.rt:29:5
 loop-less : tie.Need-loop-less Inv-loop μ-loop
 loop-less c = search needs
 
--- src/fits.rt:29:5
 loop-again : tie.Need-loop-again Inv-loop μ-loop
 loop-again c =
     let a = c .before .before .before .before .args in
@@ -70,7 +57,6 @@ loop-again c =
     let j = at-index 0 (a .t2) (l .b) (search needs) in
     (search needs, rest-more _ (l .b) _ (l .inv .1) _ (search needs) (search needs) (c .both2 .ensures ∙ rw (c .before .both .ensures, h, j, and-true (leb (getD (a .t2) (l .b - 1) 0) 4000))))
 
--- src/fits.rt:24:1
 returns : tie.Need-returns Inv-loop μ-loop
 returns c = rest-all _ _ _ (c .before .loop .inv .1) (c .loop-test .left)
 

@@ -1,11 +1,9 @@
+-- `hub::fits::length` meets its contract. Assumes nothing.
 use native.Mathlib.Omega.{arith}
 use borrow.Author.Tests.{leb-true}
 use Rattle.hub.proofs.fits.length.Statement.{statement}
 use Rattle.hub.proofs.fits.length.Tie as tie
-use Rattle.hub.proofs.fits.length.Reads as reads
-use Rattle.hub.proofs.fits.length.Lts as lts
 
--- src/fits.rt:94:1
 returns : tie.Need-returns
 returns c = (omega arith, λ t. let h = leb-true (c .args .n) 512 t in omega (arith, h))
 
