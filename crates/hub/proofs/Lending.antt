@@ -27,8 +27,11 @@ module _ (st : Step) (only : (s : State ℕ) → next values s st ≡ withContro
       go true = sym (only s)
       go false = refl
 
--- The core's step of c gave a; refusal 1 is checked before it, and what is refused leaves c.
-module _ (st : Step) (only : (s : State ℕ) → next values s st ≡ withController s (next values s st .controller)) (c : Controller) (Known′ : State ℕ → Type 0) (a : Told) (h : Tells Known′ st c a) where
+-- The core's step of c, which is st, gave a; refusal 1 is checked before it, and what is refused leaves c.
+module _ (st : Step) (only : (s : State ℕ) → next values s st ≡ withController s (next values s st .controller)) (c : Controller) (Known′ : State ℕ → Type 0) (core : Step) (a : Told) (by-core : Tells Known′ core c a) (same-step : core ≡ st) where
+  h : Tells Known′ st c a
+  h = subst (λ st. Tells Known′ st c a) same-step by-core
+
   pub lends : (fits : Bool) (Known : State ℕ → Type 0) → ((s : State ℕ) → fits ≡ true → Known s → Known′ s) → (n : ℕ) → n ≡ cond fits (a .answer) 1
       → (t : Told) → t .answer ≡ n → t .controller ≡ cond (eqb n 0) (a .controller) c → Lends fits Known st c (t .answer) (t .controller)
   lends true Known k n e t ea ec =
@@ -46,16 +49,16 @@ module _ (st : Step) (only : (s : State ℕ) → next values s st ≡ withContro
       let left : t .controller ≡ c = ec ∙ ap (λ m. cond (eqb m 0) (a .controller) c) e in
       record { answer = λ s f. ea ∙ e; state = λ s f. ap (λ d. withController s (controllerOf d)) left; refused = λ _. left }
 
--- What the core's steps 11, 12 and 14 of c are told in place of the report x: the length l, which is a length in any case.
-module _ (c : Controller) (x : Report) (l : ℕ) (s : State ℕ) where
-  abbrev pub LeaderTold : Type 0
-  LeaderTold = stageNumber (stageOf (c .stage)) ≡ 1 → (isReplica (c .view .leader) ≡ true) × (s .view (c .view .leader) .epoch ≡ x .epoch) × (length (s .log (c .view .leader)) ≡ l)
+-- What the core's steps are told of the board b in place of the report x: the length l, which is a length in any case.
+module _ (b : ℕ) (x : Report) (l : ℕ) (s : State ℕ) where
+  abbrev pub LeaderTold : Controller → Type 0
+  LeaderTold c = stageNumber (stageOf (c .stage)) ≡ 1 → (isReplica b ≡ true) × (s .view b .epoch ≡ x .epoch) × (length (s .log b) ≡ l)
 
   abbrev pub ReadTold : Type 0
-  ReadTold = isReplica (x .board) ≡ true → (s .joined (x .board) ≡ x .joined) × (length (s .log (x .board)) ≡ l)
+  ReadTold = isReplica b ≡ true → (s .joined b ≡ x .joined) × (length (s .log b) ≡ l)
 
   abbrev pub HearTold : Type 0
-  HearTold = isReplica (x .board) ≡ true → (s .view (x .board) .epoch ≡ x .epoch) × (s .joined (x .board) ≡ x .joined) × (length (s .log (x .board)) ≡ l)
+  HearTold = isReplica b ≡ true → (s .view b .epoch ≡ x .epoch) × (s .joined b ≡ x .joined) × (length (s .log b) ≡ l)
 
 -- It is so, where the report fits and is so.
 module _ (c : Controller) (x : Report) (l : ℕ) (short : leb (x .len) 512 ≡ true → l ≡ x .len) (s : State ℕ) where
@@ -65,14 +68,14 @@ module _ (c : Controller) (x : Report) (l : ℕ) (short : leb (x .len) 512 ≡ t
   len-told : reportFits c x ≡ true → Reported x s → length (s .log (x .board)) ≡ l
   len-told t k = k .len ∙ sym (short (is-true (leb (x .len) 512) (fields t .1 .1 .1 .0)))
 
-  pub read-told : reportFits c x ≡ true → Reported x s → ReadTold c x l s
+  pub read-told : reportFits c x ≡ true → Reported x s → ReadTold (x .board) x l s
   read-told t k _ = (k .joined, len-told t k)
 
-  pub hear-told : reportFits c x ≡ true → Reported x s → HearTold c x l s
+  pub hear-told : reportFits c x ≡ true → Reported x s → HearTold (x .board) x l s
   hear-told t k _ = (k .epoch, k .joined, len-told t k)
 
   -- At stage leader the report is the controller's leader's.
-  pub leader-told : leaderFits c x ≡ true → Reported x s → LeaderTold c x l s
+  pub leader-told : leaderFits c x ≡ true → Reported x s → LeaderTold (c .view .leader) x l s c
   leader-told t k g =
       let a = split-and (reportFits c x) (not (eqb (stageNumber (stageOf (c .stage))) 1) || eqb (x .board) (c .view .leader)) (of-true t) in
       let f = is-true (reportFits c x) (a .0) in

@@ -27,7 +27,7 @@ returns c =
     let a = c .before .before .before .before .before .before .args in
     let ok = c .before .before .before .before .before .leader .ensures in
     let l = c .before .before .before .before .length .ensures in
-    lends readLeader (λ s. refl) (a .c) (LeaderTold (a .c) (a .x) _) _ (c .before .before .before .read-leader .ensures) (leaderFits (a .c) (a .x)) (Reported (a .x))
+    lends readLeader (λ s. refl) (a .c) (λ s. LeaderTold _ (a .x) _ s (a .c)) _ _ (c .before .before .before .read-leader .ensures) refl (leaderFits (a .c) (a .x)) (Reported (a .x))
     (leader-told (a .c) (a .x) _ (l .1)) _ (c .before .check .ensures ∙ rw ok) _ (c .ended .ensures .0) (c .ended .ensures .1)
 
 pub read-leader-spec : {M : Type 1} → statement M

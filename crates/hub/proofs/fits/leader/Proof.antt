@@ -1,5 +1,5 @@
 -- `hub::fits::leader` meets its contract. Assumes nothing.
-use mathlib.Core.Path.{_∙_}
+use mathlib.Core.Path.{refl, _∙_}
 use borrow.Author.Needs.{needs}
 use Rattle.hub.proofs.fits.leader.Statement.{statement}
 use Rattle.hub.proofs.fits.leader.Tie as tie
@@ -17,7 +17,7 @@ both-requires : tie.Need-both-requires
 both-requires c κs = search needs
 
 returns : tie.Need-returns
-returns c = c .both .ensures ∙ rw (c .before .report .ensures, c .before .before .either .ensures, c .before .before .before .before .before .number .ensures)
+returns c = c .both .ensures ∙ rw (c .before .report .ensures, c .before .before .either .ensures, c .before .before .before .before .before .number .ensures) refl
 
 pub leader-spec : {M : Type 1} → statement M
 leader-spec =
