@@ -1,7 +1,7 @@
 -- The tests of refusal 1 as the code makes them are those of the model's list that speak of a registry, of a controller. Assumes nothing.
 use mathlib.Core.Bool.{Bool, not, _&&_, _||_, and-true}
 use mathlib.Core.List.{List, [], _∷_}
-use mathlib.Core.Path.{_≡_, refl, _∙_}
+use mathlib.Core.Path.{_≡_}
 use Prim.Native.Nat.{ℕ}
 use lib.Dec.{leb, eqb}
 use Rattle.model.specs.State.{isChoosing, stageNumber}

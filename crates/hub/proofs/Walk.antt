@@ -1,7 +1,7 @@
 -- The walk of a function that is lent a controller: the borrow is opened and the record copied out; the by-value function is called with the
 -- copy and the other argument; the record that it leaves is stored, and the borrow is closed at it; its answer is returned. One walk for every such
--- function: over the type G of the other argument, the relation Q that both functions promise, and the function that is called.
--- Assumes nothing.
+-- function: over the type G of the other argument, the relation Q that both functions promise, and the function f that is called. The signatures,
+-- clauses and code that the check makes of each function are those written here at its G, Q and f, by computation. Assumes nothing.
 use mathlib.Core.Path.{_≡_, refl, sym, ap, subst}
 use Prim.Native.Nat.{ℕ, _<_, _^_}
 use mathlib.Core.List.{[], _∷_, List}
@@ -22,13 +22,13 @@ use types.Run.{look, init, forget, stop, hop, fld, from, load, of-opd, and-then,
 use types.Part.{whole, sub, look-in, store-in}
 use types.SemTy.{Body}
 use sound.WpLaws.{FmC, fmOf, WpFn-mono}
-use denote.RattleType.{RattleType, owns}
+use denote.RattleType.{owns}
 use denote.Memory.{mem, cellAt, pointee}
 use denote.Laws.{Is, shows}
 use denote.Plain.{uint-makes}
 use denote.Builtin.{u8, RefMutOf}
 use denote.Ref.{RefT, MutRef, ptr-vals, mut-tells, now}
-use denote.Signature.{Signature, plain}
+use denote.Signature.{plain}
 use denote.Steps.{only, opens, closes, owned, peeks, heard, nothing}
 use denote.Struct.Declared.{Declared, fields, row, shape}
 use denote.Struct.Struct.{Plains, layout}
@@ -63,7 +63,8 @@ module _ {D : Type 0} (e : Exit D) (s : e ≡ unchanged) (x : D) where
 
 -- The other argument's type, a struct of plain data, with its laws; the promise.
 module _ (G : Declared) (GL : LL.Laws G) (GP : Plains (fields G)) (GC : LL.Copyables (G .parts)) (Q : Controller → G .D → ℕ → Controller → Type 0) where
-  -- The function that is lent the controller: its signature, its promise, its code.
+  -- The function that is lent the controller: its signature, and its code, which is
+  --     let a = f(*c, x); *c = a.controller; a.answer
   abbrev pub lent : Ended
   lent = record {
     signature = record {
@@ -111,6 +112,7 @@ module _ (G : Declared) (GL : LL.Laws G) (GP : Plains (fields G)) (GC : LL.Copya
   machG d = LL.val G GL d
 
   module _ {M : Type 1} (𝓤 : URA M) where
+    -- What the two ensure. Neither asks anything.
     abbrev pub lent-clauses : Clauses 𝓤 lent
     lent-clauses κs a = record { ghost = Unit {0}; requires = λ _. emp 𝓤; ensures = λ _ r e. fact 𝓤 (Q (now (a .0)) (a .1 .0) r (now (e .0))) }
 
