@@ -14,26 +14,26 @@ use crate::View;
 use crate::choosing;
 use crate::number;
 
-fn both(a: bool, b: bool) -> bool
+pub fn both(a: bool, b: bool) -> bool
     ensures { λ r. ⌜ r ≡ (a && b) ⌝ }
 {
     if a { b } else { false }
 }
 
-fn either(a: bool, b: bool) -> bool
+pub fn either(a: bool, b: bool) -> bool
     ensures { λ r. ⌜ r ≡ (a || b) ⌝ }
 {
     if a { true } else { b }
 }
 
 // An epoch, 1 to 4,000.
-fn epoch(e: u16) -> bool
+pub fn epoch(e: u16) -> bool
     ensures { λ r. ⌜ r ≡ isEpoch e ⌝ }
 {
     both(1 <= e, e <= 4000)
 }
 
-fn view(v: View) -> bool
+pub fn view(v: View) -> bool
     ensures { λ r. ⌜ r ≡ every (viewRanges (viewOf v)) ⌝ }
 {
     let t = both(epoch(v.term), v.leader <= 8);
@@ -96,7 +96,7 @@ fn replicas_in(row: Cluster) -> bool
 }
 
 // The registry names a leader unless it is choosing.
-fn named(g: Registry) -> bool
+pub fn named(g: Registry) -> bool
     ensures { λ r. ⌜ r ≡ (isChoosing (statusOf (g .status)) || not (eqb (g .view .leader) 0)) ⌝ }
 {
     let v = g.view;
@@ -105,7 +105,7 @@ fn named(g: Registry) -> bool
 }
 
 // The controller has a leader at stage leader and at stage boards.
-fn reads(c: Controller) -> bool
+pub fn reads(c: Controller) -> bool
     ensures { λ r. ⌜ r ≡ (eqb (stageNumber (stageOf (c .stage))) 0 || eqb (stageNumber (stageOf (c .stage))) 3 || not (eqb (c .view .leader) 0)) ⌝ }
 {
     let v = c.view;

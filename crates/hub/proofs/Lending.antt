@@ -1,0 +1,84 @@
+-- From the by-value step of the core and refusal 1 to what a call over the lent controller promises. Assumes nothing.
+use mathlib.Core.Bool.{Bool, true, false, not, cond, _||_}
+use mathlib.Core.Path.{_≡_, refl, sym, ap, subst, _∙_}
+use Prim.Native.Nat.{ℕ}
+use lib.Dec.{T, leb, eqb, eqb→eq}
+use lib.ListN.{length}
+use borrow.Author.Tests.{eqb-false, eq-eqb}
+use Rattle.model.specs.Members.{isReplica}
+use Rattle.model.specs.State.{State, outline, values, stageNumber}
+use Rattle.model.specs.Steps.{Step, accepted, next, step, withController}
+use Rattle.model.specs.Ranges.{every}
+use Rattle.model.proofs.Tests.{of-true, is-true, split-and}
+use Rattle.model.proofs.Range.{AllTrue, of-every}
+use Rattle.cluster.specs.declared.Controller.{Controller}
+use Rattle.cluster.specs.declared.Told.{Told}
+use Rattle.cluster.specs.Layout.{stageOf, controllerOf}
+use Rattle.cluster.specs.Parts.{Tells}
+use Rattle.hub.specs.declared.Report.{Report}
+use Rattle.hub.specs.Lent.{controllerFits, told, reportFits, leaderFits, Reported, Lends}
+
+-- A step that changes the controller at most: the state before it with the controller after it is the state after it.
+module _ (st : Step) (only : (s : State ℕ) → next values s st ≡ withController s (next values s st .controller)) (s : State ℕ) where
+  put-back : withController s (step values s st .controller) ≡ step values s st
+  put-back = go (accepted (outline s) st)
+    where
+      go : (t : Bool) → withController s (cond t (next values s st) s .controller) ≡ cond t (next values s st) s
+      go true = sym (only s)
+      go false = refl
+
+-- The core's step of c, which is st, gave a; refusal 1 is checked before it, and what is refused leaves c.
+module _ (st : Step) (only : (s : State ℕ) → next values s st ≡ withController s (next values s st .controller)) (c : Controller) (Known′ : State ℕ → Type 0) (core : Step) (a : Told) (by-core : Tells Known′ core c a) (same-step : core ≡ st) where
+  h : Tells Known′ st c a
+  h = subst (λ st. Tells Known′ st c a) same-step by-core
+
+  pub lends : (fits : Bool) (Known : State ℕ → Type 0) → ((s : State ℕ) → fits ≡ true → Known s → Known′ s) → (n : ℕ) → n ≡ cond fits (a .answer) 1
+      → (t : Told) → t .answer ≡ n → t .controller ≡ cond (eqb n 0) (a .controller) c → Lends fits Known st c (t .answer) (t .controller)
+  lends true Known k n e t ea ec =
+      let left : t .controller ≡ a .controller = ec ∙ same (eqb n 0) refl in
+      record {
+        answer = λ s f. ea ∙ e ∙ h .answer s (k s refl (f refl));
+        state = λ s f. ap (λ d. withController s (controllerOf d)) left ∙ ap (withController s) (h .after s (k s refl (f refl))) ∙ put-back st only (withController s (controllerOf c));
+        refused = λ z. left ∙ h .refused (λ y. z (ea ∙ e ∙ y));
+      }
+    where
+      same : (u : Bool) → eqb n 0 ≡ u → cond u (a .controller) c ≡ a .controller
+      same true q = refl
+      same false q = sym (h .refused (λ y. eqb-false n 0 q (e ∙ y)))
+  lends false Known k n e t ea ec =
+      let left : t .controller ≡ c = ec ∙ ap (λ m. cond (eqb m 0) (a .controller) c) e in
+      record { answer = λ s f. ea ∙ e; state = λ s f. ap (λ d. withController s (controllerOf d)) left; refused = λ _. left }
+
+-- What the core's steps are told of the board b in place of the report x: the length l, which is a length in any case.
+module _ (b : ℕ) (x : Report) (l : ℕ) (s : State ℕ) where
+  abbrev pub LeaderTold : Controller → Type 0
+  LeaderTold c = stageNumber (stageOf (c .stage)) ≡ 1 → (isReplica b ≡ true) × (s .view b .epoch ≡ x .epoch) × (length (s .log b) ≡ l)
+
+  abbrev pub ReadTold : Type 0
+  ReadTold = isReplica b ≡ true → (s .joined b ≡ x .joined) × (length (s .log b) ≡ l)
+
+  abbrev pub HearTold : Type 0
+  HearTold = isReplica b ≡ true → (s .view b .epoch ≡ x .epoch) × (s .joined b ≡ x .joined) × (length (s .log b) ≡ l)
+
+-- It is so, where the report fits and is so.
+module _ (c : Controller) (x : Report) (l : ℕ) (short : leb (x .len) 512 ≡ true → l ≡ x .len) (s : State ℕ) where
+  fields : reportFits c x ≡ true → AllTrue (told x)
+  fields t = of-every (told x) (split-and (controllerFits c) (every (told x)) (of-true t) .1)
+
+  len-told : reportFits c x ≡ true → Reported x s → length (s .log (x .board)) ≡ l
+  len-told t k = k .len ∙ sym (short (is-true (leb (x .len) 512) (fields t .1 .1 .1 .0)))
+
+  pub read-told : reportFits c x ≡ true → Reported x s → ReadTold (x .board) x l s
+  read-told t k _ = (k .joined, len-told t k)
+
+  pub hear-told : reportFits c x ≡ true → Reported x s → HearTold (x .board) x l s
+  hear-told t k _ = (k .epoch, k .joined, len-told t k)
+
+  -- At stage leader the report is the controller's leader's.
+  pub leader-told : leaderFits c x ≡ true → Reported x s → LeaderTold (c .view .leader) x l s c
+  leader-told t k g =
+      let a = split-and (reportFits c x) (not (eqb (stageNumber (stageOf (c .stage))) 1) || eqb (x .board) (c .view .leader)) (of-true t) in
+      let f = is-true (reportFits c x) (a .0) in
+      let q : T (eqb (x .board) (c .view .leader)) = subst (λ u. T (not u || eqb (x .board) (c .view .leader))) (eq-eqb (stageNumber (stageOf (c .stage))) 1 g) (a .1) in
+      subst (λ b. (isReplica b ≡ true) × (s .view b .epoch ≡ x .epoch) × (length (s .log b) ≡ l)) (eqb→eq (x .board) (c .view .leader) q)
+      (is-true (isReplica (x .board)) (fields f .0), k .epoch, len-told f k)

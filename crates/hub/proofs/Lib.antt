@@ -1,0 +1,5 @@
+pub mod Fitting
+pub mod Fixed
+pub mod Lending
+pub mod Putting
+pub mod Walk

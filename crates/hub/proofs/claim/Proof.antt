@@ -1,0 +1,10 @@
+-- `hub::claim` meets its contract. Assumes nothing.
+use Rattle.hub.proofs.claim.Statement.{statement}
+use Rattle.hub.proofs.claim.Tie as tie
+use Rattle.hub.proofs.Putting.{put-back}
+
+returns : tie.Need-returns
+returns c = put-back
+
+pub claim-spec : {M : Type 1} → statement M
+claim-spec = tie.close (tie.spec returns)

@@ -1,0 +1,67 @@
+-- What a call over the lent controller promises: its answer and the record that it leaves, accepted or refused. Cited by the contracts of hub.
+-- Assumes nothing.
+use mathlib.Core.Bool.{Bool, true, not, cond, _&&_, _||_}
+use mathlib.Core.List.{List, [], _∷_}
+use mathlib.Core.Logic.{_≢_}
+use mathlib.Core.Path.{_≡_}
+use Prim.Native.Nat.{ℕ}
+use lib.Dec.{leb, eqb}
+use lib.ListN.{length}
+use Rattle.model.specs.Members.{isReplica}
+use Rattle.model.specs.State.{State, outline, values, opened, stageNumber}
+use Rattle.model.specs.Steps.{Step, refreshController, readLeader, read, hear, answerOf, step, withRegistry, withController}
+use Rattle.model.specs.Ranges.{every, isEpoch, inRange}
+use Rattle.cluster.specs.declared.Registry.{Registry}
+use Rattle.cluster.specs.declared.Controller.{Controller}
+use Rattle.cluster.specs.Layout.{stageOf, registryOf, controllerOf}
+use Rattle.hub.specs.declared.Report.{Report}
+
+-- Refusal 1 of a registry, and of a controller: "a number outside the ranges above, the registry's leader 0 while status is not choosing, or
+-- the controller's leader 0 at stage leader or boards". All else in an opened row is in range, so what is asked is asked of the record put into it.
+unfoldable pub registryFits : Registry → Bool
+registryFits g = inRange (outline {E = ℕ} (withRegistry (opened 1) (registryOf g)))
+
+unfoldable pub controllerFits : Controller → Bool
+controllerFits c = inRange (outline {E = ℕ} (withController (opened 1) (controllerOf c)))
+
+-- Refusal 1 of what a board tells: "a field outside its values".
+abbrev pub told : Report → List Bool
+told x = isReplica (x .board) ∷ isEpoch (x .epoch) ∷ isEpoch (x .joined) ∷ leb (x .len) 512 ∷ []
+
+-- Steps 12 and 14.
+abbrev pub reportFits : Controller → Report → Bool
+reportFits c x = controllerFits c && every (told x)
+
+-- Step 11: at stage leader the board that tells is the controller's leader. (At another stage there may be none; any board's telling is answered 15.)
+abbrev pub leaderFits : Controller → Report → Bool
+leaderFits c x = reportFits c x && (not (eqb (stageNumber (stageOf (c .stage))) 1) || eqb (x .board) (c .view .leader))
+
+-- What the board tells is so in the state s.
+pub record Reported (x : Report) (s : State ℕ) : Type 0 where
+  pub epoch : s .view (x .board) .epoch ≡ x .epoch
+  pub joined : s .joined (x .board) ≡ x .joined
+  pub len : length (s .log (x .board)) ≡ x .len
+
+-- A call of the step st, lent the controller c: it answers n and leaves c′. If what it is given fits, this is so of any state in which what it was
+-- told is so; if not, of any state. There are such states, and one fixes n and c′ (hub/proofs/Fixed.antt, `somewhere` and `fixed`).
+pub record Lends (fits : Bool) (Known : State ℕ → Type 0) (st : Step) (c : Controller) (n : ℕ) (c′ : Controller) : Type 0 where
+  -- Refusal 1 first, then the model's answer.
+  pub answer : (s : State ℕ) → (fits ≡ true → Known s) → n ≡ cond fits (answerOf (outline (withController s (controllerOf c))) st) 1
+  -- The state with c′ put back is the model's step of the state with c.
+  pub state : (s : State ℕ) → (fits ≡ true → Known s)
+      → withController s (controllerOf c′) ≡ cond fits (step values (withController s (controllerOf c)) st) (withController s (controllerOf c))
+  -- A refused call leaves the record itself.
+  pub refused : n ≢ 0 → c′ ≡ c
+
+-- The four steps by what they are told: step 10 of the registry g, the others of a board by x.
+abbrev pub TakesNews : Controller → Registry → ℕ → Controller → Type 0
+TakesNews c g = Lends (registryFits g && controllerFits c) (λ s. s .registry ≡ registryOf g) refreshController c
+
+abbrev pub ReadsLeader : Controller → Report → ℕ → Controller → Type 0
+ReadsLeader c x = Lends (leaderFits c x) (Reported x) readLeader c
+
+abbrev pub Reads : Controller → Report → ℕ → Controller → Type 0
+Reads c x = Lends (reportFits c x) (Reported x) (read (x .board)) c
+
+abbrev pub Hears : Controller → Report → ℕ → Controller → Type 0
+Hears c x = Lends (reportFits c x) (Reported x) (hear (x .board)) c

@@ -1,0 +1,75 @@
+// The same steps of a copy of the controller's record. Refusal 1 is one check more, before the step's own.
+
+ghost use mathlib.Core.Path.{_≡_};
+ghost use mathlib.Core.Bool.{cond};
+ghost use lib.Dec.{eqb};
+ghost use Rattle.hub.specs.Lent.{TakesNews, ReadsLeader, Reads, Hears};
+use crate::Report;
+use crate::fits;
+use cluster::Controller;
+use cluster::Registry;
+use cluster::Told;
+use cluster::check;
+
+// A step of c with the answer n: accepted it leaves d, refused c.
+fn ended(n: u8, c: Controller, d: Controller) -> Told
+    ensures { λ t. ⌜ (t .answer ≡ n) × (t .controller ≡ cond (eqb n 0) d c) ⌝ }
+{
+    if n == 0 {
+        return Told {
+            answer: n,
+            controller: d,
+        };
+    }
+    Told {
+        answer: n,
+        controller: c,
+    }
+}
+
+// Step 10.
+pub fn refresh_controller(c: Controller, g: Registry) -> Told
+    ensures { λ t. ⌜ TakesNews c g (t .answer) (t .controller) ⌝ }
+{
+    let ok = fits::news(c, g);
+    let a = cluster::telling::refresh_controller(c, g);
+    let d = a.controller;
+    let n = check(ok, a.answer, 1);
+    ended(n, c, d)
+}
+
+// Step 11.
+pub fn read_leader(c: Controller, x: Report) -> Told
+    ensures { λ t. ⌜ ReadsLeader c x (t .answer) (t .controller) ⌝ }
+{
+    let ok = fits::leader(c, x);
+    let l = fits::length(x.len);
+    let a = cluster::telling::read_leader(c, x.epoch, l);
+    let d = a.controller;
+    let n = check(ok, a.answer, 1);
+    ended(n, c, d)
+}
+
+// Step 12.
+pub fn read(c: Controller, x: Report) -> Told
+    ensures { λ t. ⌜ Reads c x (t .answer) (t .controller) ⌝ }
+{
+    let ok = fits::report(c, x);
+    let l = fits::length(x.len);
+    let a = cluster::telling::read(c, x.board, x.joined, l);
+    let d = a.controller;
+    let n = check(ok, a.answer, 1);
+    ended(n, c, d)
+}
+
+// Step 14.
+pub fn hear(c: Controller, x: Report) -> Told
+    ensures { λ t. ⌜ Hears c x (t .answer) (t .controller) ⌝ }
+{
+    let ok = fits::report(c, x);
+    let l = fits::length(x.len);
+    let a = cluster::telling::hear(c, x.board, x.epoch, x.joined, l);
+    let d = a.controller;
+    let n = check(ok, a.answer, 1);
+    ended(n, c, d)
+}

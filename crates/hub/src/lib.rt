@@ -1,0 +1,60 @@
+ghost use Rattle.hub.specs.Lent.{TakesNews, ReadsLeader, Reads, Hears};
+ghost use Rattle.hub.specs.Whole.{PutBack};
+use cluster::Controller;
+use cluster::Registry;
+
+pub mod copied;
+mod fits;
+
+// The controller's steps over its record as the hub lends it: news (10), read leader (11), read (12), hear (14). Bad input is
+// refused with 1. Each copies the record out, calls the function of `copied` with it and stores what that leaves.
+
+// What a board tells of itself: its number, its epoch, its joined epoch, the length of its log.
+pub struct Report {
+    pub board: u8,
+    pub epoch: u16,
+    pub joined: u16,
+    pub len: u16,
+}
+
+// Step 10, the controller takes news of the registry g.
+pub fn refresh_controller(c: &mut Controller, g: Registry) -> u8
+    ensures { λ n. ⌜ TakesNews (now (c .entry)) g n (now (c .exit)) ⌝ }
+{
+    let a = copied::refresh_controller(*c, g);
+    *c = a.controller;
+    a.answer
+}
+
+// Step 11, the controller reads its leader, of which x tells.
+pub fn read_leader(c: &mut Controller, x: Report) -> u8
+    ensures { λ n. ⌜ ReadsLeader (now (c .entry)) x n (now (c .exit)) ⌝ }
+{
+    let a = copied::read_leader(*c, x);
+    *c = a.controller;
+    a.answer
+}
+
+// Step 12, the controller reads the board of which x tells.
+pub fn read(c: &mut Controller, x: Report) -> u8
+    ensures { λ n. ⌜ Reads (now (c .entry)) x n (now (c .exit)) ⌝ }
+{
+    let a = copied::read(*c, x);
+    *c = a.controller;
+    a.answer
+}
+
+// Step 14, the controller hears the board of which x tells.
+pub fn hear(c: &mut Controller, x: Report) -> u8
+    ensures { λ n. ⌜ Hears (now (c .entry)) x n (now (c .exit)) ⌝ }
+{
+    let a = copied::hear(*c, x);
+    *c = a.controller;
+    a.answer
+}
+
+// The whole row: the lent controller put back into it gives what the step by value gives. Nothing to run: the promise is the
+// statement.
+pub fn claim()
+    ensures { λ r. ⌜ PutBack ⌝ }
+{}
