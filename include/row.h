@@ -1,7 +1,11 @@
 /*
  * A row of telemetry boards: runs a sheet of steps and writes its listing.
  *
- * Link with libsheet.a, built for x86-64. No heap is used.
+ * Link with libsheet.a, built for x86-64. No heap is used, and nothing is kept
+ * between calls. On every sheet that bench/stack.c tried, a call took at most
+ * 30,288 bytes of stack, with memcpy and memset bound beforehand (link with
+ * -z now; bound lazily, the first call took 33,320). Of the C library it calls
+ * those two alone.
  */
 #ifndef ROW_H
 #define ROW_H
