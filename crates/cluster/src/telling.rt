@@ -65,7 +65,8 @@ fn heard(c: Controller, g: Stage, k: u8, n: u16, j: u16) -> Controller
     let i = (k - 1) as usize;
     let v = c.view;
     let mut lengths = c.heard;
-    let mut joined = c.joined;
+    let before = c.joined;
+    let mut joined = before;
     lengths[i] = n + 1;
     joined[i] = j;
     Controller {

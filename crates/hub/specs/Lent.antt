@@ -24,6 +24,9 @@ registryFits g = inRange (outline {E = ℕ} (withRegistry (opened 1) (registryOf
 unfoldable pub controllerFits : Controller → Bool
 controllerFits c = inRange (outline {E = ℕ} (withController (opened 1) (controllerOf c)))
 
+-- The papers leave to the program what these calls are told. Chosen: every number of a report is in its range, used by the step or not, and at
+-- stage leader its board is the controller's leader; else 1, before a step's own checks.
+
 -- Refusal 1 of what a board tells: "a field outside its values".
 abbrev pub told : Report → List Bool
 told x = isReplica (x .board) ∷ isEpoch (x .epoch) ∷ isEpoch (x .joined) ∷ leb (x .len) 512 ∷ []

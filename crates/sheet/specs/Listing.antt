@@ -123,12 +123,13 @@ unfoldable pub boardLine : State ℕ → ℕ → Text
 unfolding boardText
 boardLine s b = boardText b (s .view b) (s .joined b) (length (s .log b)) (ltb (s .view b .epoch) (s .registry .view .epoch))
 
--- "how many receipts, then their values"
+-- The values, a space before each.
 unfoldable pub valuesText : List ℕ → Text
 unfolding digits
 valuesText [] = []
 valuesText (v ∷ vs) = space ++ (digits v ++ valuesText vs)
 
+-- "how many receipts, then their values"
 unfoldable pub receiptsLine : List ℕ → Text
 unfolding digits valuesText
 receiptsLine vs = word "receipts " ++ (digits (length vs) ++ (valuesText vs ++ newline))
@@ -154,9 +155,9 @@ unfoldable pub listing : Text → Text
 unfolding records listingOf
 listing s = listingOf (recordAt s .board) (records (length s / 8 - 1) (drop 8 s))
 
--- The call, with the sheet s and a slice that holds out
+-- The call, with the sheet s and a slice whose bytes are `out`
 
--- "One number, the listing's length, or 2 or 3 if refused ... for a sheet 2, then 3."
+-- "... one number, the listing's length, or 2 or 3 if refused"; "for a sheet 2, then 3."
 unfoldable pub result : Text → Text → ℕ
 unfolding listing
 result s out = cond (isSheet s) (cond (leb (length (listing s)) (length out)) (length (listing s)) 3) 2
@@ -189,10 +190,11 @@ SampleHolds = (isSheet sampleSheet ≡ true) × (listing sampleSheet ≡ sampleL
 abbrev pub slice : ℕ → Text
 slice n = replicate n 255
 
--- A slice one byte short is refused and keeps its bytes; a longer one keeps those past the listing.
+-- A slice one byte short is refused and keeps its bytes; one of the listing's length is enough; a longer one keeps those past the listing.
 unfoldable pub RoomHolds : Type 0
 RoomHolds =
     (result sampleSheet (slice 284) ≡ 3) × (left sampleSheet (slice 284) ≡ slice 284)
+    × (result sampleSheet (slice 285) ≡ 285) × (left sampleSheet (slice 285) ≡ sampleListing)
     × (result sampleSheet (slice 287) ≡ 285) × (left sampleSheet (slice 287) ≡ sampleListing ++ slice 2)
 
 -- A sheet of an opening alone.

@@ -37,7 +37,7 @@ unfoldable pub lines : Text → List ℕ → ℕ → Text
 unfolding records answerLines
 lines s ns n = answerLines 1 (records n s) (take n ns)
 
--- A text for a slice that holds out: its length and the slice with it, or refusal 3 and the slice as it was.
+-- A text for a slice whose bytes are `out`: its length and the slice with it, or refusal 3 and the slice as it was.
 pub record Delivered (text out out′ : Text) (r : ℕ) : Type 0 where
   pub answer : r ≡ cond (leb (length text) (length out)) (length text) 3
   pub left : out′ ≡ cond (leb (length text) (length out)) (over out 0 text) out

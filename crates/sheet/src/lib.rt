@@ -7,9 +7,9 @@ ghost use Rattle.steps.specs.Call.{recordOf};
 ghost use Rattle.text.specs.Text.{Wrote};
 ghost use Rattle.sheet.specs.Listing.{SampleHolds, RoomHolds, RefusedHolds, number, recordAt, wholeRecords, isOpening, isSheet, memberText, membersText, viewText, statusWord, stageWord, answerLine, registryLine, controlLine, result, left};
 
-pub mod answers;
-pub mod ending;
-pub mod running;
+mod answers;
+mod ending;
+mod running;
 
 use cluster::Controller;
 use cluster::Registry;
@@ -31,7 +31,7 @@ fn little(a: u8, b: u8, c: u8, d: u8) -> u32
 }
 
 // The record at place at of a sheet. Inner layer: callers see to it that it is whole.
-pub fn decode(sheet: &[u8], at: usize) -> Record
+fn decode(sheet: &[u8], at: usize) -> Record
     requires { ⌜ at + 8 ≤ length (now sheet) ⌝ }
     ensures { λ r. ⌜ recordOf r ≡ recordAt (drop at (now (sheet .entry))) ⌝ }
 {
@@ -71,7 +71,7 @@ pub fn is_sheet(sheet: &[u8]) -> bool
 }
 
 // Writes the line of record k, from 1 on: its step, its answer. Inner layer: callers see to the room.
-pub fn put_answer(out: &mut [u8], at: usize, k: u32, step: u8, answer: u8) -> usize
+fn put_answer(out: &mut [u8], at: usize, k: u32, step: u8, answer: u8) -> usize
     requires { ⌜ at + length (answerLine k step answer) ≤ length (now out) ⌝ }
     ensures { λ r. ⌜ Wrote (now (out .entry)) at (answerLine k step answer) (now (out .exit)) r ⌝ }
 {
@@ -124,7 +124,7 @@ fn put_parts(out: &mut [u8], at: usize, epoch: u16, term: u16, leader: u8, m: u8
 }
 
 // Writes a view: epoch, leader epoch, leader, members. Inner layer: callers see to the room.
-pub fn put_view(out: &mut [u8], at: usize, v: View) -> usize
+fn put_view(out: &mut [u8], at: usize, v: View) -> usize
     requires { ⌜ at + length (viewText (viewOf v)) ≤ length (now out) ⌝ }
     ensures { λ r. ⌜ Wrote (now (out .entry)) at (viewText (viewOf v)) (now (out .exit)) r ⌝ }
 {
@@ -157,7 +157,7 @@ fn put_stage(out: &mut [u8], at: usize, g: Stage) -> usize
 }
 
 // Writes the registry's line. Inner layer: callers see to the room.
-pub fn put_registry(out: &mut [u8], at: usize, r: Registry) -> usize
+fn put_registry(out: &mut [u8], at: usize, r: Registry) -> usize
     requires { ⌜ at + length (registryLine (registryOf r)) ≤ length (now out) ⌝ }
     ensures { λ x. ⌜ Wrote (now (out .entry)) at (registryLine (registryOf r)) (now (out .exit)) x ⌝ }
 {
@@ -171,7 +171,7 @@ pub fn put_registry(out: &mut [u8], at: usize, r: Registry) -> usize
 }
 
 // Writes the controller's line. Inner layer: callers see to the room.
-pub fn put_control(out: &mut [u8], at: usize, k: Controller) -> usize
+fn put_control(out: &mut [u8], at: usize, k: Controller) -> usize
     requires { ⌜ at + length (controlLine (controllerOf k)) ≤ length (now out) ⌝ }
     ensures { λ x. ⌜ Wrote (now (out .entry)) at (controlLine (controllerOf k)) (now (out .exit)) x ⌝ }
 {

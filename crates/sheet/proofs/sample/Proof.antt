@@ -7,7 +7,7 @@ use Rattle.sheet.specs.Listing.{SampleHolds, RoomHolds, RefusedHolds, re
 
 returns : tie.Need-returns
 unfolding SampleHolds RoomHolds RefusedHolds result left over listing listingOf records answerLine answerLines registryLine controlLine boardLine receiptsLine valuesText viewText membersText digits digitsWithin run answers given
-returns c = ((refl, refl, refl), (refl, refl, refl, refl), λ out. (refl, refl, refl, refl, refl))
+returns c = ((refl, refl, refl), (refl, refl, refl, refl, refl, refl), λ out. (refl, refl, refl, refl, refl))
 
 pub sample-spec : {M : Type 1} → statement M
 sample-spec = tie.close (tie.spec returns)

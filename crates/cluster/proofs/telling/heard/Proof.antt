@@ -27,7 +27,7 @@ array-write-joined c = search needs
 
 returns : tie.Need-returns
 returns c =
-    let a = c .before .before .before .args in heard-left (a .c) (a .g) _ _ _ (c .before .before .before .pre .0) (c .before .before .before .pre .1) (search needs) (search needs)
+    let a = c .before .before .before .args in heard-left (a .c) (a .g) (a .k) (a .n) (a .j) (c .before .before .before .pre .0) (c .before .before .before .pre .1) (search needs) (search needs)
 
 pub heard-spec : {M : Type 1} → statement M
 heard-spec =
