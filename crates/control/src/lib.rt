@@ -1,11 +1,16 @@
-ghost use Prim.Native.Nat.{_≤_};
+ghost use mathlib.Core.Path.{_≡_};
+ghost use mathlib.Core.List.{List};
+ghost use Prim.Native.Nat.{ℕ, _≤_};
+ghost use lib.ListN.{length};
 ghost use Rattle.model.specs.Steps as T;
-ghost use Rattle.memory.specs.Memory.{Ready, Keeps};
+ghost use Rattle.cluster.specs.declared.View.{View};
+ghost use Rattle.memory.specs.Memory.{Short, Reads, Governs};
 ghost use Rattle.control.specs.Opening.{Opens, OpenedWith};
 use cluster::Cluster;
 use cluster::Controller;
 use cluster::Outcome;
 use cluster::Registry;
+use cluster::Settled;
 use cluster::Stage;
 use cluster::Status;
 use cluster::View;
@@ -14,8 +19,9 @@ use cluster::replica;
 use cluster::seat;
 
 // The opening, and the steps of the registry and the controller: add (3), remove (4), change leader (5), controller news (10),
-// read leader (11), read (12), set normal (13), hear (14), install (15). Inner layer: callers see to it that the row is one
-// that refusal 1 lets through. A refused step of a part gives that part back, so no step here tests the answer.
+// read leader (11), read (12), set normal (13), hear (14), install (15), over the two and the parts of a row that they look at. Each
+// promise is for every row with these parts. Inner layer: callers see to it that the lent places have their lengths and that no
+// log is longer than 512. A refused step of a part gives that part back, so no step here tests the answer.
 
 // The row opened with the replica b.
 fn opened(b: u8) -> Cluster
@@ -65,166 +71,137 @@ pub fn opening(b: u8) -> Outcome
 }
 
 // Step 3, the registry adds b.
-pub fn add(row: Cluster, b: u8) -> Outcome
-    requires { ⌜ Ready row ⌝ }
-    ensures { λ x. ⌜ Keeps (T.Step.add b) row x ⌝ }
+pub fn add(g: Registry, c: Controller, b: u8) -> Settled
+    ensures { λ x. ⌜ ((views : List View) (joined len : List ℕ) → Short len → Governs (T.Step.add b) g c views joined len x) ⌝ }
 {
-    let g = row.registry;
     let a = cluster::ruling::add(g, b);
     let h = a.registry;
-    let mut next = row;
-    next.registry = h;
-    Outcome {
+    Settled {
         answer: a.answer,
-        row: next,
+        registry: h,
+        controller: c,
     }
 }
 
 // Step 4, the registry removes b.
-pub fn remove(row: Cluster, b: u8) -> Outcome
-    requires { ⌜ Ready row ⌝ }
-    ensures { λ x. ⌜ Keeps (T.Step.remove b) row x ⌝ }
+pub fn remove(g: Registry, c: Controller, b: u8) -> Settled
+    ensures { λ x. ⌜ ((views : List View) (joined len : List ℕ) → Short len → Governs (T.Step.remove b) g c views joined len x) ⌝ }
 {
-    let g = row.registry;
     let a = cluster::ruling::remove(g, b);
     let h = a.registry;
-    let mut next = row;
-    next.registry = h;
-    Outcome {
+    Settled {
         answer: a.answer,
-        row: next,
+        registry: h,
+        controller: c,
     }
 }
 
 // Step 5, the registry changes the leader.
-pub fn change(row: Cluster) -> Outcome
-    requires { ⌜ Ready row ⌝ }
-    ensures { λ x. ⌜ Keeps T.Step.changeLeader row x ⌝ }
+pub fn change(g: Registry, c: Controller) -> Settled
+    ensures { λ x. ⌜ ((views : List View) (joined len : List ℕ) → Short len → Governs (T.Step.changeLeader) g c views joined len x) ⌝ }
 {
-    let g = row.registry;
     let a = cluster::ruling::change(g);
     let h = a.registry;
-    let mut next = row;
-    next.registry = h;
-    Outcome {
+    Settled {
         answer: a.answer,
-        row: next,
+        registry: h,
+        controller: c,
     }
 }
 
 // Step 10, the controller takes news.
-pub fn refresh_controller(row: Cluster) -> Outcome
-    requires { ⌜ Ready row ⌝ }
-    ensures { λ x. ⌜ Keeps T.Step.refreshController row x ⌝ }
+pub fn refresh_controller(g: Registry, c: Controller) -> Settled
+    ensures { λ x. ⌜ ((views : List View) (joined len : List ℕ) → Short len → Governs (T.Step.refreshController) g c views joined len x) ⌝ }
 {
-    let g = row.registry;
-    let c = row.controller;
     let a = cluster::telling::refresh_controller(c, g);
     let d = a.controller;
-    let mut next = row;
-    next.controller = d;
-    Outcome {
+    Settled {
         answer: a.answer,
-        row: next,
+        registry: g,
+        controller: d,
     }
 }
 
 // Step 11, the controller reads its leader.
-pub fn read_leader(row: Cluster) -> Outcome
-    requires { ⌜ Ready row ⌝ }
-    ensures { λ x. ⌜ Keeps T.Step.readLeader row x ⌝ }
+pub fn read_leader(g: Registry, c: Controller, views: [View; 8], len: &[u16]) -> Settled
+    requires { ⌜ Reads c × Short (now len) ⌝ }
+    ensures { λ x. ⌜ ((joined : List ℕ) → Governs T.Step.readLeader g c views joined (now (len .entry)) x) ⌝ }
 {
-    let c = row.controller;
     let w = c.view;
     let k = seat(w.leader);
     let i = (k - 1) as usize;
-    let v = row.views[i];
-    let n = row.len[i];
+    let v = views[i];
+    let n = len[i];
     let a = cluster::telling::read_leader(c, v.epoch, n);
     let d = a.controller;
-    let mut next = row;
-    next.controller = d;
-    Outcome {
+    Settled {
         answer: a.answer,
-        row: next,
+        registry: g,
+        controller: d,
     }
 }
 
 // Step 12, the controller reads b.
-pub fn read(row: Cluster, b: u8) -> Outcome
-    requires { ⌜ Ready row ⌝ }
-    ensures { λ x. ⌜ Keeps (T.Step.read b) row x ⌝ }
+pub fn read(g: Registry, c: Controller, joined: &[u16], len: &[u16], b: u8) -> Settled
+    requires { ⌜ (length (now joined) ≡ 8) × Short (now len) ⌝ }
+    ensures { λ x. ⌜ ((views : List View) → Governs (T.Step.read b) g c views (now (joined .entry)) (now (len .entry)) x) ⌝ }
 {
-    let c = row.controller;
     let k = seat(b);
     let i = (k - 1) as usize;
-    let j = row.joined[i];
-    let n = row.len[i];
+    let j = joined[i];
+    let n = len[i];
     let a = cluster::telling::read(c, b, j, n);
     let d = a.controller;
-    let mut next = row;
-    next.controller = d;
-    Outcome {
+    Settled {
         answer: a.answer,
-        row: next,
+        registry: g,
+        controller: d,
     }
 }
 
 // Step 13, the registry goes normal on the controller's word.
-pub fn set_normal(row: Cluster) -> Outcome
-    requires { ⌜ Ready row ⌝ }
-    ensures { λ x. ⌜ Keeps T.Step.setNormal row x ⌝ }
+pub fn set_normal(g: Registry, c: Controller) -> Settled
+    ensures { λ x. ⌜ ((views : List View) (joined len : List ℕ) → Short len → Governs (T.Step.setNormal) g c views joined len x) ⌝ }
 {
-    let g = row.registry;
-    let c = row.controller;
-    let a = cluster::settling::set_normal(g, c);
-    let settled = a.registry;
-    let d = a.controller;
-    let mut next = row;
-    next.registry = settled;
-    next.controller = d;
-    Outcome {
-        answer: a.answer,
-        row: next,
-    }
+    cluster::settling::set_normal(g, c)
 }
 
 // Step 14, the controller hears b.
-pub fn hear(row: Cluster, b: u8) -> Outcome
-    requires { ⌜ Ready row ⌝ }
-    ensures { λ x. ⌜ Keeps (T.Step.hear b) row x ⌝ }
+pub fn hear(
+    g: Registry,
+    c: Controller,
+    views: [View; 8],
+    joined: &[u16],
+    len: &[u16],
+    b: u8,
+) -> Settled
+    requires { ⌜ (length (now joined) ≡ 8) × Short (now len) ⌝ }
+    ensures { λ x. ⌜ Governs (T.Step.hear b) g c views (now (joined .entry)) (now (len .entry)) x ⌝ }
 {
-    let c = row.controller;
     let k = seat(b);
     let i = (k - 1) as usize;
-    let v = row.views[i];
-    let j = row.joined[i];
-    let n = row.len[i];
+    let v = views[i];
+    let j = joined[i];
+    let n = len[i];
     let a = cluster::telling::hear(c, b, v.epoch, j, n);
     let d = a.controller;
-    let mut next = row;
-    next.controller = d;
-    Outcome {
+    Settled {
         answer: a.answer,
-        row: next,
+        registry: g,
+        controller: d,
     }
 }
 
 // Step 15, the controller installs b.
-pub fn install(row: Cluster, b: u8) -> Outcome
-    requires { ⌜ Ready row ⌝ }
-    ensures { λ x. ⌜ Keeps (T.Step.install b) row x ⌝ }
+pub fn install(g: Registry, c: Controller, b: u8) -> Settled
+    ensures { λ x. ⌜ ((views : List View) (joined len : List ℕ) → Short len → Governs (T.Step.install b) g c views joined len x) ⌝ }
 {
-    let g = row.registry;
-    let c = row.controller;
     let a = cluster::settling::install(g, c, b);
     let installed = a.registry;
     let d = a.controller;
-    let mut next = row;
-    next.registry = installed;
-    next.controller = d;
-    Outcome {
+    Settled {
         answer: a.answer,
-        row: next,
+        registry: installed,
+        controller: d,
     }
 }

@@ -111,7 +111,13 @@ module _ (cs : List ℕ) (a b n : ℕ) (ra : T (isReplica a)) (rb : T (isReplica
       (λ y m. rw (eqb-same a) (rw (ne-eqb y b m) (apart a y (λ _ q. m q)))))
       (λ x m y. rw (ne-eqb x a m) (apart x y (λ q _. m q))) x y))
 
--- The eight counts of b set to 0 one after the other, then its own to n.
+-- The k numbers from place i on set to 0, one after the other.
+abbrev pub wiped : List ℕ → ℕ → ℕ → List ℕ
+wiped cs i zero = cs
+wiped cs i (suc zero) = set cs i 0
+wiped cs i (suc (suc k)) = set (wiped cs i (suc k)) (i + suc k) 0
+
+-- The eight counts of b set to 0, then its own to n.
 module _ (acked : List ℕ) (b n : ℕ) (low : 1 ≤ b) (high : b ≤ 8) (all : length acked ≡ 64) where
   rb : T (isReplica b)
   rb = of-true (replica b low high)
@@ -152,11 +158,16 @@ module _ (acked : List ℕ) (b n : ℕ) (low : 1 ≤ b) (high : b ≤ 8) (all : 
           (λ y. rw (eqb-same b) (at-or {P = λ y. upd (atPair cs b) b n y ≡ upd M.zeros b n y} b (rw (eqb-same b)) (λ y m. rw (ne-eqb y b m) (zero-own y)) y))
           (λ x m y. rw (ne-eqb x b m) (c .others x y m))
 
-  pub restart :
-      (length (set (set (set (set (set (set (set (set (set acked (8 * (b - 1)) 0) (8 * (b - 1) + 1) 0) (8 * (b - 1) + 2) 0) (8 * (b - 1) + 3) 0) (8 * (b - 1) + 4) 0) (8 * (b - 1) + 5) 0) (8 * (b - 1) + 6) 0) (8 * (b - 1) + 7) 0) (8 * (b - 1) + (b - 1)) n) ≡ 64)
-      × (atPair (set (set (set (set (set (set (set (set (set acked (8 * (b - 1)) 0) (8 * (b - 1) + 1) 0) (8 * (b - 1) + 2) 0) (8 * (b - 1) + 3) 0) (8 * (b - 1) + 4) 0) (8 * (b - 1) + 5) 0) (8 * (b - 1) + 6) 0) (8 * (b - 1) + 7) 0) (8 * (b - 1) + (b - 1)) n) ≡ upd (atPair acked) b (upd M.zeros b n))
-  restart = finish (clear 7 _ (omega arith) refl (clear 6 _ (omega arith) refl (clear 5 _ (omega arith) refl (clear 4 _ (omega arith) refl
-      (clear 3 _ (omega arith) refl (clear 2 _ (omega arith) refl (clear 1 _ (omega arith) refl (clear 0 _ (omega arith) (omega arith) start))))))))
+  cleared : (k : ℕ) → k ≤ 8 → Cleared k (wiped acked (8 * (b - 1)) k)
+  cleared zero h = start
+  cleared (suc zero) h = clear 0 _ (omega arith) (omega arith) start
+  cleared (suc (suc k)) h = clear (suc k) _ h refl (cleared (suc k) (omega arith))
+
+  pub wiped-room : (k j : ℕ) → k ≤ 8 → j < 8 → 8 * (b - 1) + j < length (wiped acked (8 * (b - 1)) k)
+  wiped-room k j h l = omega (arith, cleared k h .many)
+
+  pub restart : (length (set (wiped acked (8 * (b - 1)) 8) (8 * (b - 1) + (b - 1)) n) ≡ 64) × (atPair (set (wiped acked (8 * (b - 1)) 8) (8 * (b - 1) + (b - 1)) n) ≡ upd (atPair acked) b (upd M.zeros b n))
+  restart = finish (cleared 8 (omega arith))
 
 -- One more replica is looked at for the quorum of a receipt.
 pub counted-more : (acked : List ℕ) (b n x q q′ : ℕ) → 1 ≤ b → b ≤ 8 → 1 ≤ x → x ≤ 8 → bits q ≡ under x (countedAbove (atPair acked b) n)

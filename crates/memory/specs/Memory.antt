@@ -1,5 +1,5 @@
--- A row together with the lent places as a state of the model, and what a step makes of them. Cited by the contracts of replicas and steps.
--- Assumes nothing.
+-- A row together with the lent places as a state of the model, and what a step makes of them. Cited by the contracts of replicas, control,
+-- steps and sheet. Assumes nothing.
 use mathlib.Core.Bool.{Bool, true, cond}
 use mathlib.Core.List.{List}
 use mathlib.Core.Logic.{_≢_}
@@ -11,8 +11,12 @@ use Rattle.model.specs.State as M
 use Rattle.model.specs.State.{State, values}
 use Rattle.model.specs.Steps.{Step, append, commit, add, remove, changeLeader, refresh, join, receive, acknowledge, refreshController, readLeader, read, setNormal, hear, install, malformed, accepted, answerOf, step}
 use Rattle.logstore.specs.Log.{place, logOf}
+use Rattle.cluster.specs.declared.View.{View}
+use Rattle.cluster.specs.declared.Registry.{Registry}
+use Rattle.cluster.specs.declared.Controller.{Controller}
 use Rattle.cluster.specs.declared.Cluster.{Cluster}
 use Rattle.cluster.specs.declared.Outcome.{Outcome}
+use Rattle.cluster.specs.declared.Settled.{Settled}
 use Rattle.cluster.specs.Layout.{registryOf, controllerOf, stageOf, viewOf, at, atPair, noView, outlineOf}
 
 -- The state that a row, the log store and the committed list stand for.
@@ -27,6 +31,23 @@ abs row store list = record {
   committed = take (row .count) list;
 }
 
+-- The row of these parts.
+abbrev pub rowOf : Registry → Controller → List View → List ℕ → List ℕ → List ℕ → ℕ → Cluster
+rowOf g c views joined acked len count = record { registry = g; controller = c; views = views; joined = joined; acked = acked; len = len; count = count }
+
+-- Eight lengths of logs.
+pub record Short (len : List ℕ) : Type 0 where
+  pub eight : length len ≡ 8
+  pub most : (b : ℕ) → at 0 len b ≤ 512
+
+-- Views whose leaders are replicas, or none.
+abbrev pub Led : List View → Type 0
+Led views = (b : ℕ) → at noView views b .leader ≤ 8
+
+-- A controller that reads its leader has one.
+abbrev pub Reads : Controller → Type 0
+Reads c = M.stageNumber (stageOf (c .stage)) ≡ 1 → isReplica (c .view .leader) ≡ true
+
 -- The lengths of the arrays that a row holds beside the controller's, which its type fixes.
 pub record Shape (row : Cluster) : Type 0 where
   pub views : length (row .views) ≡ 8
@@ -39,8 +60,8 @@ pub record Ready (row : Cluster) : Type 0 where
   pub shape : Shape row
   pub len : (b : ℕ) → at 0 (row .len) b ≤ 512
   pub count : row .count ≤ 512
-  pub leaders : (b : ℕ) → at noView (row .views) b .leader ≤ 8
-  pub reads : M.stageNumber (stageOf (row .controller .stage)) ≡ 1 → isReplica (row .controller .view .leader) ≡ true
+  pub leaders : Led (row .views)
+  pub reads : Reads (row .controller)
 
 -- The store after an accepted step: append and receive write one place, the end of b's log.
 abbrev pub storeAfter : Step → Cluster → List ℕ → List ℕ
@@ -92,10 +113,11 @@ pub record Turns (st : Step) (row : Cluster) (store list : List ℕ) (x : Outcom
   pub listed : list′ ≡ cond (accepted (outlineOf row) st) (listAfter st row store list) list
   pub refused : x .answer ≢ 0 → x .row ≡ row
 
--- The same of a step that is lent neither: whatever they hold, they stay.
-abbrev pub Keeps : Step → Cluster → Outcome → Type 0
-Keeps st row x = (store list : List ℕ) → length store ≡ 4096 → length list ≡ 512 → Turns st row store list x store list
+-- The same by the answer n and the row row′ that a step leaves.
+abbrev pub Leaves : Step → Cluster → List ℕ → List ℕ → ℕ → Cluster → List ℕ → List ℕ → Type 0
+Leaves st row store list n row′ store′ list′ = Turns st row store list (record { answer = n; row = row′ }) store′ list′
 
--- The same of a step that is lent the store alone.
-abbrev pub Stores : Step → Cluster → List ℕ → Outcome → List ℕ → Type 0
-Stores st row store x store′ = (list : List ℕ) → length list ≡ 512 → Turns st row store list x store′ list
+-- A step of the registry g and the controller c: what it answers and leaves, whatever the counts, the receipts and the lent places are.
+abbrev pub Governs : Step → Registry → Controller → List View → List ℕ → List ℕ → Settled → Type 0
+Governs st g c views joined len x = (acked : List ℕ) (count : ℕ) (store list : List ℕ) → count ≤ 512 → length store ≡ 4096 → length list ≡ 512
+    → Leaves st (rowOf g c views joined acked len count) store list (x .answer) (rowOf (x .registry) (x .controller) views joined acked len count) store list

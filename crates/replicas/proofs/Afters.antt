@@ -45,6 +45,12 @@ upd-cond : {A : Type 0} (f : ℕ → A) (b : ℕ) (t : Bool) (x : A) → cond t 
 upd-cond f b true x = refl
 upd-cond f b false x = sym (upd-idle f b (f b) refl)
 
+-- What stands at a place, written there again.
+pub set-idle : {A : Type 0} (d : A) (xs : List A) (i : ℕ) → set xs i (getD xs i d) ≡ xs
+set-idle d [] i = refl
+set-idle d (x ∷ xs) zero = refl
+set-idle d (x ∷ xs) (suc i) = ap (λ ys. x ∷ ys) (set-idle d xs i)
+
 -- The length at the place of a replica.
 pub short-at : (len : List ℕ) (k : ℕ) → ((b : ℕ) → at 0 len b ≤ 512) → 1 ≤ k → getD len (k - 1) 0 ≤ 512
 short-at len k short h = subst (λ m. m ≤ 512) (at-index 0 len k h) (short k)
@@ -80,28 +86,26 @@ logs-grow len eight short store full k v low high room =
 pub join-short : (store ys : List ℕ) (k n m : ℕ) → length store ≡ 4096 → 1 ≤ k → k ≤ 8 → n ≤ 512 → m ≡ length (shared eqb (logOf store k n) ys) → m ≤ 512
 join-short store ys k n m full low high h e = omega (arith, shared-length (logOf store k n) ys, log-length store full k low high n h)
 
+-- Where steps 1 and 2 answer 0, the check before that of the leader passed.
+pub passed : (m n o r : ℕ) (p q : Bool) {x y z : ℕ} → x ≡ cond (ltb m n) o (suc r) → y ≡ cond p x 8 → z ≡ cond q y 1 → z ≡ 0 → m < n
+passed m n o r p q ex ey ez h =
+    ltb→lt m n (go (ltb m n) o r ex (go p _ 7 ey (go q _ 0 ez h .1) .1) .0)
+  where
+    go : (t : Bool) (i j : ℕ) {x : ℕ} → x ≡ cond t i (suc j) → x ≡ 0 → T t × (i ≡ 0)
+    go true i j e z = (tt, sym e ∙ z)
+    go false i j e z = absurd (omega (arith, sym e ∙ z))
+
 -- What stands at the place of b.
 pub at-seat : {A : Type 0} (d : A) (xs : List A) (b k : ℕ) → (isReplica b ≡ true → k ≡ b) → T (isReplica b) → getD xs (k - 1) d ≡ at d xs b
 at-seat d xs b k hk t = ap (λ x. getD xs (x - 1) d) (hk (is-true (isReplica b) t)) ∙ sym (at-index d xs b (replica-range b t .0))
 
 module _ (row : Cluster) (b value k : ℕ) (hk : isReplica b ≡ true → k ≡ b) (t : accepted (outlineOf row) (append b value) ≡ true) where
-  pub append-room : getD (row .len) (k - 1) 0 < 512
-  append-room =
-      let h = facts (checks (outlineOf row) (append b value)) (of-true t) in
-      subst (λ m. m < 512) (sym (at-seat 0 (row .len) b k hk (h .0))) (ltb→lt (at 0 (row .len) b) 512 (h .1 .1 .0))
-
   pub append-place : place k (getD (row .len) (k - 1) 0) ≡ place b (at 0 (row .len) b)
   append-place =
       let h = facts (checks (outlineOf row) (append b value)) (of-true t) in
       rw (at-seat 0 (row .len) b k hk (h .0), hk (is-true (isReplica b) (h .0)))
 
 module _ (row : Cluster) (b k : ℕ) (hk : isReplica b ≡ true → k ≡ b) where
-  -- a receipt is given inside the log and the list
-  pub commit-room : ((x : ℕ) → at 0 (row .len) x ≤ 512) → accepted (outlineOf row) (commit b) ≡ true → row .count < 512
-  commit-room short t =
-      let h = facts (checks (outlineOf row) (commit b)) (of-true t) in
-      omega (arith, ltb→lt (row .count) (at 0 (row .len) b) (h .1 .1 .0), short b)
-
   pub commit-entry : (store : List ℕ) → accepted (outlineOf row) (commit b) ≡ true → getD store (place k (row .count)) 0 ≡ getD store (place b (row .count)) 0
   commit-entry store t = ap (λ x. getD store (place x (row .count)) 0) (hk (is-true (isReplica b) (facts (checks (outlineOf row) (commit b)) (of-true t) .0)))
 

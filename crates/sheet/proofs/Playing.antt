@@ -104,7 +104,7 @@ module _ (s : Text) (sheet : isSheet s ≡ true) (k : ℕ) (row : Cluster) (stor
     unfolding run
     reached = sym (run-append values (opened b) (following s k) (r ∷ [])) ∙ ap (after values b) (sym more)
 
-    pub ran-more : Ran s (suc k) (x .row) store′ list′ (set ns (k + 1) (x .answer))
+    pub ran-more : Ran s (k + 1) (x .row) store′ list′ (set ns (k + 1) (x .answer))
     ran-more = rw (add-one k) record {
       state = t .state ∙ ap (λ y. step values y (stepOf r)) (h .state) ∙ reached;
       outlined = did .outlined ∙ ap (λ u. cond u (outline (step values (abs row store list) (stepOf r))) (outlineOf row)) (all-tests row store list (h .full) (h .long) ran-fits)

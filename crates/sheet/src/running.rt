@@ -2,13 +2,17 @@
 
 ghost use mathlib.Core.Path.{_≡_};
 ghost use mathlib.Core.Bool.{true};
-ghost use Prim.Native.Nat.{_+_, _-_, _*_, _/_, _≤_, suc};
+ghost use Prim.Native.Nat.{_-_, _/_};
 ghost use lib.ListN.{length};
+ghost use Rattle.memory.specs.Memory.{rowOf, Shape};
 ghost use Rattle.control.specs.Opening.{OpenedWith};
 ghost use Rattle.sheet.specs.Listing.{isSheet, recordAt};
 ghost use Rattle.sheet.specs.Running.{Ran};
 use crate::decode;
 use cluster::Cluster;
+use cluster::Controller;
+use cluster::Registry;
+use cluster::View;
 
 // The opening.
 fn begin(sheet: &[u8]) -> Cluster
@@ -20,22 +24,65 @@ fn begin(sheet: &[u8]) -> Cluster
     o.row
 }
 
-// The record after k others and the opening.
-fn turn(
+// What a run carries from record to record beside the lent places: the row without the joined epochs, the counts and the lengths.
+struct Centre {
+    registry: Registry,
+    controller: Controller,
+    views: [View; 8],
+    count: u16,
+}
+
+// The records after the opening, from the row `o`.
+fn walk(
     sheet: &[u8],
-    k: usize,
-    row: Cluster,
+    o: Centre,
+    joined: &mut [u16],
+    acked: &mut [u16],
+    len: &mut [u16],
     store: &mut [u32],
     list: &mut [u32],
     answers: &mut [u8],
-) -> Cluster
-    requires { ⌜ (isSheet (now sheet) ≡ true) × (8 * k + 16 ≤ length (now sheet)) × Ran (now sheet) k row (now store) (now list) (now answers) ⌝ }
-    ensures { λ r. ⌜ Ran (now (sheet .entry)) (suc k) r (now (store .exit)) (now (list .exit)) (now (answers .exit)) ⌝ }
+) -> Centre
+    requires { ⌜ (isSheet (now sheet) ≡ true) × Shape (rowOf (o .registry) (o .controller) (o .views) (now joined) (now acked) (now len) (o .count)) × Ran (now sheet) 0 (rowOf (o .registry) (o .controller) (o .views) (now joined) (now acked) (now len) (o .count)) (now store) (now list) (now answers) ⌝ }
+    ensures { λ r. ⌜ Ran (now (sheet .entry)) (length (now (sheet .entry)) / 8 - 1) (rowOf (r .registry) (r .controller) (r .views) (now (joined .exit)) (now (acked .exit)) (now (len .exit)) (r .count)) (now (store .exit)) (now (list .exit)) (now (answers .exit)) ⌝ }
 {
-    let r = decode(sheet, 8 * k + 8);
-    let x = steps::dispatch(row, &mut *store, &mut *list, r);
-    answers[k + 1] = x.answer;
-    x.row
+    let n = sheet.len() / 8 - 1;
+    let mut g = o.registry;
+    let mut c = o.controller;
+    let mut views = o.views;
+    let mut count = o.count;
+    let mut k: usize = 0;
+    while k < n {
+        let r = decode(sheet, 8 * k + 8);
+        let x = steps::send(
+            g,
+            c,
+            views,
+            count,
+            &mut *joined,
+            &mut *acked,
+            &mut *len,
+            &mut *store,
+            &mut *list,
+            r,
+        );
+        answers[k + 1] = x.answer;
+        count = x.count;
+        let i = x.place;
+        let v = x.view;
+        views[i] = v;
+        let h = x.registry;
+        let d = x.controller;
+        g = h;
+        c = d;
+        k += 1;
+    }
+    Centre {
+        registry: g,
+        controller: c,
+        views: views,
+        count: count,
+    }
 }
 
 // The whole sheet. Inner layer: callers see to it that refusal 2 lets the sheet through, and that the lent places have their lengths.
@@ -43,14 +90,40 @@ pub fn play(sheet: &[u8], store: &mut [u32], list: &mut [u32], answers: &mut [u8
     requires { ⌜ (isSheet (now sheet) ≡ true) × (length (now store) ≡ 4096) × (length (now list) ≡ 512) × (length (now answers) ≡ 4096) ⌝ }
     ensures { λ r. ⌜ Ran (now (sheet .entry)) (length (now (sheet .entry)) / 8 - 1) r (now (store .exit)) (now (list .exit)) (now (answers .exit)) ⌝ }
 {
-    let n = sheet.len() / 8 - 1;
-    let mut row = begin(sheet);
+    let row = begin(sheet);
     answers[0] = 0;
-    let mut k: usize = 0;
-    while k < n {
-        let next = turn(sheet, k, row, &mut *store, &mut *list, &mut *answers);
-        row = next;
-        k += 1;
+    let g = row.registry;
+    let c = row.controller;
+    let views = row.views;
+    let mut joined = row.joined;
+    let mut acked = row.acked;
+    let mut len = row.len;
+    let o = Centre {
+        registry: g,
+        controller: c,
+        views: views,
+        count: row.count,
+    };
+    let x = walk(
+        sheet,
+        o,
+        &mut joined,
+        &mut acked,
+        &mut len,
+        &mut *store,
+        &mut *list,
+        &mut *answers,
+    );
+    let h = x.registry;
+    let d = x.controller;
+    let next = x.views;
+    Cluster {
+        registry: h,
+        controller: d,
+        views: next,
+        joined: joined,
+        acked: acked,
+        len: len,
+        count: x.count,
     }
-    row
 }

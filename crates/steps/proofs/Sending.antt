@@ -7,23 +7,35 @@ use Prim.Native.Nat.{ℕ}
 use native.Mathlib.Nat.{zero-add}
 use native.Mathlib.Omega.{arith}
 use lib.Dec.{eqb}
-use lib.ListN.{length, getD}
+use lib.ListN.{length, getD, set}
 use Rattle.model.specs.State.{Outline, outline, values}
 use Rattle.model.specs.Steps.{Step, malformed, accepted, answerOf, next}
 use Rattle.model.specs.Records.{Record, unused, rules}
 use Rattle.model.proofs.Theorem.{nth}
+use Rattle.cluster.specs.declared.View.{View}
+use Rattle.cluster.specs.declared.Registry.{Registry}
+use Rattle.cluster.specs.declared.Controller.{Controller}
 use Rattle.cluster.specs.declared.Cluster.{Cluster}
 use Rattle.cluster.specs.declared.Outcome.{Outcome}
-use Rattle.cluster.specs.Layout.{outlineOf}
-use Rattle.memory.specs.Memory.{abs, Ready, storeAfter, listAfter, Turns}
+use Rattle.cluster.specs.Layout.{noView, outlineOf}
+use Rattle.memory.specs.Memory.{abs, rowOf, Ready, storeAfter, listAfter, Turns, Leaves}
 use Rattle.memory.proofs.Turning.{turns-refused}
+use Rattle.replicas.proofs.Afters.{set-idle}
+use Rattle.steps.specs.declared.Sent.{Sent}
+use Rattle.steps.specs.Call.{Sends}
 
 -- The answer 1 to what is no step.
-pub malformed-turns : (row : Cluster) → Ready row → (store list : List ℕ) → length store ≡ 4096 → length list ≡ 512 → (x : Outcome) → x .answer ≡ 1 → x .row ≡ row
-    → Turns malformed row store list x store list
-malformed-turns row p store list full long x ea er =
-    subst (λ (y : Outcome). Turns malformed row store list y store list) (λ i. record { answer = sym ea i; row = sym er i })
-    (turns-refused row (p .shape .len) (p .len) (p .count) store list full long malformed 1 refl (λ e. omega arith))
+pub malformed-leaves : (row : Cluster) → Ready row → (store list : List ℕ) → length store ≡ 4096 → length list ≡ 512 → Leaves malformed row store list 1 row store list
+malformed-leaves row p store list full long = turns-refused row (p .shape .len) (p .len) (p .count) store list full long malformed 1 refl (λ e. omega arith)
+
+-- A step that leaves the views.
+pub sends-kept : {st : Step} {g g′ : Registry} {c c′ : Controller} {views : List View} {n count count′ : ℕ} {joined acked len store list joined′ acked′ len′ store′ list′ : List ℕ} {y : Sent}
+    → y ≡ record { answer = n; count = count′; place = 0; view = getD views 0 noView; registry = g′; controller = c′ }
+    → Turns st (rowOf g c views joined acked len count) store list (record { answer = n; row = rowOf g′ c′ views joined′ acked′ len′ count′ }) store′ list′
+    → Sends st g c views count joined acked len store list y joined′ acked′ len′ store′ list′
+sends-kept {st} {g} {g′} {c} {c′} {views} {n} {count} {count′} {joined} {acked} {len} {store} {list} {joined′} {acked′} {len′} {store′} {list′} e h =
+    subst (λ (y : Sent). Sends st g c views count joined acked len store list y joined′ acked′ len′ store′ list′) (sym e)
+    (record { place = omega arith; leaves = subst (λ vs. Leaves st (rowOf g c views joined acked len count) store list n (rowOf g′ c′ vs joined′ acked′ len′ count′) store′ list′) (sym (set-idle noView views 0)) h })
 
 zero-of : (t : Bool) → _≡_ {A = ℕ} (cond t 0 0) 0
 zero-of true = refl

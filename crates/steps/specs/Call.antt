@@ -3,23 +3,33 @@ use mathlib.Core.Bool.{Bool, true, cond, _&&_}
 use mathlib.Core.List.{List, []}
 use mathlib.Core.Logic.{_≢_}
 use mathlib.Core.Path.{_≡_}
-use Prim.Native.Nat.{ℕ}
+use Prim.Native.Nat.{ℕ, _<_}
 use lib.Dec.{eqb}
-use lib.ListN.{length}
+use lib.ListN.{length, set}
 use Rattle.model.specs.State as M
 use Rattle.model.specs.State.{outline, values}
 use Rattle.model.specs.Steps.{Step, accepted, answerOf, step}
 use Rattle.model.specs.Records as R
 use Rattle.model.specs.Ranges.{inRange}
+use Rattle.cluster.specs.declared.View.{View}
+use Rattle.cluster.specs.declared.Registry.{Registry}
+use Rattle.cluster.specs.declared.Controller.{Controller}
 use Rattle.cluster.specs.declared.Cluster.{Cluster}
 use Rattle.cluster.specs.declared.Outcome.{Outcome}
 use Rattle.cluster.specs.Layout.{outlineOf}
-use Rattle.memory.specs.Memory.{abs, storeAfter, listAfter}
+use Rattle.memory.specs.Memory.{abs, rowOf, storeAfter, listAfter, Leaves}
 use Rattle.steps.specs.declared.Record.{Record}
+use Rattle.steps.specs.declared.Sent.{Sent}
 
 -- The model's record of a record.
 abbrev pub recordOf : Record → R.Record
 recordOf r = record { step = r .step; board = r .board; other = r .other; spare = r .spare; value = r .value }
+
+-- What the step st of the row of these parts answers and leaves: x has all that it does not write where it is lent; of the views it changes one at most.
+pub record Sends (st : Step) (g : Registry) (c : Controller) (views : List View) (count : ℕ) (joined acked len store list : List ℕ) (x : Sent) (joined′ acked′ len′ store′ list′ : List ℕ) : Type 0 where
+  pub place : x .place < 8
+  pub leaves : Leaves st (rowOf g c views joined acked len count) store list (x .answer)
+      (rowOf (x .registry) (x .controller) (set views (x .place) (x .view)) joined′ acked′ len′ (x .count)) store′ list′
 
 -- Refusal 1, apart from a step's fields: "a store not 4,096 or receipts not 512 long, a row with a number outside the ranges", leaders.
 abbrev pub valid : Cluster → List ℕ → List ℕ → Bool

@@ -4,12 +4,16 @@ ghost use lib.Dec.{eqb};
 ghost use lib.ListN.{length};
 ghost use Rattle.model.specs.Steps as T;
 ghost use Rattle.model.specs.Records as R;
-ghost use Rattle.memory.specs.Memory.{Ready, Turns};
+ghost use Rattle.memory.specs.Memory.{rowOf, Ready, Turns};
 ghost use Rattle.control.specs.Opening.{Opens};
 ghost use Rattle.steps.specs.Calls.{CallsSafe};
-ghost use Rattle.steps.specs.Call.{recordOf, Did, shown};
+ghost use Rattle.steps.specs.Call.{recordOf, Sends, Did, shown};
 use cluster::Cluster;
+use cluster::Controller;
 use cluster::Outcome;
+use cluster::Registry;
+use cluster::Settled;
+use cluster::View;
 
 // A record of a sheet: its step, its board (a in step 9), b in step 9, a spare byte, the value.
 pub struct Record {
@@ -46,82 +50,192 @@ fn refused(row: Cluster) -> Outcome
     }
 }
 
-// Sends a record to its field check and its step. Inner layer: callers see to it that refusal 1 lets the row and the lent
-// places through.
-pub fn dispatch(row: Cluster, store: &mut [u32], list: &mut [u32], r: Record) -> Outcome
-    requires { ⌜ Ready row × (length (now store) ≡ 4096) × (length (now list) ≡ 512) ⌝ }
-    ensures { λ x. ⌜ Turns (R.stepOf (recordOf r)) row (now (store .entry)) (now (list .entry)) x (now (store .exit)) (now (list .exit)) ⌝ }
+// What a record's step answers and leaves of a row: the number of receipts, one of the views and its place, the registry, the
+// controller. The rest it writes where it is lent.
+pub struct Sent {
+    pub answer: u8,
+    pub count: u16,
+    pub place: usize,
+    pub view: View,
+    pub registry: Registry,
+    pub controller: Controller,
+}
+
+// The answer a, and these as they are; v stands at place 0.
+fn kept(g: Registry, c: Controller, v: View, count: u16, a: u8) -> Sent
+    ensures { λ x. ⌜ x ≡ record { answer = a; count = count; place = 0; view = v; registry = g; controller = c } ⌝ }
+{
+    Sent {
+        answer: a,
+        count: count,
+        place: 0,
+        view: v,
+        registry: g,
+        controller: c,
+    }
+}
+
+// What a step of the registry and the controller answers and leaves, and the rest as it is.
+fn settled(v: View, count: u16, s: Settled) -> Sent
+    ensures { λ x. ⌜ x ≡ record { answer = s .answer; count = count; place = 0; view = v; registry = s .registry; controller = s .controller } ⌝ }
+{
+    let g = s.registry;
+    let c = s.controller;
+    Sent {
+        answer: s.answer,
+        count: count,
+        place: 0,
+        view: v,
+        registry: g,
+        controller: c,
+    }
+}
+
+// Sends a record to its field check and its step. Inner layer: callers see to it that refusal 1 lets the row and the lent places
+// through.
+pub fn send(
+    g: Registry,
+    c: Controller,
+    views: [View; 8],
+    count: u16,
+    joined: &mut [u16],
+    acked: &mut [u16],
+    len: &mut [u16],
+    store: &mut [u32],
+    list: &mut [u32],
+    r: Record,
+) -> Sent
+    requires { ⌜ Ready (rowOf g c views (now joined) (now acked) (now len) count) × (length (now store) ≡ 4096) × (length (now list) ≡ 512) ⌝ }
+    ensures { λ x. ⌜ Sends (R.stepOf (recordOf r)) g c views count (now (joined .entry)) (now (acked .entry)) (now (len .entry)) (now (store .entry)) (now (list .entry)) x (now (joined .exit)) (now (acked .exit)) (now (len .exit)) (now (store .exit)) (now (list .exit)) ⌝ }
 {
     let n = r.step;
     let b = board(r.board, r.other, r.spare, r.value);
     let none = board(1, r.board, 0, 0);
     let bare = board(none, r.other, r.spare, r.value);
+    let v = views[0];
     match n {
         0 => {
-            return refused(row);
+            return kept(g, c, v, count, 1);
         }
         1 => {
             let a = board(r.board, r.other, r.spare, 0);
-            return replicas::append(row, &mut *store, a, r.value);
+            let x = replicas::append(views, &mut *acked, &mut *len, &mut *store, a, r.value);
+            return kept(g, c, v, count, x);
         }
         2 => {
-            return replicas::commit(row, &*store, &mut *list, b);
+            let x = replicas::commit(views, count, &*acked, &*len, &*store, &mut *list, b);
+            return kept(g, c, v, x.count, x.answer);
         }
         3 => {
-            return control::add(row, b);
+            return settled(v, count, control::add(g, c, b));
         }
         4 => {
-            return control::remove(row, b);
+            return settled(v, count, control::remove(g, c, b));
         }
         5 => {
             if bare == 0 {
-                return refused(row);
+                return kept(g, c, v, count, 1);
             }
-            return control::change(row);
+            return settled(v, count, control::change(g, c));
         }
         6 => {
-            return replicas::refresh(row, b);
+            let w = g.view;
+            let x = replicas::refresh(w, views, &mut *joined, &mut *acked, &*len, b);
+            let next = x.view;
+            return Sent {
+                answer: x.answer,
+                count: count,
+                place: x.place,
+                view: next,
+                registry: g,
+                controller: c,
+            };
         }
         7 => {
-            return replicas::join(row, &*store, b);
+            let x = replicas::join(views, &mut *joined, &mut *len, &*store, b);
+            return kept(g, c, v, count, x);
         }
         8 => {
-            return replicas::receive(row, &mut *store, b);
+            let x = replicas::receive(views, &*joined, &mut *len, &mut *store, b);
+            return kept(g, c, v, count, x);
         }
         9 => {
             let a = board(r.board, 0, r.spare, r.value);
-            return replicas::acknowledge(row, a, r.other);
+            let x = replicas::acknowledge(views, &*joined, &mut *acked, &*len, a, r.other);
+            return kept(g, c, v, count, x);
         }
         10 => {
             if bare == 0 {
-                return refused(row);
+                return kept(g, c, v, count, 1);
             }
-            return control::refresh_controller(row);
+            return settled(v, count, control::refresh_controller(g, c));
         }
         11 => {
             if bare == 0 {
-                return refused(row);
+                return kept(g, c, v, count, 1);
             }
-            return control::read_leader(row);
+            return settled(v, count, control::read_leader(g, c, views, &*len));
         }
         12 => {
-            return control::read(row, b);
+            return settled(v, count, control::read(g, c, &*joined, &*len, b));
         }
         13 => {
             if bare == 0 {
-                return refused(row);
+                return kept(g, c, v, count, 1);
             }
-            return control::set_normal(row);
+            return settled(v, count, control::set_normal(g, c));
         }
         14 => {
-            return control::hear(row, b);
+            return settled(v, count, control::hear(g, c, views, &*joined, &*len, b));
         }
         15 => {
-            return control::install(row, b);
+            return settled(v, count, control::install(g, c, b));
         }
         16..=255 => {
-            return refused(row);
+            return kept(g, c, v, count, 1);
         }
+    }
+}
+
+// The same of a row by value.
+fn dispatch(row: Cluster, store: &mut [u32], list: &mut [u32], r: Record) -> Outcome
+    requires { ⌜ Ready row × (length (now store) ≡ 4096) × (length (now list) ≡ 512) ⌝ }
+    ensures { λ x. ⌜ Turns (R.stepOf (recordOf r)) row (now (store .entry)) (now (list .entry)) x (now (store .exit)) (now (list .exit)) ⌝ }
+{
+    let g = row.registry;
+    let c = row.controller;
+    let mut views = row.views;
+    let mut joined = row.joined;
+    let mut acked = row.acked;
+    let mut len = row.len;
+    let x = send(
+        g,
+        c,
+        views,
+        row.count,
+        &mut joined,
+        &mut acked,
+        &mut len,
+        &mut *store,
+        &mut *list,
+        r,
+    );
+    let i = x.place;
+    let v = x.view;
+    views[i] = v;
+    let h = x.registry;
+    let d = x.controller;
+    Outcome {
+        answer: x.answer,
+        row: Cluster {
+            registry: h,
+            controller: d,
+            views: views,
+            joined: joined,
+            acked: acked,
+            len: len,
+            count: x.count,
+        },
     }
 }
 

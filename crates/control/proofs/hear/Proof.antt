@@ -1,65 +1,49 @@
+-- `control::hear` meets its contract. Assumes nothing.
 use mathlib.Core.Path.{refl}
+use denote.Ref.{now}
 use Rattle.model.specs.Steps.{hear}
-use Rattle.control.proofs.Centre.{tells-keep, short-log, seated}
+use Rattle.control.proofs.Centre.{tells-govern, short-log, seated}
 use borrow.Author.Needs.{needs}
 use Rattle.control.proofs.hear.Statement.{statement}
 use Rattle.control.proofs.hear.Tie as tie
-use Rattle.control.proofs.hear.Reads as reads
-use Rattle.control.proofs.hear.Lts as lts
-use Rattle.cluster.proofs.seat.Reads as seat-reads
-use Rattle.cluster.proofs.telling.hear.Reads as hear-reads
 
--- src/lib.rt:198:9
 seat-requires : tie.Need-seat-requires
 seat-requires c κs = search needs
 
--- src/lib.rt:199:14
 sub-i : tie.Need-sub-i
 sub-i c = search needs
 
--- src/lib.rt:199:13
 cast-i : tie.Need-cast-i
 cast-i c = search needs
 
--- src/lib.rt:200:13
 mul-v : tie.Need-mul-v
 mul-v c = search needs
 
--- src/lib.rt:200:13
-element-copy-out-v : tie.Need-element-copy-out-v
-element-copy-out-v c = search needs
+array-copy-out-v : tie.Need-array-copy-out-v
+array-copy-out-v c = search needs
 
--- src/lib.rt:201:13
 mul-j : tie.Need-mul-j
 mul-j c = search needs
 
--- src/lib.rt:201:13
-element-copy-out-j : tie.Need-element-copy-out-j
-element-copy-out-j c = search needs
+shared-slice-read-j : tie.Need-shared-slice-read-j
+shared-slice-read-j c = search needs
 
--- src/lib.rt:202:13
 mul-n : tie.Need-mul-n
 mul-n c = search needs
 
--- src/lib.rt:202:13
-element-copy-out-n : tie.Need-element-copy-out-n
-element-copy-out-n c = search needs
+shared-slice-read-n : tie.Need-shared-slice-read-n
+shared-slice-read-n c = search needs
 
--- src/lib.rt:203:9
 hear-requires : tie.Need-hear-requires
-hear-requires c κs =
-    let a = c .before .before .before .before .before .args in
-    let p = c .before .before .before .before .before .pre in
-    short-log (a .t1) p _ (c .before .before .before .seat .ensures .0)
+hear-requires c κs = short-log (now (c .before .before .before .before .before .before .args .len)) (c .before .before .before .before .before .before .pre .1) _ (c .before .before .before .seat .ensures .0)
 
--- src/lib.rt:193:1
 returns : tie.Need-returns
 returns c =
-    let a = c .before .before .before .before .before .before .before .args in
-    let p = c .before .before .before .before .before .before .before .pre in
+    let a = c .before .before .before .before .before .before .before .before .args in
+    let p = c .before .before .before .before .before .before .before .before .pre in
     let k = c .before .before .before .before .before .seat .ensures in
-    let found = seated (a .t1) p _ (k .0) (a .b) (k .2) in
-    tells-keep (hear (a .b)) (record { state = λ _. refl; store = λ _ _. refl; list = λ _ _ _. refl }) (a .t1) p _ (c .before .hear .ensures) found
+    tells-govern (hear (a .b)) (a .g) (a .c) (a .t3) (now (a .joined)) (now (a .len)) (p .1) (record { state = λ _. refl; store = λ _ _. refl; list = λ _ _ _. refl }) _ (c .before .hear .ensures)
+    (λ acked count store list full t. seated (now (a .len)) (p .1) _ (k .0) (a .g) (a .c) (a .t3) (now (a .joined)) acked count (a .b) (k .2) store list full t)
 
 pub hear-spec : {M : Type 1} → statement M
 hear-spec =
@@ -69,10 +53,10 @@ hear-spec =
     sub-i
     cast-i
     mul-v
-    element-copy-out-v
+    array-copy-out-v
     mul-j
-    element-copy-out-j
+    shared-slice-read-j
     mul-n
-    element-copy-out-n
+    shared-slice-read-n
     hear-requires
     returns)

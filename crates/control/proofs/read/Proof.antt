@@ -1,57 +1,43 @@
+-- `control::read` meets its contract. Assumes nothing.
 use mathlib.Core.Path.{refl}
+use denote.Ref.{now}
 use Rattle.model.specs.Steps.{read}
-use Rattle.control.proofs.Centre.{tells-keep, short-log, seated}
+use Rattle.control.proofs.Centre.{tells-govern, short-log, seated}
 use borrow.Author.Needs.{needs}
 use Rattle.control.proofs.read.Statement.{statement}
 use Rattle.control.proofs.read.Tie as tie
-use Rattle.control.proofs.read.Reads as reads
-use Rattle.control.proofs.read.Lts as lts
-use Rattle.cluster.proofs.seat.Reads as seat-reads
-use Rattle.cluster.proofs.telling.read.Reads as read-reads
 
--- src/lib.rt:159:9
 seat-requires : tie.Need-seat-requires
 seat-requires c κs = search needs
 
--- src/lib.rt:160:14
 sub-i : tie.Need-sub-i
 sub-i c = search needs
 
--- src/lib.rt:160:13
 cast-i : tie.Need-cast-i
 cast-i c = search needs
 
--- src/lib.rt:161:13
 mul-j : tie.Need-mul-j
 mul-j c = search needs
 
--- src/lib.rt:161:13
-element-copy-out-j : tie.Need-element-copy-out-j
-element-copy-out-j c = search needs
+shared-slice-read-j : tie.Need-shared-slice-read-j
+shared-slice-read-j c = search needs
 
--- src/lib.rt:162:13
 mul-n : tie.Need-mul-n
 mul-n c = search needs
 
--- src/lib.rt:162:13
-element-copy-out-n : tie.Need-element-copy-out-n
-element-copy-out-n c = search needs
+shared-slice-read-n : tie.Need-shared-slice-read-n
+shared-slice-read-n c = search needs
 
--- src/lib.rt:163:9
 read-requires : tie.Need-read-requires
-read-requires c κs =
-    let a = c .before .before .before .before .args in
-    let p = c .before .before .before .before .pre in
-    short-log (a .t1) p _ (c .before .before .seat .ensures .0)
+read-requires c κs = short-log (now (c .before .before .before .before .before .args .len)) (c .before .before .before .before .before .pre .1) _ (c .before .before .seat .ensures .0)
 
--- src/lib.rt:154:1
 returns : tie.Need-returns
 returns c =
-    let a = c .before .before .before .before .before .before .args in
-    let p = c .before .before .before .before .before .before .pre in
+    let a = c .before .before .before .before .before .before .before .args in
+    let p = c .before .before .before .before .before .before .before .pre in
     let k = c .before .before .before .before .seat .ensures in
-    let found = seated (a .t1) p _ (k .0) (a .b) (k .2) in
-    tells-keep (read (a .b)) (record { state = λ _. refl; store = λ _ _. refl; list = λ _ _ _. refl }) (a .t1) p _ (c .before .read .ensures) (λ store list full t. let f = found store list full t in (f .1, f .2))
+    λ views. tells-govern (read (a .b)) (a .g) (a .c) views (now (a .joined)) (now (a .len)) (p .1) (record { state = λ _. refl; store = λ _ _. refl; list = λ _ _ _. refl }) _ (c .before .read .ensures)
+    (λ acked count store list full t. let f = seated (now (a .len)) (p .1) _ (k .0) (a .g) (a .c) views (now (a .joined)) acked count (a .b) (k .2) store list full t in (f .1, f .2))
 
 pub read-spec : {M : Type 1} → statement M
 read-spec =
@@ -61,8 +47,8 @@ read-spec =
     sub-i
     cast-i
     mul-j
-    element-copy-out-j
+    shared-slice-read-j
     mul-n
-    element-copy-out-n
+    shared-slice-read-n
     read-requires
     returns)

@@ -1,4 +1,14 @@
-use mathlib.Core.Path.{refl}
+-- `replicas::acknowledge` meets its contract. Assumes nothing.
+use mathlib.Core.Path.{_≡_, refl}
+use Prim.Native.Nat.{ℕ}
+use native.Mathlib.Omega.{arith}
+use denote.Ref.{now}
+use Rattle.model.specs.Steps.{acknowledge, answerOf}
+use Rattle.cluster.specs.declared.Registry.{Registry}
+use Rattle.cluster.specs.declared.Controller.{Controller}
+use Rattle.cluster.specs.declared.Cluster.{Cluster}
+use Rattle.cluster.specs.Layout.{outlineOf}
+use Rattle.memory.specs.Memory.{rowOf}
 use Rattle.memory.proofs.Turning.{turns-refused, turns-accepted}
 use Rattle.replicas.proofs.Answers.{acknowledge-answer}
 use Rattle.replicas.proofs.Afters.{acknowledge-after}
@@ -12,143 +22,128 @@ use Rattle.cluster.proofs.seat.Reads as seat-reads
 use Rattle.members.proofs.has.Reads as has-reads
 use Rattle.replicas.proofs.two.Reads as two-reads
 
--- src/lib.rt:21:14
+-- the entry, and where a and b are found
+abbrev entry : tie.After-check6 → tie.Start
+entry c = c .before .before .before .before .before .before .before .before .before .before .before .before .before .before .before .before .before .before .before .before .before .before
+
+abbrev one : tie.After-check6 → tie.After-seat
+one c = c .before .before .before .before .before .before .before .before .before .before .before .before .before .before .before .before .before .before
+
+abbrev other : tie.After-check6 → tie.After-seat2
+other c = c .before .before .before .before .before .before .before .before .before .before .before .before .before .before .before .before .before
+
+abbrev row : tie.After-check6 → Registry → Controller → ℕ → Cluster
+row c g k count = rowOf g k (entry c .args .t1) (now (entry c .args .joined)) (now (entry c .args .acked)) (now (entry c .args .len)) count
+
+-- the chain of checks
+answers : (c : tie.After-check6) (g : Registry) (k : Controller) (count : ℕ) → c .check6 .result ≡ answerOf (outlineOf (row c g k count)) (acknowledge (entry c .args .a) (entry c .args .b))
+answers c g k count = acknowledge-answer (row c g k count) (entry c .args .a) (entry c .args .b) _ _ (one c .seat .ensures .2) (other c .seat2 .ensures .2) (c .before .before .before .before .before .before .before .before .before .before .before .check .ensures) (c .before .before .before .before .before .before .before .before .before .check2 .ensures) (c .before .before .before .before .before .before .check3 .ensures) (c .before .before .before .before .before .has .ensures) (c .before .before .before .before .check4 .ensures) (c .before .before .check5 .ensures) (c .before .two .ensures) (c .check6 .ensures)
+
 seat-requires : tie.Need-seat-requires
 seat-requires c κs = search needs
 
--- src/lib.rt:21:14
 sub-i : tie.Need-sub-i
 sub-i c = search needs
 
--- src/lib.rt:21:13
 cast-i : tie.Need-cast-i
 cast-i c = search needs
 
--- src/lib.rt:22:9
 seat-requires-2 : tie.Need-seat-requires-2
 seat-requires-2 c κs = search needs
 
--- src/lib.rt:23:14
 sub-j : tie.Need-sub-j
 sub-j c = search needs
 
--- src/lib.rt:23:13
 cast-j : tie.Need-cast-j
 cast-j c = search needs
 
--- src/lib.rt:24:13
 mul-v : tie.Need-mul-v
 mul-v c = search needs
 
--- src/lib.rt:24:13
-element-copy-out-v : tie.Need-element-copy-out-v
-element-copy-out-v c = search needs
+array-copy-out-v : tie.Need-array-copy-out-v
+array-copy-out-v c = search needs
 
--- src/lib.rt:25:13
 mul-w : tie.Need-mul-w
 mul-w c = search needs
 
--- src/lib.rt:25:13
-element-copy-out-w : tie.Need-element-copy-out-w
-element-copy-out-w c = search needs
+array-copy-out-w : tie.Need-array-copy-out-w
+array-copy-out-w c = search needs
 
--- src/lib.rt:26:13
 mul-t : tie.Need-mul-t
 mul-t c = search needs
 
--- src/lib.rt:26:13
-element-copy-out-t : tie.Need-element-copy-out-t
-element-copy-out-t c = search needs
+shared-slice-read-t : tie.Need-shared-slice-read-t
+shared-slice-read-t c = search needs
 
--- src/lib.rt:27:23
 mul-c : tie.Need-mul-c
 mul-c c = search needs
 
--- src/lib.rt:27:23
 add-c : tie.Need-add-c
 add-c c = search needs
 
--- src/lib.rt:27:13
 mul-c-2 : tie.Need-mul-c-2
 mul-c-2 c = search needs
 
--- src/lib.rt:27:13
-element-copy-out-c : tie.Need-element-copy-out-c
-element-copy-out-c c = search needs
+slice-read-c : tie.Need-slice-read-c
+slice-read-c c = search needs
 
--- src/lib.rt:28:13
 mul-n : tie.Need-mul-n
 mul-n c = search needs
 
--- src/lib.rt:28:13
-element-copy-out-n : tie.Need-element-copy-out-n
-element-copy-out-n c = search needs
+shared-slice-read-n : tie.Need-shared-slice-read-n
+shared-slice-read-n c = search needs
 
--- src/lib.rt:29:9
 check-requires : tie.Need-check-requires
 check-requires c κs = search needs
 
--- src/lib.rt:30:9
 check-requires-2 : tie.Need-check-requires-2
 check-requires-2 c κs = search needs
 
--- src/lib.rt:31:9
 check-requires-3 : tie.Need-check-requires-3
 check-requires-3 c κs = search needs
 
--- src/lib.rt:32:20
 has-requires : tie.Need-has-requires
 has-requires c κs = search needs
 
--- src/lib.rt:32:9
 check-requires-4 : tie.Need-check-requires-4
 check-requires-4 c κs = search needs
 
--- src/lib.rt:33:9
 check-requires-5 : tie.Need-check-requires-5
 check-requires-5 c κs = search needs
 
--- src/lib.rt:34:19
 two-requires : tie.Need-two-requires
 two-requires c κs = search needs
 
--- src/lib.rt:34:9
 check-requires-6 : tie.Need-check-requires-6
 check-requires-6 c κs = search needs
 
--- src/lib.rt:36:9
 returns : tie.Need-returns
-returns c store list full long =
-    let a = c .before .before .before .before .before .before .before .before .before .before .before .before .before .before .before .before .before .before .before .before .args in
-    let p = c .before .before .before .before .before .before .before .before .before .before .before .before .before .before .before .before .before .before .before .before .pre in
-    turns-refused (a .t1) (p .shape .len) (p .len) (p .count) store list full long _ _
-    (acknowledge-answer (a .t1) (a .a) (a .b) _ _ (c .before .before .before .before .before .before .before .before .before .before .before .before .before .before .before .before .before .before .before .seat .ensures .2) (c .before .before .before .before .before .before .before .before .before .before .before .before .before .before .before .before .before .before .seat2 .ensures .2) (c .before .before .before .before .before .before .before .before .before .before .before .before .check .ensures) (c .before .before .before .before .before .before .before .before .before .before .check2 .ensures) (c .before .before .before .before .before .before .before .check3 .ensures) (c .before .before .before .before .before .before .has .ensures) (c .before .before .before .before .before .check4 .ensures) (c .before .before .before .check5 .ensures) (c .before .before .two .ensures) (c .before .check6 .ensures)) (c .if1 .taken)
+returns c g k count store list few full long =
+    let p = entry (c .before) .pre in
+    turns-refused (row (c .before) g k count) (p .2 .eight) (p .2 .most) few store list full long _ _ (answers (c .before) g k count) (c .if1 .taken)
 
--- src/lib.rt:39:16
-mul-next : tie.Need-mul-next
-mul-next c = search needs
+mul-acked : tie.Need-mul-acked
+mul-acked c = search needs
 
--- src/lib.rt:39:16
-add-next : tie.Need-add-next
-add-next c = search needs
+add-acked : tie.Need-add-acked
+add-acked c = search needs
 
--- src/lib.rt:39:5
-mul-next-2 : tie.Need-mul-next-2
-mul-next-2 c = search needs
+mul-acked-2 : tie.Need-mul-acked-2
+mul-acked-2 c = search needs
 
--- src/lib.rt:39:5
-element-write-next : tie.Need-element-write-next
-element-write-next c = search needs
+slice-write-acked : tie.Need-slice-write-acked
+slice-write-acked c = omega (arith, one (c .before) .seat .ensures .0, one (c .before) .seat .ensures .1, other (c .before) .seat2 .ensures .0, other (c .before) .seat2 .ensures .1, entry (c .before) .pre .1)
 
--- src/lib.rt:17:1
+same-length : tie.Need-same-length
+same-length c = search needs
+
 returns-2 : tie.Need-returns-2
-returns-2 c store list full long =
-    let a = c .before .before .before .before .before .before .before .before .before .before .before .before .before .before .before .before .before .before .before .before .args in
-    let p = c .before .before .before .before .before .before .before .before .before .before .before .before .before .before .before .before .before .before .before .before .pre in
-    turns-accepted (a .t1) (p .shape .len) (p .len) (p .count) store list full long _ _ _ _ _
-    (acknowledge-answer (a .t1) (a .a) (a .b) _ _ (c .before .before .before .before .before .before .before .before .before .before .before .before .before .before .before .before .before .before .before .seat .ensures .2) (c .before .before .before .before .before .before .before .before .before .before .before .before .before .before .before .before .before .before .seat2 .ensures .2) (c .before .before .before .before .before .before .before .before .before .before .before .before .check .ensures) (c .before .before .before .before .before .before .before .before .before .before .check2 .ensures) (c .before .before .before .before .before .before .before .check3 .ensures) (c .before .before .before .before .before .before .has .ensures) (c .before .before .before .before .before .check4 .ensures) (c .before .before .before .check5 .ensures) (c .before .before .two .ensures) (c .before .check6 .ensures)) (c .if1 .left)
-    (acknowledge-after (a .t1) (p .shape .len) (p .len) store list full (a .a) (a .b) _ _ (c .before .before .before .before .before .before .before .before .before .before .before .before .before .before .before .before .before .before .before .seat .ensures .2) (c .before .before .before .before .before .before .before .before .before .before .before .before .before .before .before .before .before .before .seat2 .ensures .2) (p .shape .acked))
-    (p .shape .len) (p .len) (p .count) refl refl
+returns-2 c g k count store list few full long =
+    let a = entry (c .before) .args in
+    let p = entry (c .before) .pre in
+    turns-accepted (row (c .before) g k count) (p .2 .eight) (p .2 .most) few store list full long _ _ _ _ _ (answers (c .before) g k count) (c .if1 .left)
+    (acknowledge-after (row (c .before) g k count) (p .2 .eight) (p .2 .most) store list full (a .a) (a .b) _ _ (one (c .before) .seat .ensures .2) (other (c .before) .seat2 .ensures .2) (p .1))
+    (p .2 .eight) (p .2 .most) few refl refl
 
 pub acknowledge-spec : {M : Type 1} → statement M
 acknowledge-spec =
@@ -161,17 +156,17 @@ acknowledge-spec =
     sub-j
     cast-j
     mul-v
-    element-copy-out-v
+    array-copy-out-v
     mul-w
-    element-copy-out-w
+    array-copy-out-w
     mul-t
-    element-copy-out-t
+    shared-slice-read-t
     mul-c
     add-c
     mul-c-2
-    element-copy-out-c
+    slice-read-c
     mul-n
-    element-copy-out-n
+    shared-slice-read-n
     check-requires
     check-requires-2
     check-requires-3
@@ -181,8 +176,9 @@ acknowledge-spec =
     two-requires
     check-requires-6
     returns
-    mul-next
-    add-next
-    mul-next-2
-    element-write-next
+    mul-acked
+    add-acked
+    mul-acked-2
+    slice-write-acked
+    same-length
     returns-2)

@@ -1,12 +1,20 @@
+-- `replicas::receive` meets its contract. Assumes nothing.
 use mathlib.Core.Bool.{true}
-use mathlib.Core.Path.{_≡_, refl, sym, ap, _∙_}
-use Prim.Native.Nat.{_-_, _<_}
+use mathlib.Core.List.{List, []}
+use mathlib.Core.Path.{_≡_, refl, sym, _∙_}
+use Prim.Native.Nat.{ℕ, _-_, _<_}
 use native.Mathlib.Omega.{arith}
-use lib.ListN.{getD, set, length-set}
+use lib.ListN.{getD, length-set}
 use denote.Ref.{now}
 use Rattle.model.specs.Steps.{receive, accepted, answerOf}
 use Rattle.model.proofs.Answer.{zero-accepted}
-use Rattle.cluster.specs.Layout.{outlineOf}
+use Rattle.cluster.specs.declared.Registry.{Registry}
+use Rattle.cluster.specs.declared.Status.the-variants.{Normal}
+use Rattle.cluster.specs.declared.Stage.the-variants.{Idle}
+use Rattle.cluster.specs.declared.Controller.{Controller}
+use Rattle.cluster.specs.declared.Cluster.{Cluster}
+use Rattle.cluster.specs.Layout.{noView, outlineOf}
+use Rattle.memory.specs.Memory.{rowOf}
 use Rattle.memory.proofs.Turning.{turns-refused, turns-accepted}
 use Rattle.replicas.proofs.Answers.{receive-answer}
 use Rattle.replicas.proofs.Afters.{receive-after, receive-room, receive-place, len-short, fits-next, fits-place}
@@ -22,154 +30,146 @@ use Rattle.logstore.proofs.receive_entry.Reads as receive-entry-reads
 use Rattle.replicas.proofs.both_have.Reads as both-have-reads
 use Rattle.replicas.proofs.follows.Reads as follows-reads
 
--- the chain of checks, and what its 0 says
-answers : (c : tie.After-check6) → c .check6 .result ≡ answerOf (outlineOf (c .before .before .before .before .before .before .before .before .before .before .before .before .before .before .before .before .before .before .before .before .args .t1)) (receive (c .before .before .before .before .before .before .before .before .before .before .before .before .before .before .before .before .before .before .before .before .args .b))
-answers c = receive-answer (c .before .before .before .before .before .before .before .before .before .before .before .before .before .before .before .before .before .before .before .before .args .t1) (c .before .before .before .before .before .before .before .before .before .before .before .before .before .before .before .before .before .before .before .before .args .b) _ (c .before .before .before .before .before .before .before .before .before .before .before .before .before .before .before .before .before .before .seat .ensures .2) _ (c .before .before .before .before .before .before .before .before .before .before .before .before .before .before .seat2 .ensures .2) (c .before .before .before .before .before .before .before .before .before .before .before .before .before .before .before .before .before .before .before .before .pre .0 .leaders) (c .before .before .before .before .before .before .before .before .before .before .before .check .ensures) (c .before .before .before .before .before .before .before .before .before .check2 .ensures) (c .before .before .before .before .before .before .check3 .ensures) (c .before .before .before .before .before .both-have .ensures) (c .before .before .before .before .check4 .ensures) (c .before .before .before .follows .ensures) (c .before .before .check5 .ensures) (c .before .replica .ensures) (c .check6 .ensures)
+-- the entry, and where b and its leader are found
+abbrev entry : tie.After-check6 → tie.Start
+entry c = c .before .before .before .before .before .before .before .before .before .before .before .before .before .before .before .before .before .before .before .before .before .before
 
-accepts : (c : tie.After-check6) → c .check6 .result ≡ 0 → accepted (outlineOf (c .before .before .before .before .before .before .before .before .before .before .before .before .before .before .before .before .before .before .before .before .args .t1)) (receive (c .before .before .before .before .before .before .before .before .before .before .before .before .before .before .before .before .before .before .before .before .args .b)) ≡ true
-accepts c e = zero-accepted (outlineOf (c .before .before .before .before .before .before .before .before .before .before .before .before .before .before .before .before .before .before .before .before .args .t1)) (receive (c .before .before .before .before .before .before .before .before .before .before .before .before .before .before .before .before .before .before .before .before .args .b)) (sym (answers c) ∙ e)
+abbrev own : tie.After-check6 → tie.After-seat
+own c = c .before .before .before .before .before .before .before .before .before .before .before .before .before .before .before .before .before .before
 
-room : (c : tie.After-check6) → c .check6 .result ≡ 0 → getD (c .before .before .before .before .before .before .before .before .before .before .before .before .before .before .before .before .before .before .before .before .args .t1 .len) (c .before .before .before .before .before .before .before .before .before .before .before .before .before .before .before .before .before .before .seat .result - 1) 0 < 512
-room c e = receive-room (c .before .before .before .before .before .before .before .before .before .before .before .before .before .before .before .before .before .before .before .before .args .t1) (c .before .before .before .before .before .before .before .before .before .before .before .before .before .before .before .before .before .before .before .before .args .b) _ (c .before .before .before .before .before .before .before .before .before .before .before .before .before .before .before .before .before .before .seat .ensures .2) _ (c .before .before .before .before .before .before .before .before .before .before .before .before .before .before .seat2 .ensures .2) (c .before .before .before .before .before .before .before .before .before .before .before .before .before .before .before .before .before .before .before .before .pre .0 .leaders) (c .before .before .before .before .before .before .before .before .before .before .before .before .before .before .before .before .before .before .before .before .pre .0 .len) (accepts c e)
+abbrev other : tie.After-check6 → tie.After-seat2
+other c = c .before .before .before .before .before .before .before .before .before .before .before .before .before .before
 
--- src/lib.rt:192:9
+abbrev row : tie.After-check6 → Registry → Controller → List ℕ → ℕ → Cluster
+row c g k acked count = rowOf g k (entry c .args .t1) (now (entry c .args .joined)) acked (now (entry c .args .len)) count
+
+-- the chain of checks
+answers : (c : tie.After-check6) (g : Registry) (k : Controller) (acked : List ℕ) (count : ℕ) → c .check6 .result ≡ answerOf (outlineOf (row c g k acked count)) (receive (entry c .args .b))
+answers c g k acked count = receive-answer (row c g k acked count) (entry c .args .b) _ (own c .seat .ensures .2) _ (other c .seat2 .ensures .2) (entry c .pre .0) (c .before .before .before .before .before .before .before .before .before .before .before .check .ensures) (c .before .before .before .before .before .before .before .before .before .check2 .ensures) (c .before .before .before .before .before .before .check3 .ensures) (c .before .before .before .before .before .both-have .ensures) (c .before .before .before .before .check4 .ensures) (c .before .before .before .follows .ensures) (c .before .before .check5 .ensures) (c .before .replica .ensures) (c .check6 .ensures)
+
+accepts : (c : tie.After-check6) (g : Registry) (k : Controller) (acked : List ℕ) (count : ℕ) → c .check6 .result ≡ 0 → accepted (outlineOf (row c g k acked count)) (receive (entry c .args .b)) ≡ true
+accepts c g k acked count e = zero-accepted (outlineOf (row c g k acked count)) (receive (entry c .args .b)) (sym (answers c g k acked count) ∙ e)
+
+-- the log has room; the rest of the row does not matter, so it is any
+room : (c : tie.After-check6) → c .check6 .result ≡ 0 → getD (now (entry c .args .len)) (own c .seat .result - 1) 0 < 512
+room c e =
+    let g : Registry = record { view = noView; status = Normal } in
+    let k : Controller = record { view = noView; stage = Idle; heard = []; joined = [] } in
+    receive-room (row c g k [] 0) (entry c .args .b) _ (own c .seat .ensures .2) _ (other c .seat2 .ensures .2) (entry c .pre .0) (entry c .pre .2 .most) (accepts c g k [] 0 e)
+
 seat-requires : tie.Need-seat-requires
 seat-requires c κs = search needs
 
--- src/lib.rt:193:14
 sub-i : tie.Need-sub-i
 sub-i c = search needs
 
--- src/lib.rt:193:13
 cast-i : tie.Need-cast-i
 cast-i c = search needs
 
--- src/lib.rt:194:13
 mul-v : tie.Need-mul-v
 mul-v c = search needs
 
--- src/lib.rt:194:13
-element-copy-out-v : tie.Need-element-copy-out-v
-element-copy-out-v c = search needs
+array-copy-out-v : tie.Need-array-copy-out-v
+array-copy-out-v c = search needs
 
--- src/lib.rt:195:13
 mul-j : tie.Need-mul-j
 mul-j c = search needs
 
--- src/lib.rt:195:13
-element-copy-out-j : tie.Need-element-copy-out-j
-element-copy-out-j c = search needs
+shared-slice-read-j : tie.Need-shared-slice-read-j
+shared-slice-read-j c = search needs
 
--- src/lib.rt:196:13
 mul-n : tie.Need-mul-n
 mul-n c = search needs
 
--- src/lib.rt:196:13
-element-copy-out-n : tie.Need-element-copy-out-n
-element-copy-out-n c = search needs
+slice-read-n : tie.Need-slice-read-n
+slice-read-n c = search needs
 
--- src/lib.rt:197:9
 seat-requires-2 : tie.Need-seat-requires-2
 seat-requires-2 c κs = search needs
 
--- src/lib.rt:198:14
 sub-m : tie.Need-sub-m
 sub-m c = search needs
 
--- src/lib.rt:198:13
 cast-m : tie.Need-cast-m
 cast-m c = search needs
 
--- src/lib.rt:199:13
 mul-w : tie.Need-mul-w
 mul-w c = search needs
 
--- src/lib.rt:199:13
-element-copy-out-w : tie.Need-element-copy-out-w
-element-copy-out-w c = search needs
+array-copy-out-w : tie.Need-array-copy-out-w
+array-copy-out-w c = search needs
 
--- src/lib.rt:200:13
 mul-o : tie.Need-mul-o
 mul-o c = search needs
 
--- src/lib.rt:200:13
-element-copy-out-o : tie.Need-element-copy-out-o
-element-copy-out-o c = search needs
+slice-read-o : tie.Need-slice-read-o
+slice-read-o c = search needs
 
--- src/lib.rt:201:9
 check-requires : tie.Need-check-requires
 check-requires c κs = search needs
 
--- src/lib.rt:202:9
 check-requires-2 : tie.Need-check-requires-2
 check-requires-2 c κs = search needs
 
--- src/lib.rt:203:9
 check-requires-3 : tie.Need-check-requires-3
 check-requires-3 c κs = search needs
 
--- src/lib.rt:204:20
 both-have-requires : tie.Need-both-have-requires
 both-have-requires c κs = search needs
 
--- src/lib.rt:204:9
 check-requires-4 : tie.Need-check-requires-4
 check-requires-4 c κs = search needs
 
--- src/lib.rt:205:20
 follows-requires : tie.Need-follows-requires
 follows-requires c κs = search needs
 
--- src/lib.rt:205:9
 check-requires-5 : tie.Need-check-requires-5
 check-requires-5 c κs = search needs
 
--- src/lib.rt:206:19
 replica-requires : tie.Need-replica-requires
 replica-requires c κs = search needs
 
--- src/lib.rt:206:9
 check-requires-6 : tie.Need-check-requires-6
 check-requires-6 c κs = search needs
 
--- src/lib.rt:208:9
 returns : tie.Need-returns
-returns c list long =
-    let a = c .before .before .before .before .before .before .before .before .before .before .before .before .before .before .before .before .before .before .before .before .before .args in
-    let p = c .before .before .before .before .before .before .before .before .before .before .before .before .before .before .before .before .before .before .before .before .before .pre in
-    turns-refused (a .t1) (p .0 .shape .len) (p .0 .len) (p .0 .count) _ list (p .1) long _ _ (answers (c .before)) (c .if1 .taken)
+returns c g k acked count list few long =
+    let p = entry (c .before) .pre in
+    turns-refused (row (c .before) g k acked count) (p .2 .eight) (p .2 .most) few _ list (p .3) long _ _ (answers (c .before) g k acked count) (c .if1 .taken)
 
--- src/lib.rt:210:5
 receive-entry-requires : tie.Need-receive-entry-requires
-receive-entry-requires c κs = (c .before .before .before .before .before .before .before .before .before .before .before .before .before .before .before .before .before .before .before .before .before .before .pre .1, c .before .before .before .before .before .before .before .before .before .before .before .before .before .before .before .before .before .before .before .before .seat .ensures .0, c .before .before .before .before .before .before .before .before .before .before .before .before .before .before .before .before .before .before .before .before .seat .ensures .1, c .before .before .before .before .before .before .before .before .before .before .before .before .before .before .before .before .seat2 .ensures .0, c .before .before .before .before .before .before .before .before .before .before .before .before .before .before .before .before .seat2 .ensures .1, room (c .before .before) (c .before .if1 .left))
+receive-entry-requires c κs =
+    let h = own (c .before .before) .seat .ensures in
+    let o = other (c .before .before) .seat2 .ensures in
+    (entry (c .before .before) .pre .3, h .0, h .1, o .0, o .1, room (c .before .before) (c .before .if1 .left))
 
--- src/lib.rt:212:19
-add-next : tie.Need-add-next
-add-next c = fits-next (room (c .before .before .before .before .before) (c .before .before .before .before .if1 .left))
+add-len : tie.Need-add-len
+add-len c = fits-next (room (c .before .before .before .before .before) (c .before .before .before .before .if1 .left))
 
--- src/lib.rt:212:5
-mul-next : tie.Need-mul-next
-mul-next c = fits-place (c .before .before .before .before .before .before .before .before .before .before .before .before .before .before .before .before .before .before .before .before .before .before .before .seat .ensures .1)
+mul-len : tie.Need-mul-len
+mul-len c = fits-place (own (c .before .before .before .before .before) .seat .ensures .1)
 
--- src/lib.rt:212:5
-element-write-next : tie.Need-element-write-next
-element-write-next c = omega (arith, c .before .before .before .before .before .before .before .before .before .before .before .before .before .before .before .before .before .before .before .before .before .before .before .seat .ensures .0, c .before .before .before .before .before .before .before .before .before .before .before .before .before .before .before .before .before .before .before .before .before .before .before .seat .ensures .1)
+slice-write-len : tie.Need-slice-write-len
+slice-write-len c = omega (arith, own (c .before .before .before .before .before) .seat .ensures .0, own (c .before .before .before .before .before) .seat .ensures .1, entry (c .before .before .before .before .before) .pre .2 .eight)
 
--- src/lib.rt:188:1
 same-length : tie.Need-same-length
 same-length c = search needs
 
--- src/lib.rt:188:1
+same-length-2 : tie.Need-same-length-2
+same-length-2 c = search needs
+
 returns-2 : tie.Need-returns-2
-returns-2 c list long =
-    let a = c .before .before .before .before .before .before .before .before .before .before .before .before .before .before .before .before .before .before .before .before .before .before .before .before .before .args in
-    let p = c .before .before .before .before .before .before .before .before .before .before .before .before .before .before .before .before .before .before .before .before .before .before .before .before .before .pre in
-    let h = c .before .before .before .before .before .before .before .before .before .before .before .before .before .before .before .before .before .before .before .before .before .before .before .seat .ensures in
-    let m = c .before .before .before .before .before .before .before .before .before .before .before .before .before .before .before .before .before .before .before .seat2 .ensures .2 in
-    turns-accepted (a .t1) (p .0 .shape .len) (p .0 .len) (p .0 .count) _ list (p .1) long _ _ _ _ _ (answers (c .before .before .before .before .before)) (c .before .before .before .before .if1 .left)
-    (receive-after (a .t1) (p .0 .shape .len) (p .0 .len) _ list (p .1) (a .b) _ _ (h .2) m (p .0 .leaders) _ (c .before .before .receive-entry .ensures))
-    (length-set (a .t1 .len) _ _ ∙ p .0 .shape .len) (len-short (a .t1 .len) (p .0 .shape .len) (p .0 .len) _ _ (h .0) (h .1) (omega (arith, room (c .before .before .before .before .before) (c .before .before .before .before .if1 .left)))) (p .0 .count)
-    (c .before .before .receive-entry .ensures ∙ receive-place (a .t1) (a .b) _ (h .2) _ m (p .0 .leaders) (now (a .store)) (accepts (c .before .before .before .before .before) (c .before .before .before .before .if1 .left))) refl
+returns-2 c g k acked count list few long =
+    let a = entry (c .before .before .before .before .before) .args in
+    let p = entry (c .before .before .before .before .before) .pre in
+    let h = own (c .before .before .before .before .before) .seat .ensures in
+    let m = other (c .before .before .before .before .before) .seat2 .ensures .2 in
+    let r = row (c .before .before .before .before .before) g k acked count in
+    let z = c .before .before .before .before .if1 .left in
+    turns-accepted r (p .2 .eight) (p .2 .most) few _ list (p .3) long _ _ _ _ _ (answers (c .before .before .before .before .before) g k acked count) z
+    (receive-after r (p .2 .eight) (p .2 .most) _ list (p .3) (a .b) _ _ (h .2) m (p .0) _ (c .before .before .receive-entry .ensures))
+    (length-set (now (a .len)) _ _ ∙ p .2 .eight) (len-short (now (a .len)) (p .2 .eight) (p .2 .most) _ _ (h .0) (h .1) (omega (arith, room (c .before .before .before .before .before) z))) few
+    (c .before .before .receive-entry .ensures ∙ receive-place r (a .b) _ (h .2) _ m (p .0) (now (a .store)) (accepts (c .before .before .before .before .before) g k acked count z)) refl
 
 pub receive-spec : {M : Type 1} → statement M
 receive-spec =
@@ -179,18 +179,18 @@ receive-spec =
     sub-i
     cast-i
     mul-v
-    element-copy-out-v
+    array-copy-out-v
     mul-j
-    element-copy-out-j
+    shared-slice-read-j
     mul-n
-    element-copy-out-n
+    slice-read-n
     seat-requires-2
     sub-m
     cast-m
     mul-w
-    element-copy-out-w
+    array-copy-out-w
     mul-o
-    element-copy-out-o
+    slice-read-o
     check-requires
     check-requires-2
     check-requires-3
@@ -202,8 +202,9 @@ receive-spec =
     check-requires-6
     returns
     receive-entry-requires
-    add-next
-    mul-next
-    element-write-next
+    add-len
+    mul-len
+    slice-write-len
     same-length
+    same-length-2
     returns-2)

@@ -1,120 +1,111 @@
-use mathlib.Core.Bool.{true}
-use mathlib.Core.Path.{_≡_, refl, sym, ap, _∙_}
-use Prim.Native.Nat.{_-_, _<_}
-use native.Mathlib.Omega.{arith}
-use lib.ListN.{getD, set}
+-- `replicas::refresh` meets its contract. Assumes nothing.
+use mathlib.Core.List.{List}
+use mathlib.Core.Path.{_≡_, refl, sym, subst}
+use Prim.Native.Nat.{ℕ, _-_}
+use lib.ListN.{length}
 use denote.Ref.{now}
-use Rattle.model.specs.Steps.{refresh, accepted, answerOf}
-use Rattle.model.proofs.Answer.{zero-accepted}
-use Rattle.cluster.specs.Layout.{outlineOf}
+use borrow.Author.Needs.{needs}
+use Rattle.model.specs.Steps.{refresh, answerOf}
+use Rattle.cluster.specs.declared.Status.{Status}
+use Rattle.cluster.specs.declared.Controller.{Controller}
+use Rattle.cluster.specs.declared.View.{View}
+use Rattle.cluster.specs.declared.Cluster.{Cluster}
+use Rattle.cluster.specs.Layout.{noView, outlineOf}
+use Rattle.memory.specs.Memory.{rowOf, Leaves}
 use Rattle.memory.proofs.Turning.{turns-refused, turns-accepted}
 use Rattle.replicas.proofs.Answers.{refresh-answer}
-use Rattle.replicas.proofs.Afters.{refresh-after}
-use borrow.Author.Needs.{needs}
+use Rattle.replicas.proofs.Afters.{set-idle, refresh-after}
 use Rattle.replicas.proofs.refresh.Statement.{statement}
 use Rattle.replicas.proofs.refresh.Tie as tie
-use Rattle.replicas.proofs.refresh.Reads as reads
-use Rattle.replicas.proofs.refresh.Lts as lts
-use Rattle.cluster.proofs.check.Reads as check-reads
-use Rattle.cluster.proofs.replica.Reads as replica-reads
-use Rattle.cluster.proofs.seat.Reads as seat-reads
-use Rattle.replicas.proofs.counts.Reads as counts-reads
-use Rattle.replicas.proofs.joined.Reads as joined-reads
 
--- the chain of checks, and what its 0 says
-answers : (c : tie.After-check2) → c .check2 .result ≡ answerOf (outlineOf (c .before .before .before .before .before .before .before .before .before .args .t1)) (refresh (c .before .before .before .before .before .before .before .before .before .args .b))
-answers c = refresh-answer (c .before .before .before .before .before .before .before .before .before .args .t1) (c .before .before .before .before .before .before .before .before .before .args .b) _ (c .before .before .before .before .before .before .before .before .seat .ensures .2) (c .before .before .check .ensures) (c .before .replica .ensures) (c .check2 .ensures)
+-- the chain of checks
+answers : (c : tie.After-check2) (s : Status) (k : Controller) (count : ℕ) → let a = c .before .before .before .before .before .before .before .before .before .before .args in
+    c .check2 .result ≡ answerOf (outlineOf (rowOf (record { view = a .w; status = s }) k (a .t2) (now (a .joined)) (now (a .acked)) (now (a .len)) count)) (refresh (a .b))
+answers c s k count =
+    let a = c .before .before .before .before .before .before .before .before .before .before .args in
+    refresh-answer (rowOf (record { view = a .w; status = s }) k (a .t2) (now (a .joined)) (now (a .acked)) (now (a .len)) count) (a .b) _ (c .before .before .before .before .before .before .seat .ensures .2)
+    (c .before .before .check .ensures) (c .before .replica .ensures) (c .check2 .ensures)
 
-accepts : (c : tie.After-check2) → c .check2 .result ≡ 0 → accepted (outlineOf (c .before .before .before .before .before .before .before .before .before .args .t1)) (refresh (c .before .before .before .before .before .before .before .before .before .args .b)) ≡ true
-accepts c e = zero-accepted (outlineOf (c .before .before .before .before .before .before .before .before .before .args .t1)) (refresh (c .before .before .before .before .before .before .before .before .before .args .b)) (sym (answers c) ∙ e)
+eight : (c : tie.Start) → length (c .args .t2) ≡ 8
+eight c = search needs
 
--- src/lib.rt:107:9
 seat-requires : tie.Need-seat-requires
 seat-requires c κs = search needs
 
--- src/lib.rt:108:14
 sub-i : tie.Need-sub-i
 sub-i c = search needs
 
--- src/lib.rt:108:13
 cast-i : tie.Need-cast-i
 cast-i c = search needs
 
--- src/lib.rt:111:13
 mul-v : tie.Need-mul-v
 mul-v c = search needs
 
--- src/lib.rt:111:13
-element-copy-out-v : tie.Need-element-copy-out-v
-element-copy-out-v c = search needs
+array-copy-out-v : tie.Need-array-copy-out-v
+array-copy-out-v c = search needs
 
--- src/lib.rt:112:9
 check-requires : tie.Need-check-requires
 check-requires c κs = search needs
 
--- src/lib.rt:113:19
 replica-requires : tie.Need-replica-requires
 replica-requires c κs = search needs
 
--- src/lib.rt:113:9
 check-requires-2 : tie.Need-check-requires-2
 check-requires-2 c κs = search needs
 
--- src/lib.rt:115:9
 returns : tie.Need-returns
-returns c store list full long =
-    let a = c .before .before .before .before .before .before .before .before .before .before .args in
-    let p = c .before .before .before .before .before .before .before .before .before .before .pre in
-    turns-refused (a .t1) (p .shape .len) (p .len) (p .count) store list full long _ _ (answers (c .before)) (c .if1 .taken)
+returns c =
+    let a = c .before .before .before .before .before .before .before .before .before .before .before .args in
+    let p = c .before .before .before .before .before .before .before .before .before .before .before .pre in
+    let i = c .before .before .before .before .before .before .before .seat .result - 1 in (
+      search needs,
+      λ s k count store list few full long.
+          let row : List View → Cluster = λ vs. rowOf (record { view = a .w; status = s }) k vs (now (a .joined)) (now (a .acked)) (now (a .len)) count in
+          subst (λ vs. Leaves (refresh (a .b)) (row (a .t2)) store list (c .before .check2 .result) (row vs) store list) (sym (set-idle noView (a .t2) i))
+          (turns-refused _ (p .2 .eight) (p .2 .most) few store list full long _ _ (answers (c .before) s k count) (c .if1 .taken)),
+    )
 
--- src/lib.rt:117:13
 mul-n : tie.Need-mul-n
 mul-n c = search needs
 
--- src/lib.rt:117:13
-element-copy-out-n : tie.Need-element-copy-out-n
-element-copy-out-n c = search needs
+shared-slice-read-n : tie.Need-shared-slice-read-n
+shared-slice-read-n c = search needs
 
--- src/lib.rt:118:13
 mul-j : tie.Need-mul-j
 mul-j c = search needs
 
--- src/lib.rt:118:13
-element-copy-out-j : tie.Need-element-copy-out-j
-element-copy-out-j c = search needs
+slice-read-j : tie.Need-slice-read-j
+slice-read-j c = search needs
 
--- src/lib.rt:121:5
-mul-w : tie.Need-mul-w
-mul-w c = search needs
+joins-requires : tie.Need-joins-requires
+joins-requires c κs = search needs
 
--- src/lib.rt:121:5
-element-set-from-w : tie.Need-element-set-from-w
-element-set-from-w c = search needs
+mul-joined : tie.Need-mul-joined
+mul-joined c = search needs
 
--- src/lib.rt:122:22
-joined-requires : tie.Need-joined-requires
-joined-requires c κs = search needs
+slice-write-joined : tie.Need-slice-write-joined
+slice-write-joined c = search needs
 
--- src/lib.rt:122:5
-mul-next : tie.Need-mul-next
-mul-next c = search needs
-
--- src/lib.rt:122:5
-element-write-next : tie.Need-element-write-next
-element-write-next c = search needs
-
--- src/lib.rt:123:18
 counts-requires : tie.Need-counts-requires
 counts-requires c κs = search needs
 
--- src/lib.rt:103:1
+same-length : tie.Need-same-length
+same-length c = search needs
+
+same-length-2 : tie.Need-same-length-2
+same-length-2 c = search needs
+
 returns-2 : tie.Need-returns-2
-returns-2 c store list full long =
-    let a = c .before .before .before .before .before .before .before .before .before .before .before .before .before .before .before .args in
-    let p = c .before .before .before .before .before .before .before .before .before .before .before .before .before .before .before .pre in
-    turns-accepted (a .t1) (p .shape .len) (p .len) (p .count) store list full long _ _ _ _ _ (answers (c .before .before .before .before .before .before)) (c .before .before .before .before .before .if1 .left)
-    (refresh-after (a .t1) (p .shape .len) (p .len) store list full (a .b) _ _ (c .counts .result) (c .before .before .before .before .before .before .before .before .before .before .before .before .before .before .seat .ensures .2) (p .shape .views) (p .shape .joined) (c .before .joined .ensures) (c .counts .ensures .1))
-    (p .shape .len) (p .len) (p .count) refl refl
+returns-2 c =
+    let a = c .before .before .before .before .before .before .before .before .before .before .before .before .before .before .before .before .before .before .args in
+    let p = c .before .before .before .before .before .before .before .before .before .before .before .before .before .before .before .before .before .before .pre in (
+      search needs,
+      λ s k count store list few full long.
+          let row = rowOf (record { view = a .w; status = s }) k (a .t2) (now (a .joined)) (now (a .acked)) (now (a .len)) count in
+          turns-accepted row (p .2 .eight) (p .2 .most) few store list full long _ _ _ _ _ (answers (c .before .before .before .before .before .before .before .before) s k count) (c .before .before .before .before .before .before .before .if1 .left)
+          (refresh-after row (p .2 .eight) (p .2 .most) store list full (a .b) _ _ (c .before .before .counts .last .1 .1 .1 .0) (c .before .before .before .before .before .before .before .before .before .before .before .before .before .before .seat .ensures .2) (eight (c .before .before .before .before .before .before .before .before .before .before .before .before .before .before .before .before .before .before)) (p .0) (c .before .before .before .before .joins .ensures) (c .before .before .counts .ensures))
+          (p .2 .eight) (p .2 .most) few refl refl,
+    )
 
 pub refresh-spec : {M : Type 1} → statement M
 refresh-spec =
@@ -124,19 +115,19 @@ refresh-spec =
     sub-i
     cast-i
     mul-v
-    element-copy-out-v
+    array-copy-out-v
     check-requires
     replica-requires
     check-requires-2
     returns
     mul-n
-    element-copy-out-n
+    shared-slice-read-n
     mul-j
-    element-copy-out-j
-    mul-w
-    element-set-from-w
-    joined-requires
-    mul-next
-    element-write-next
+    slice-read-j
+    joins-requires
+    mul-joined
+    slice-write-joined
     counts-requires
+    same-length
+    same-length-2
     returns-2)

@@ -1,8 +1,8 @@
 use borrow.Author.Tests.{eq-eqb, ne-eqb}
-use Rattle.replicas.proofs.joined.Statement.{statement}
-use Rattle.replicas.proofs.joined.Tie as tie
-use Rattle.replicas.proofs.joined.Reads as reads
-use Rattle.replicas.proofs.joined.Lts as lts
+use Rattle.replicas.proofs.joins.Statement.{statement}
+use Rattle.replicas.proofs.joins.Tie as tie
+use Rattle.replicas.proofs.joins.Reads as reads
+use Rattle.replicas.proofs.joins.Lts as lts
 
 -- src/lib.rt:132:9
 returns : tie.Need-returns
@@ -16,5 +16,5 @@ returns-2 c = rw (ne-eqb _ _ (c .before .before .if1 .left), eq-eqb _ _ (c .if2 
 returns-3 : tie.Need-returns-3
 returns-3 c = rw (ne-eqb _ _ (c .before .before .if1 .left), ne-eqb _ _ (c .if2 .left))
 
-pub joined-spec : {M : Type 1} → statement M
-joined-spec = tie.close (tie.spec returns returns-2 returns-3)
+pub joins-spec : {M : Type 1} → statement M
+joins-spec = tie.close (tie.spec returns returns-2 returns-3)
