@@ -5,7 +5,7 @@ use mathlib.Core.Path.{_≡_, refl, sym, subst, ap, ap₂, _∙_}
 use Prim.Native.Nat.{ℕ, suc, _+_, _-_, _/_, _^_, _<_, _≤_}
 use native.Mathlib.Omega.{arith}
 use lib.Dec.{T, leb}
-use lib.ListN.{length, take, getD}
+use lib.ListN.{length, take, getD, length-append}
 use borrow.Author.Tests.{leb-true}
 use Rattle.model.specs.State.{outline, opened, values}
 use Rattle.model.specs.Runs.{answers}
@@ -16,13 +16,13 @@ use Rattle.cluster.specs.declared.Cluster.{Cluster}
 use Rattle.cluster.specs.Layout.{outlineOf}
 use Rattle.memory.specs.Memory.{abs}
 use Rattle.text.specs.Text.{Text, over, Wrote}
-use Rattle.text.proofs.Laws.{over-holds, over-length}
-use Rattle.sheet.specs.Listing.{recordAt, isSheet, answerLine, answerLines, ending, listingOf, listing, result, left}
+use Rattle.text.proofs.Laws.{over-holds, over-length, digits-one-length}
+use Rattle.sheet.specs.Listing.{recordAt, isSheet, answerLine, answerLines, ending, listingOf, listing, result, left, LengthsTell}
 use Rattle.sheet.specs.Running.{following, stateAt, Ran, lines, Delivered}
 use Rattle.sheet.specs.Ending.{endingText}
 use Rattle.sheet.proofs.Records.{room}
 use Rattle.sheet.proofs.Playing.{sheet-whole, sheet-real}
-use Rattle.sheet.proofs.Lines.{lines-are}
+use Rattle.sheet.proofs.Lines.{lines-are, line-length}
 use Rattle.sheet.proofs.Endings.{ending-is}
 
 -- What was written aside, read back.
@@ -30,6 +30,14 @@ pub read-back : {d xs e : Text} {r : ℕ} → Wrote d 0 xs e r → r ≤ length 
 read-back {d} {xs} {e} {r} w h =
     let n : r ≡ length xs = omega (arith, w .next) in
     ap₂ take n (w .text) ∙ over-holds d 0 xs (omega (arith, h, n))
+
+longer : (n : ℕ) (xs ys : Text) → n ≤ length xs → n ≤ length (xs ++ ys)
+longer n xs ys h = omega (arith, length-append xs ys)
+
+-- The opening's line alone has six bytes.
+pub lengths-tell : LengthsTell
+unfolding LengthsTell listing listingOf
+lengths-tell s = longer 4 (answerLine 1 0 0) _ (omega (arith, line-length 1 0 0, digits-one-length 1 (omega arith), digits-one-length 0 (omega arith)))
 
 -- Refusal 2.
 pub no-sheet : (s out : Text) → isSheet s ≡ false → (2 ≡ result s out) × (out ≡ left s out)

@@ -3,7 +3,7 @@
 use mathlib.Core.Bool.{Bool, true, false, cond, _&&_}
 use mathlib.Core.List.{List, [], _∷_, _++_}
 use mathlib.Core.Path.{_≡_}
-use Prim.Native.Nat.{ℕ, zero, suc, _+_, _-_, _*_, _/_, _%_}
+use Prim.Native.Nat.{ℕ, zero, suc, _+_, _-_, _*_, _/_, _%_, _≤_}
 use Prim.Native.Char.{code}
 use Prim.Native.String as String
 use Prim.Native.String.{String}
@@ -206,3 +206,8 @@ unfoldable pub RefusedHolds : Type 0
 RefusedHolds =
     (out : Text) → (result (openingSheet 0) out ≡ 2) × (result (openingSheet 9) out ≡ 2) × (result [] out ≡ 2) × (result (0 ∷ 1 ∷ 0 ∷ 0 ∷ []) out ≡ 2)
     × (left (openingSheet 9) out ≡ out)
+
+-- No listing is so short that its length could be taken for a refusal.
+unfoldable pub LengthsTell : Type 0
+unfolding listing
+LengthsTell = (s : Text) → 4 ≤ length (listing s)

@@ -5,7 +5,7 @@ ghost use Rattle.members.specs.Mask.{bits};
 ghost use Rattle.cluster.specs.Layout.{statusOf, stageOf, viewOf, registryOf, controllerOf};
 ghost use Rattle.steps.specs.Call.{recordOf};
 ghost use Rattle.text.specs.Text.{Wrote};
-ghost use Rattle.sheet.specs.Listing.{SampleHolds, RoomHolds, RefusedHolds, number, recordAt, wholeRecords, isOpening, isSheet, memberText, membersText, viewText, statusWord, stageWord, answerLine, registryLine, controlLine, result, left};
+ghost use Rattle.sheet.specs.Listing.{SampleHolds, RoomHolds, RefusedHolds, LengthsTell, number, recordAt, wholeRecords, isOpening, isSheet, memberText, membersText, viewText, statusWord, stageWord, answerLine, registryLine, controlLine, result, left};
 
 mod answers;
 mod ending;
@@ -18,9 +18,10 @@ use cluster::Status;
 use cluster::View;
 use steps::Record;
 
-// The paper's sample sheet has the paper's listing, byte for byte; short slices and bad openings are refused. By the definitions: nothing to run.
+// The paper's sample sheet has the paper's listing, byte for byte; short slices and bad openings are refused; no listing is so short
+// that its length could be a refusal. By the definitions: nothing to run.
 pub fn sample()
-    ensures { λ r. ⌜ SampleHolds × RoomHolds × RefusedHolds ⌝ }
+    ensures { λ r. ⌜ SampleHolds × RoomHolds × RefusedHolds × LengthsTell ⌝ }
 {}
 
 // Four bytes as a number, the low byte first.
