@@ -1,24 +1,31 @@
--- Chains of checks, places by replica, and what an answer of 0 says. Assumes nothing.
-use mathlib.Core.Bool.{Bool, true, false, cond, _&&_}
+-- Checks, the raise, and places by replica. Assumes nothing.
+use mathlib.Core.Bool.{Bool, true, false, cond}
 use mathlib.Core.List.{List, _∷_}
-use mathlib.Core.Logic.{_≢_}
-use mathlib.Core.Path.{_≡_, refl, sym, ap, _∙_, fun-ext}
-use Prim.Native.Nat.{ℕ, suc, _+_, _-_, _*_, _≤_, _<_}
+use mathlib.Core.Path.{_≡_, refl, ap, _∙_, fun-ext}
+use Prim.Native.Nat.{ℕ, zero, suc, _-_, _≤_}
 use native.Mathlib.Omega.{arith}
-use lib.Dec.{T, leb, eqb}
-use lib.ListN.{length, getD, set}
+use lib.Dec.{T, ltb}
+use lib.ListN.{length, getD, set, replicate}
 use lib.Seq.{getD-set-same, getD-set-other}
 use borrow.Author.Tests.{ne-eqb}
 use Rattle.model.specs.Prelude.{upd}
-use Rattle.model.specs.Members.{isReplica}
-use Rattle.model.proofs.Tests.{at-or, eqb-same, of-true, is-true}
-use Rattle.model.proofs.Quorum as Quorum
-use Rattle.cluster.specs.Layout.{at, atPair}
+use Rattle.model.proofs.Tests.{at-or, eqb-same, is-true}
+use Rattle.cluster.specs.Layout.{at}
 
 -- A choice whose first branch need be known only where it is taken.
 pub guarded : {A : Type 0} (t : Bool) (x y z : A) → (t ≡ true → x ≡ y) → cond t x z ≡ cond t y z
 guarded true x y z f = f refl
 guarded false x y z f = refl
+
+-- What a passed raise makes of an epoch.
+pub raise-passed : (e up : ℕ) → up ≡ cond (ltb e 4000) (suc e) e → T (ltb e 4000) → up ≡ suc e
+raise-passed e up h t = h ∙ ap (λ u. cond u (suc e) e) (is-true (ltb e 4000) t)
+
+-- A list of what is found outside it.
+pub getD-same : {A : Type 0} (d : A) (n i : ℕ) → getD (replicate n d) i d ≡ d
+getD-same d zero i = refl
+getD-same d (suc n) zero = refl
+getD-same d (suc n) (suc i) = getD-same d n i
 
 -- What a replica's number finds in a list.
 pub at-index : {A : Type 0} (d : A) (xs : List A) (b : ℕ) → 1 ≤ b → at d xs b ≡ getD xs (b - 1) d

@@ -1,4 +1,4 @@
--- What the structs stand for in the model. Cited by the contracts of cluster and steps. Assumes nothing.
+-- What the structs stand for in the model. Cited by the contracts of cluster and of the crates over it. Assumes nothing.
 use mathlib.Core.Bool.{cond, _&&_}
 use mathlib.Core.List.{List, _∷_}
 use Prim.Native.Nat.{ℕ, _+_, _-_, _*_}
@@ -36,13 +36,14 @@ registryOf r = record { view = viewOf (r .view); status = statusOf (r .status) }
 abbrev pub at : {A : Type 0} → A → List A → ℕ → A
 at d xs b = getD (d ∷ xs) b d
 
--- By two replicas: a's row first.
+-- By two replicas: what a has of b stands at 8 (a - 1) + b - 1; 0 where one of them is no replica.
 abbrev pub atPair : List ℕ → ℕ → ℕ → ℕ
 atPair xs a b = cond (isReplica a && isReplica b) (getD xs (8 * (a - 1) + (b - 1)) 0) 0
 
 abbrev pub controllerOf : Controller → M.Controller
 controllerOf c = record { view = viewOf (c .view); stage = stageOf (c .stage); heard = at 0 (c .heard); heardJoined = at 0 (c .joined) }
 
+-- What a number that is no replica has for a view.
 abbrev pub noView : View
 noView = record { epoch = 0; term = 0; leader = 0; members = 0 }
 

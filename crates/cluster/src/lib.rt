@@ -7,9 +7,6 @@ ghost use Rattle.model.specs.State as X;
 ghost use Rattle.cluster.specs.Layout.{statusOf, stageOf};
 
 pub mod ranges;
-pub mod ruling;
-pub mod settling;
-pub mod telling;
 
 // Epoch, leader epoch (term), leader (0: none) and members as a mask: the registry's, or as a replica or the controller
 // last took them.
@@ -76,7 +73,7 @@ pub struct Told {
     pub controller: Controller,
 }
 
-// What a step of both answers and leaves.
+// What a step of both answers and leaves; `control` has every step of either in this form.
 pub struct Settled {
     pub answer: u8,
     pub registry: Registry,
@@ -104,14 +101,14 @@ pub fn check(ok: bool, next: u8, code: u8) -> u8
     if ok { next } else { code }
 }
 
-// The epoch after a raise.
+// The epoch after a raise. 4,000 stays: check 7 refuses there.
 pub fn raised(e: u16) -> u16
     ensures { λ r. ⌜ r ≡ cond (ltb e 4000) (suc e) e ⌝ }
 {
     if e < 4000 { e + 1 } else { e }
 }
 
-// Whether the registry is choosing, or normal.
+// Whether the registry is choosing.
 pub fn choosing(g: Status) -> bool
     ensures { λ r. ⌜ r ≡ X.isChoosing (statusOf g) ⌝ }
 {
@@ -122,6 +119,7 @@ pub fn choosing(g: Status) -> bool
     }
 }
 
+// Whether the registry is normal.
 pub fn normal(g: Status) -> bool
     ensures { λ r. ⌜ r ≡ X.isNormal (statusOf g) ⌝ }
 {

@@ -14,12 +14,14 @@ use crate::View;
 use crate::choosing;
 use crate::number;
 
+// a and b, by a call: the caller's proof then has no branch.
 pub fn both(a: bool, b: bool) -> bool
     ensures { λ r. ⌜ r ≡ (a && b) ⌝ }
 {
     if a { b } else { false }
 }
 
+// a or b, likewise.
 pub fn either(a: bool, b: bool) -> bool
     ensures { λ r. ⌜ r ≡ (a || b) ⌝ }
 {
@@ -33,6 +35,7 @@ pub fn epoch(e: u16) -> bool
     both(1 <= e, e <= 4000)
 }
 
+// A view's numbers; its members may be any set.
 pub fn view(v: View) -> bool
     ensures { λ r. ⌜ r ≡ every (viewRanges (viewOf v)) ⌝ }
 {

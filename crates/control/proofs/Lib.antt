@@ -1,2 +1,2 @@
-pub mod Centre
+pub mod Governing
 pub mod Start

@@ -1,4 +1,4 @@
--- What the opening call answers, and the row it leaves. Cited by the contracts of control. Assumes nothing.
+-- What the opening call answers, and the row it leaves. Cited by the contracts of control, steps and sheet. Assumes nothing.
 use mathlib.Core.Bool.{cond}
 use mathlib.Core.List.{List}
 use mathlib.Core.Path.{_≡_}

@@ -4,7 +4,7 @@ ghost use Prim.Native.Nat.{ℕ, _≤_};
 ghost use lib.ListN.{length};
 ghost use Rattle.model.specs.Steps as T;
 ghost use Rattle.cluster.specs.declared.View.{View};
-ghost use Rattle.memory.specs.Memory.{Short, Reads, Governs};
+ghost use Rattle.memory.specs.Memory.{Short, HasLeader, Governs};
 ghost use Rattle.control.specs.Opening.{Opens, OpenedWith};
 use cluster::Cluster;
 use cluster::Controller;
@@ -20,7 +20,7 @@ use cluster::seat;
 
 // The opening, and the steps of the registry and the controller: add (3), remove (4), change leader (5), controller news (10),
 // read leader (11), read (12), set normal (13), hear (14), install (15), over the two and the parts of a row that they look at. Each
-// promise is for every row with these parts. Inner layer: callers see to it that the lent places have their lengths and that no
+// promise is for every row with these parts, logs of at most 512 entries, at most 512 receipts and lent places of their lengths. Inner layer: callers see to it that the lent places have their lengths and that no
 // log is longer than 512. A refused step of a part gives that part back, so no step here tests the answer.
 
 // The row opened with the replica b.
@@ -74,7 +74,7 @@ pub fn opening(b: u8) -> Outcome
 pub fn add(g: Registry, c: Controller, b: u8) -> Settled
     ensures { λ x. ⌜ ((views : List View) (joined len : List ℕ) → Short len → Governs (T.Step.add b) g c views joined len x) ⌝ }
 {
-    let a = cluster::ruling::add(g, b);
+    let a = ruling::add(g, b);
     let h = a.registry;
     Settled {
         answer: a.answer,
@@ -87,7 +87,7 @@ pub fn add(g: Registry, c: Controller, b: u8) -> Settled
 pub fn remove(g: Registry, c: Controller, b: u8) -> Settled
     ensures { λ x. ⌜ ((views : List View) (joined len : List ℕ) → Short len → Governs (T.Step.remove b) g c views joined len x) ⌝ }
 {
-    let a = cluster::ruling::remove(g, b);
+    let a = ruling::remove(g, b);
     let h = a.registry;
     Settled {
         answer: a.answer,
@@ -100,7 +100,7 @@ pub fn remove(g: Registry, c: Controller, b: u8) -> Settled
 pub fn change(g: Registry, c: Controller) -> Settled
     ensures { λ x. ⌜ ((views : List View) (joined len : List ℕ) → Short len → Governs (T.Step.changeLeader) g c views joined len x) ⌝ }
 {
-    let a = cluster::ruling::change(g);
+    let a = ruling::change(g);
     let h = a.registry;
     Settled {
         answer: a.answer,
@@ -113,7 +113,7 @@ pub fn change(g: Registry, c: Controller) -> Settled
 pub fn refresh_controller(g: Registry, c: Controller) -> Settled
     ensures { λ x. ⌜ ((views : List View) (joined len : List ℕ) → Short len → Governs (T.Step.refreshController) g c views joined len x) ⌝ }
 {
-    let a = cluster::telling::refresh_controller(c, g);
+    let a = telling::refresh_controller(c, g);
     let d = a.controller;
     Settled {
         answer: a.answer,
@@ -122,9 +122,9 @@ pub fn refresh_controller(g: Registry, c: Controller) -> Settled
     }
 }
 
-// Step 11, the controller reads its leader.
+// Step 11, the controller reads its leader. Inner layer: callers see to the leader and the lengths.
 pub fn read_leader(g: Registry, c: Controller, views: [View; 8], len: &[u16]) -> Settled
-    requires { ⌜ Reads c × Short (now len) ⌝ }
+    requires { ⌜ HasLeader c × Short (now len) ⌝ }
     ensures { λ x. ⌜ ((joined : List ℕ) → Governs T.Step.readLeader g c views joined (now (len .entry)) x) ⌝ }
 {
     let w = c.view;
@@ -132,7 +132,7 @@ pub fn read_leader(g: Registry, c: Controller, views: [View; 8], len: &[u16]) ->
     let i = (k - 1) as usize;
     let v = views[i];
     let n = len[i];
-    let a = cluster::telling::read_leader(c, v.epoch, n);
+    let a = telling::read_leader(c, v.epoch, n);
     let d = a.controller;
     Settled {
         answer: a.answer,
@@ -141,7 +141,7 @@ pub fn read_leader(g: Registry, c: Controller, views: [View; 8], len: &[u16]) ->
     }
 }
 
-// Step 12, the controller reads b.
+// Step 12, the controller reads b. Inner layer: callers see to the lengths.
 pub fn read(g: Registry, c: Controller, joined: &[u16], len: &[u16], b: u8) -> Settled
     requires { ⌜ (length (now joined) ≡ 8) × Short (now len) ⌝ }
     ensures { λ x. ⌜ ((views : List View) → Governs (T.Step.read b) g c views (now (joined .entry)) (now (len .entry)) x) ⌝ }
@@ -150,7 +150,7 @@ pub fn read(g: Registry, c: Controller, joined: &[u16], len: &[u16], b: u8) -> S
     let i = (k - 1) as usize;
     let j = joined[i];
     let n = len[i];
-    let a = cluster::telling::read(c, b, j, n);
+    let a = telling::read(c, b, j, n);
     let d = a.controller;
     Settled {
         answer: a.answer,
@@ -163,10 +163,10 @@ pub fn read(g: Registry, c: Controller, joined: &[u16], len: &[u16], b: u8) -> S
 pub fn set_normal(g: Registry, c: Controller) -> Settled
     ensures { λ x. ⌜ ((views : List View) (joined len : List ℕ) → Short len → Governs (T.Step.setNormal) g c views joined len x) ⌝ }
 {
-    cluster::settling::set_normal(g, c)
+    settling::set_normal(g, c)
 }
 
-// Step 14, the controller hears b.
+// Step 14, the controller hears b. Inner layer: callers see to the lengths.
 pub fn hear(
     g: Registry,
     c: Controller,
@@ -183,7 +183,7 @@ pub fn hear(
     let v = views[i];
     let j = joined[i];
     let n = len[i];
-    let a = cluster::telling::hear(c, b, v.epoch, j, n);
+    let a = telling::hear(c, b, v.epoch, j, n);
     let d = a.controller;
     Settled {
         answer: a.answer,
@@ -196,7 +196,7 @@ pub fn hear(
 pub fn install(g: Registry, c: Controller, b: u8) -> Settled
     ensures { λ x. ⌜ ((views : List View) (joined len : List ℕ) → Short len → Governs (T.Step.install b) g c views joined len x) ⌝ }
 {
-    let a = cluster::settling::install(g, c, b);
+    let a = settling::install(g, c, b);
     let installed = a.registry;
     let d = a.controller;
     Settled {

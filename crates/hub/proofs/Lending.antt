@@ -16,7 +16,7 @@ use Rattle.cluster.specs.declared.Told.{Told}
 use Rattle.cluster.specs.Layout.{stageOf, controllerOf}
 use Rattle.cluster.specs.Parts.{Tells}
 use Rattle.hub.specs.declared.Report.{Report}
-use Rattle.hub.specs.Lent.{controllerFits, told, reportFits, leaderFits, Reported, Lends}
+use Rattle.hub.specs.Lent.{controllerFits, reportRanges, reportFits, leaderFits, Reported, Lends}
 
 -- A step that changes the controller at most: the state before it with the controller after it is the state after it.
 module _ (st : Step) (only : (s : State ℕ) → next values s st ≡ withController s (next values s st .controller)) (s : State ℕ) where
@@ -62,8 +62,8 @@ module _ (b : ℕ) (x : Report) (l : ℕ) (s : State ℕ) where
 
 -- It is so, where the report fits and is so.
 module _ (c : Controller) (x : Report) (l : ℕ) (short : leb (x .len) 512 ≡ true → l ≡ x .len) (s : State ℕ) where
-  fields : reportFits c x ≡ true → AllTrue (told x)
-  fields t = of-every (told x) (split-and (controllerFits c) (every (told x)) (of-true t) .1)
+  fields : reportFits c x ≡ true → AllTrue (reportRanges x)
+  fields t = of-every (reportRanges x) (split-and (controllerFits c) (every (reportRanges x)) (of-true t) .1)
 
   len-told : reportFits c x ≡ true → Reported x s → length (s .log (x .board)) ≡ l
   len-told t k = k .len ∙ sym (short (is-true (leb (x .len) 512) (fields t .1 .1 .1 .0)))

@@ -21,7 +21,7 @@ use Rattle.memory.specs.Memory.{abs, Shape, Ready, storeAfter, listAfter}
 use Rattle.memory.proofs.Turning.{log-len, outline-abs}
 use Rattle.steps.specs.Call.{valid, Did}
 use Rattle.steps.proofs.Calling.{ready}
-use Rattle.hub.specs.Lent.{registryFits, controllerFits, told, reportFits, leaderFits, Reported, Lends}
+use Rattle.hub.specs.Lent.{registryFits, controllerFits, reportRanges, reportFits, leaderFits, Reported, Lends}
 use Rattle.hub.specs.Whole.{putBack, reportOf, Agrees, PutBack}
 use Rattle.hub.proofs.Fitting.{registry-fits, hearings, controller-fits}
 
@@ -52,7 +52,7 @@ module _ (row : Cluster) (ok : inRange (outlineOf row) ≡ true) where
   report-fit b t =
       let r = by-board b (of-true t) in
       let v = of-every (viewRanges (outlineOf row .view b)) (r .0) in
-      rw (controller-fit, is-true (every (told (reportOf row b))) (to-every (told (reportOf row b)) (of-true t, (v .0, (r .1 .0, (r .1 .1 .0, tt))))))
+      rw (controller-fit, is-true (every (reportRanges (reportOf row b))) (to-every (reportRanges (reportOf row b)) (of-true t, (v .0, (r .1 .0, (r .1 .1 .0, tt))))))
 
 -- What a row's boards tell is so in its state.
 reported : (row : Cluster) → Ready row → (store list : List ℕ) → length store ≡ 4096 → (b : ℕ) → Reported (reportOf row b) (abs row store list)

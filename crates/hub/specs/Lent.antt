@@ -28,12 +28,12 @@ controllerFits c = inRange (outline {E = ℕ} (withController (opened 1) (contro
 -- stage leader its board is the controller's leader; else 1, before a step's own checks.
 
 -- Refusal 1 of what a board tells: "a field outside its values".
-abbrev pub told : Report → List Bool
-told x = isReplica (x .board) ∷ isEpoch (x .epoch) ∷ isEpoch (x .joined) ∷ leb (x .len) 512 ∷ []
+abbrev pub reportRanges : Report → List Bool
+reportRanges x = isReplica (x .board) ∷ isEpoch (x .epoch) ∷ isEpoch (x .joined) ∷ leb (x .len) 512 ∷ []
 
 -- Steps 12 and 14.
 abbrev pub reportFits : Controller → Report → Bool
-reportFits c x = controllerFits c && every (told x)
+reportFits c x = controllerFits c && every (reportRanges x)
 
 -- Step 11: at stage leader the board that tells is the controller's leader. (At another stage there may be none; any board's telling is answered 15.)
 abbrev pub leaderFits : Controller → Report → Bool

@@ -1,4 +1,4 @@
--- The lent controller put back into its row. Cited by the promise of `claim`. Assumes nothing.
+-- The lent controller put back into its row. Cited by the promise of `hub::claim`. Assumes nothing.
 use mathlib.Core.Bool.{true}
 use mathlib.Core.List.{List}
 use mathlib.Core.Path.{_≡_}

@@ -7,7 +7,7 @@ ghost use Prim.Native.Nat.{_≤_};
 ghost use lib.Dec.{leb};
 ghost use Rattle.model.specs.Ranges.{every, eight};
 ghost use Rattle.cluster.specs.Layout.{at};
-ghost use Rattle.hub.specs.Lent.{registryFits, controllerFits, told, reportFits, leaderFits};
+ghost use Rattle.hub.specs.Lent.{registryFits, controllerFits, reportRanges, reportFits, leaderFits};
 use crate::Report;
 use cluster::Controller;
 use cluster::Registry;
@@ -37,7 +37,7 @@ fn hearings(heard: [u16; 8], joined: [u16; 8]) -> bool
     ok
 }
 
-// A controller.
+// Whether a controller's record is in range.
 fn controller(c: Controller) -> bool
     ensures { λ r. ⌜ r ≡ controllerFits c ⌝ }
 {
@@ -48,7 +48,7 @@ fn controller(c: Controller) -> bool
     both(view(v), t)
 }
 
-// A registry.
+// Whether a registry is.
 fn registry(g: Registry) -> bool
     ensures { λ r. ⌜ r ≡ registryFits g ⌝ }
 {
@@ -56,30 +56,30 @@ fn registry(g: Registry) -> bool
     both(view(v), named(g))
 }
 
-// Step 10.
+// Step 10: whether both are.
 pub fn news(c: Controller, g: Registry) -> bool
     ensures { λ r. ⌜ r ≡ (registryFits g && controllerFits c) ⌝ }
 {
     both(registry(g), controller(c))
 }
 
-// What a board tells.
+// Whether a report's four numbers are.
 fn tells(x: Report) -> bool
-    ensures { λ r. ⌜ r ≡ every (told x) ⌝ }
+    ensures { λ r. ⌜ r ≡ every (reportRanges x) ⌝ }
 {
     let t3 = both(epoch(x.joined), x.len <= 512);
     let t2 = both(epoch(x.epoch), t3);
     both(replica(x.board), t2)
 }
 
-// Steps 12 and 14.
+// Steps 12 and 14: whether controller and report are.
 pub fn report(c: Controller, x: Report) -> bool
     ensures { λ r. ⌜ r ≡ reportFits c x ⌝ }
 {
     both(controller(c), tells(x))
 }
 
-// Step 11.
+// Step 11: and the report is of the controller's leader, at stage leader.
 pub fn leader(c: Controller, x: Report) -> bool
     ensures { λ r. ⌜ r ≡ leaderFits c x ⌝ }
 {

@@ -9,7 +9,8 @@ mod fits;
 // The controller's steps over its record as the hub lends it: news (10), read leader (11), read (12), hear (14). Bad input is
 // refused with 1. Each copies the record out, calls the function of `copied` with it and stores what that leaves.
 
-// What a board tells of itself: its number, its epoch, its joined epoch, the length of its log.
+// What a board tells of itself: its number, its epoch, its joined epoch, the length of its log. Each must be in range, also one that
+// the step does not use.
 pub struct Report {
     pub board: u8,
     pub epoch: u16,

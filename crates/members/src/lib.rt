@@ -8,7 +8,7 @@ ghost use Rattle.members.specs.Mask.{bits};
 
 // A set of replicas as a mask, replica 1 the lowest bit. Inner layer: callers see to it that b is a replica, 1 to 8.
 
-// Whether b is in the set.
+// Whether b is in the set. Inner layer: callers see to b.
 pub fn has(m: u8, b: u8) -> bool
     requires { ⌜ (1 ≤ b) × (b ≤ 8) ⌝ }
     ensures { λ r. ⌜ r ≡ bits m b ⌝ }
@@ -16,7 +16,7 @@ pub fn has(m: u8, b: u8) -> bool
     (m >> (b - 1)) % 2 == 1
 }
 
-// b alone.
+// b alone. Inner layer: callers see to b.
 pub fn single(b: u8) -> u8
     requires { ⌜ (1 ≤ b) × (b ≤ 8) ⌝ }
     ensures { λ r. ⌜ bits r ≡ M.only b ⌝ }
@@ -24,7 +24,7 @@ pub fn single(b: u8) -> u8
     1u8 << (b - 1)
 }
 
-// The set with b.
+// The set with b. Inner layer: callers see to b.
 pub fn insert(m: u8, b: u8) -> u8
     requires { ⌜ (1 ≤ b) × (b ≤ 8) ⌝ }
     ensures { λ r. ⌜ bits r ≡ upd (bits m) b true ⌝ }
@@ -32,7 +32,7 @@ pub fn insert(m: u8, b: u8) -> u8
     put(m, b, true)
 }
 
-// The set without b.
+// The set without b. Inner layer: callers see to b.
 pub fn remove(m: u8, b: u8) -> u8
     requires { ⌜ (1 ≤ b) × (b ≤ 8) ⌝ }
     ensures { λ r. ⌜ bits r ≡ upd (bits m) b false ⌝ }
@@ -40,7 +40,7 @@ pub fn remove(m: u8, b: u8) -> u8
     put(m, b, false)
 }
 
-// The set with b if present, without b if not.
+// The set with b if present, without b if not. Inner layer: callers see to b.
 pub fn put(m: u8, b: u8, present: bool) -> u8
     requires { ⌜ (1 ≤ b) × (b ≤ 8) ⌝ }
     ensures { λ r. ⌜ bits r ≡ upd (bits m) b present ⌝ }

@@ -1,30 +1,34 @@
--- A row in outline, and the state that it stands for with the lent places: from a refused and from an accepted step to `Turns`.
+-- A row in outline, and the state that it stands for with the lent places: from a refused and from an accepted step to `Turns`; what
+-- a write does to the lengths, the logs and the counts.
 -- Assumes nothing.
 use mathlib.Core.Bool.{Bool, true, false, not, cond, _&&_}
-use mathlib.Core.List.{List, [], _∷_}
+use mathlib.Core.List.{List, [], _∷_, _++_}
 use mathlib.Core.Logic.{_⊎_, inl, inr, _≢_}
-use mathlib.Core.Path.{_≡_, refl, sym, ap, _∙_, fun-ext}
+use mathlib.Core.Path.{_≡_, refl, sym, subst, ap, _∙_, fun-ext}
 use Prim.Native.Nat.{ℕ, zero, suc, _+_, _-_, _*_, _≤_, _<_}
 use native.Mathlib.Omega.{arith}
-use lib.Dec.{T, ltb}
+use lib.Dec.{T, eqb, ltb}
 use lib.ListN.{length, take, drop, getD, set, length-set, List·getD-eq-default}
 use lib.Seq.{length-take-le, getD-set-same, getD-set-other}
 use borrow.Author.Tests.{ne-eqb}
+use mir.Val.{Fits}
+use mir.Syntax.{w16}
 use Rattle.model.specs.Prelude.{upd}
 use Rattle.model.specs.Members.{isReplica}
 use Rattle.model.specs.State as M
 use Rattle.model.specs.State.{State, Outline, outline, values}
 use Rattle.model.specs.Steps.{Step, countedAbove, accepted, answerOf, next, step}
-use Rattle.model.proofs.Tests.{at-or, by-test, eqb-same, upd-same, upd-other, le-or-lt, split-and, is-true, is-false, of-true}
+use Rattle.model.proofs.Tests.{at-or, by-test, by-cond, eqb-same, upd-same, upd-other, le-or-lt, split-and, is-true, is-false, of-true}
 use Rattle.model.proofs.Quorum.{replica-range}
 use Rattle.model.proofs.Answer.{zero-accepted, nonzero-refused}
 use Rattle.members.specs.Mask.{bits, under}
 use Rattle.members.proofs.Laws.{replica, under-more}
-use Rattle.logstore.specs.Log.{logOf}
-use Rattle.logstore.proofs.Laws.{log-length}
+use Rattle.logstore.specs.Log.{place, logOf}
+use Rattle.logstore.proofs.Laws.{log-length, log-other, log-gains}
 use Rattle.cluster.specs.declared.Cluster.{Cluster}
 use Rattle.cluster.specs.declared.Outcome.{Outcome}
 use Rattle.cluster.specs.Layout.{at, atPair, outlineOf}
+use Rattle.cluster.proofs.Laws.{at-index, at-set}
 use Rattle.memory.specs.Memory.{abs, Ready, storeAfter, listAfter, Turns}
 
 -- A list of eight by a number that is no replica.
@@ -92,22 +96,67 @@ module _ (row : Cluster) (eight : length (row .len) ≡ 8) (short : (b : ℕ) �
         refused = λ h. absurd (h refl);
       }
 
+-- What stands at a place, written there again.
+pub set-idle : {A : Type 0} (d : A) (xs : List A) (i : ℕ) → set xs i (getD xs i d) ≡ xs
+set-idle d [] i = refl
+set-idle d (x ∷ xs) zero = refl
+set-idle d (x ∷ xs) (suc i) = ap (λ ys. x ∷ ys) (set-idle d xs i)
+
+-- The length at the place of a replica.
+pub short-at : (len : List ℕ) (k : ℕ) → ((b : ℕ) → at 0 len b ≤ 512) → 1 ≤ k → getD len (k - 1) 0 ≤ 512
+short-at len k short h = subst (λ m. m ≤ 512) (at-index 0 len k h) (short k)
+
+-- What stands at the place of b.
+pub at-seat : {A : Type 0} (d : A) (xs : List A) (b k : ℕ) → (isReplica b ≡ true → k ≡ b) → T (isReplica b) → getD xs (k - 1) d ≡ at d xs b
+at-seat d xs b k hk t = ap (λ x. getD xs (x - 1) d) (hk (is-true (isReplica b) t)) ∙ sym (at-index d xs b (replica-range b t .0))
+
+-- One entry more fits its type.
+pub fits-next : {n : ℕ} → n < 512 → Fits w16 (n + 1)
+fits-next h = record { fits = omega arith }
+
+-- The lengths after one of them becomes n.
+module _ (len : List ℕ) (eight : length len ≡ 8) (short : (b : ℕ) → at 0 len b ≤ 512) (k n : ℕ) (low : 1 ≤ k) (high : k ≤ 8) where
+  pub len-set : (x : ℕ) → at 0 (set len (k - 1) n) x ≡ upd (at 0 len) k n x
+  len-set x = ap (λ f. f x) (at-set 0 len k n low high eight)
+
+  pub len-short : n ≤ 512 → (x : ℕ) → at 0 (set len (k - 1) n) x ≤ 512
+  len-short h x = subst (λ m. m ≤ 512) (sym (len-set x)) (by-cond (λ m. m ≤ 512) (eqb x k) (λ _. h) (λ _. short x))
+
+  -- The log of k alone changes, if the others' places hold what they did.
+  pub logs-set : (store store′ : List ℕ) → ((x : ℕ) → 1 ≤ x → x ≢ k → logOf store′ x (at 0 len x) ≡ logOf store x (at 0 len x))
+      → (λ x. logOf store′ x (at 0 (set len (k - 1) n) x)) ≡ upd (λ x. logOf store x (at 0 len x)) k (logOf store′ k n)
+  logs-set store store′ others = fun-ext (at-or k
+      (rw (eqb-same k) (ap (logOf store′ k) (len-set k ∙ upd-same (at 0 len) k n)))
+      (λ x m. rw (ne-eqb x k m) (ap (logOf store′ x) (len-set x ∙ upd-other (at 0 len) k n x m) ∙ other x m)))
+    where
+      other : (x : ℕ) → x ≢ k → logOf store′ x (at 0 len x) ≡ logOf store x (at 0 len x)
+      other zero m = refl
+      other (suc x) m = others (suc x) (omega arith) m
+
+-- A log of n entries that gets v at its end.
+pub logs-grow : (len : List ℕ) (eight : length len ≡ 8) (short : (b : ℕ) → at 0 len b ≤ 512) (store : List ℕ) → length store ≡ 4096 → (k v : ℕ) → 1 ≤ k → k ≤ 8 → at 0 len k < 512
+    → (λ x. logOf (set store (place k (at 0 len k)) v) x (at 0 (set len (k - 1) (at 0 len k + 1)) x)) ≡ upd (λ x. logOf store x (at 0 len x)) k (logOf store k (at 0 len k) ++ (v ∷ []))
+logs-grow len eight short store full k v low high room =
+    logs-set len eight short k (at 0 len k + 1) low high store (set store (place k (at 0 len k)) v)
+    (λ x h m. log-other store k x (at 0 len k) (at 0 len x) v low h m room (short x))
+    ∙ ap (upd (λ x. logOf store x (at 0 len x)) k) (log-gains store full k low high (at 0 len k) v room)
+
 -- Counts, eight by eight in one list: a write is the model's update.
 module _ (cs : List ℕ) (a b n : ℕ) (ra : T (isReplica a)) (rb : T (isReplica b)) (e : length cs ≡ 64) where
-  abbrev place : ℕ
-  place = 8 * (a - 1) + (b - 1)
+  abbrev pair : ℕ
+  pair = 8 * (a - 1) + (b - 1)
 
-  apart : (x y : ℕ) → (x ≡ a → y ≡ b → ⊥) → atPair (set cs place n) x y ≡ atPair cs x y
+  apart : (x y : ℕ) → (x ≡ a → y ≡ b → ⊥) → atPair (set cs pair n) x y ≡ atPair cs x y
   apart x y f = by-test (isReplica x && isReplica y)
-      (λ t. let z = split-and (isReplica x) (isReplica y) t in rw (is-true (isReplica x && isReplica y) t) (getD-set-other cs place (8 * (x - 1) + (y - 1)) n 0 (λ q. f
+      (λ t. let z = split-and (isReplica x) (isReplica y) t in rw (is-true (isReplica x && isReplica y) t) (getD-set-other cs pair (8 * (x - 1) + (y - 1)) n 0 (λ q. f
       (omega (arith, q, replica-range a ra, replica-range b rb, replica-range x (z .0), replica-range y (z .1)))
       (omega (arith, q, replica-range a ra, replica-range b rb, replica-range x (z .0), replica-range y (z .1))))))
       (λ t. rw (is-false (isReplica x && isReplica y) t))
 
-  pub pair-set : atPair (set cs place n) ≡ upd (atPair cs) a (upd (atPair cs a) b n)
-  pair-set = fun-ext (λ x. fun-ext (λ y. at-or {P = λ x. (y : ℕ) → atPair (set cs place n) x y ≡ upd (atPair cs) a (upd (atPair cs a) b n) x y} a
+  pub pair-set : atPair (set cs pair n) ≡ upd (atPair cs) a (upd (atPair cs a) b n)
+  pair-set = fun-ext (λ x. fun-ext (λ y. at-or {P = λ x. (y : ℕ) → atPair (set cs pair n) x y ≡ upd (atPair cs) a (upd (atPair cs a) b n) x y} a
       (at-or b
-      (rw (eqb-same a) (rw (eqb-same b) (rw (is-true (isReplica a) ra, is-true (isReplica b) rb) (getD-set-same cs place n 0 (omega (arith, replica-range a ra, replica-range b rb))))))
+      (rw (eqb-same a) (rw (eqb-same b) (rw (is-true (isReplica a) ra, is-true (isReplica b) rb) (getD-set-same cs pair n 0 (omega (arith, replica-range a ra, replica-range b rb))))))
       (λ y m. rw (eqb-same a) (rw (ne-eqb y b m) (apart a y (λ _ q. m q)))))
       (λ x m y. rw (ne-eqb x a m) (apart x y (λ q _. m q))) x y))
 

@@ -1,5 +1,5 @@
--- A row together with the lent places as a state of the model, and what a step makes of them. Cited by the contracts of replicas, control,
--- steps and sheet. Assumes nothing.
+-- A row together with the lent places as a state of the model, and what a step makes of them. Cited by the contracts of leader,
+-- follower, control, dispatch, steps, hub and sheet. Assumes nothing.
 use mathlib.Core.Bool.{Bool, true, cond}
 use mathlib.Core.List.{List}
 use mathlib.Core.Logic.{_≢_}
@@ -35,7 +35,7 @@ abs row store list = record {
 abbrev pub rowOf : Registry → Controller → List View → List ℕ → List ℕ → List ℕ → ℕ → Cluster
 rowOf g c views joined acked len count = record { registry = g; controller = c; views = views; joined = joined; acked = acked; len = len; count = count }
 
--- Eight lengths of logs.
+-- Eight lengths of logs, each at most 512.
 pub record Short (len : List ℕ) : Type 0 where
   pub eight : length len ≡ 8
   pub most : (b : ℕ) → at 0 len b ≤ 512
@@ -44,9 +44,9 @@ pub record Short (len : List ℕ) : Type 0 where
 abbrev pub Led : List View → Type 0
 Led views = (b : ℕ) → at noView views b .leader ≤ 8
 
--- A controller that reads its leader has one.
-abbrev pub Reads : Controller → Type 0
-Reads c = M.stageNumber (stageOf (c .stage)) ≡ 1 → isReplica (c .view .leader) ≡ true
+-- A controller at stage leader has one.
+abbrev pub HasLeader : Controller → Type 0
+HasLeader c = M.stageNumber (stageOf (c .stage)) ≡ 1 → isReplica (c .view .leader) ≡ true
 
 -- The lengths of the arrays that a row holds beside the controller's, which its type fixes.
 pub record Shape (row : Cluster) : Type 0 where
@@ -61,7 +61,7 @@ pub record Ready (row : Cluster) : Type 0 where
   pub len : (b : ℕ) → at 0 (row .len) b ≤ 512
   pub count : row .count ≤ 512
   pub leaders : Led (row .views)
-  pub reads : Reads (row .controller)
+  pub reads : HasLeader (row .controller)
 
 -- The store after an accepted step: append and receive write one place, the end of b's log.
 abbrev pub storeAfter : Step → Cluster → List ℕ → List ℕ

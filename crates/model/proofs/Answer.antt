@@ -10,11 +10,13 @@ use Rattle.model.specs.State.{Outline}
 use Rattle.model.specs.Steps.{Step, append, commit, add, remove, changeLeader, refresh, join, receive, acknowledge, refreshController, readLeader, read, setNormal, hear, install, malformed, checks, accepted, answerOf}
 use Rattle.model.proofs.Tests.{split-and, ne-fact}
 
-abbrev numbered : List Check → Bool
+-- No refusal has the number 0.
+abbrev pub numbered : List Check → Bool
 numbered [] = true
 numbered ((c else n) ∷ cs) = not (eqb n 0) && numbered cs
 
-zero-passes : (cs : List Check) → T (numbered cs) → firstFailed cs ≡ 0 → passes cs ≡ true
+-- Where the answer is 0, no check fails.
+pub zero-passes : (cs : List Check) → T (numbered cs) → firstFailed cs ≡ 0 → passes cs ≡ true
 zero-passes [] t e = refl
 zero-passes ((true else n) ∷ cs) t e = zero-passes cs (split-and (not (eqb n 0)) (numbered cs) t .1) e
 zero-passes ((false else n) ∷ cs) t e = absurd (ne-fact n 0 (split-and (not (eqb n 0)) (numbered cs) t .0) e)

@@ -11,7 +11,7 @@ use lib.ListN.{length}
 use borrow.Author.Tests.{ne-eqb}
 use Rattle.model.specs.Prelude.{upd}
 use Rattle.model.specs.Members.{isReplica, size}
-use Rattle.model.specs.State.{outline, Entries, View, Status, normal, waiting, Stage, Registry, Controller, State, opened, isChoosing, stageNumber, stageOf, zeros}
+use Rattle.model.specs.State.{outline, Entries, View, Status, normal, waiting, Stage, Registry, Controller, State, opened, isChoosing, stageNumber, stageFor, zeros}
 use Rattle.model.specs.Steps.{Step, append, commit, add, remove, changeLeader, refresh, join, receive, acknowledge, refreshController, readLeader, read, setNormal, hear, install, malformed, checks, next, accepted, step, shared, heardOf, succeeded, vacated}
 use Rattle.model.specs.Records.{Record, stepOf}
 use Rattle.model.specs.Runs.{run}
@@ -213,12 +213,12 @@ module _ (𝓔 : Entries) where
       };
     }
       where
-        leads : (g : Status) → stageNumber (stageOf g) ≡ 1 → T (not (isChoosing g))
+        leads : (g : Status) → stageNumber (stageFor g) ≡ 1 → T (not (isChoosing g))
         leads normal e = tt
         leads waiting e = tt
         leads Status.choosing e = absurd (omega arith)
 
-        never : (g : Status) → stageNumber (stageOf g) ≡ 2 → ⊥
+        never : (g : Status) → stageNumber (stageFor g) ≡ 2 → ⊥
         never normal e = omega arith
         never waiting e = omega arith
         never Status.choosing e = omega arith

@@ -9,7 +9,7 @@ use native.Mathlib.Omega.{arith}
 use lib.Dec.{T, eqb, eqb→eq, ltb→lt, T-not}
 use lib.ListN.{length}
 use borrow.Author.Tests.{ne-eqb}
-use Rattle.model.specs.State.{outline, Entries, View, Status, normal, waiting, Stage, idle, leader, boards, Registry, Controller, State, isWaiting, isChoosing, stageNumber, stageOf}
+use Rattle.model.specs.State.{outline, Entries, View, Status, normal, waiting, Stage, idle, leader, boards, Registry, Controller, State, isWaiting, isChoosing, stageNumber, stageFor}
 use Rattle.model.specs.Steps.{refreshController, readLeader, read, hear, checks, next, withController, heardOf, deaf}
 use Rattle.model.proofs.Tests.{Holds, split-and, join-and, by-test, at-or, eqb-same, eq-test, upd-idle, is-true}
 use Rattle.model.proofs.Prefix.{begins-length}
@@ -18,12 +18,12 @@ use Rattle.model.proofs.Invariant.{fits, ControllerOk, reading, Firm, v
 use Rattle.model.proofs.Static as Static
 use Rattle.model.proofs.Static.{o, _⇒_, still-outvoted}
 
-fits-stageOf : (g : Status) → T (fits g (stageOf g))
-fits-stageOf normal = tt
-fits-stageOf waiting = tt
-fits-stageOf Status.choosing = tt
+fits-stageFor : (g : Status) → T (fits g (stageFor g))
+fits-stageFor normal = tt
+fits-stageFor waiting = tt
+fits-stageFor Status.choosing = tt
 
-not-boards : (g : Status) → T (eqb (stageNumber (stageOf g)) 2) → T false
+not-boards : (g : Status) → T (eqb (stageNumber (stageFor g)) 2) → T false
 not-boards normal t = t
 not-boards waiting t = t
 not-boards Status.choosing t = t
@@ -96,17 +96,17 @@ module _ (𝓔 : Entries) where
 
     pub refresh-controller-keeps : Holds (checks (outline s) refreshController) → Inv L (next 𝓔 s refreshController)
     refresh-controller-keeps h = with-controller i c′
-        (record { epoch = omega arith; current = λ _. refl; stage = λ _. fits-stageOf (registry .status) }) (same-leader i c′ firm)
+        (record { epoch = omega arith; current = λ _. refl; stage = λ _. fits-stageFor (registry .status) }) (same-leader i c′ firm)
         (record { read = λ _ _ b _ k. absurd (omega arith); heard = λ _ _ b _ k. absurd (omega arith) })
         (λ x k. record { begins = k .begins; backed = λ f. go (k .backed (firm f)) })
       where
         c′ : Controller
-        c′ = deaf r (stageOf (registry .status))
+        c′ = deaf r (stageFor (registry .status))
 
         firm : Firm registry c′ → Firm registry controller
         firm (vacant t) = vacant t
         firm (settled t n) = settled t n
-        firm (reads t) = absurd (not-boards (registry .status) (split-and (eqb (r .epoch) (r .epoch)) (eqb (stageNumber (stageOf (registry .status))) 2) t .1))
+        firm (reads t) = absurd (not-boards (registry .status) (split-and (eqb (r .epoch) (r .epoch)) (eqb (stageNumber (stageFor (registry .status))) 2) t .1))
 
         go : {n : ℕ} → Backed (o i) registry controller joined log n → Backed (o i) registry c′ joined log n
         go (held k) = held k

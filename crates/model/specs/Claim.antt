@@ -1,4 +1,4 @@
--- Demand 3: one claim about every list of records after an accepted opening. Cited by the promise of `claim`. Assumes nothing.
+-- Demand 3: one claim about every list of records after an accepted opening. Cited by the promise of `model::claim`, and by those of steps and sheet. Assumes nothing.
 use mathlib.Core.List.{List, _++_}
 use mathlib.Core.Logic.{_≢_}
 use mathlib.Core.Path.{_≡_}

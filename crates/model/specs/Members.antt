@@ -1,4 +1,4 @@
--- Replicas, sets of replicas, and the majority. Cited by State, Steps and Claim. Assumes nothing.
+-- Replicas, sets of replicas, and the majority. Cited by State, Steps, Claim and most contracts. Assumes nothing.
 use mathlib.Core.Bool.{Bool, true, false, cond, _&&_}
 use Prim.Native.Nat.{ℕ, _+_, _/_}
 use lib.Dec.{leb, eqb}

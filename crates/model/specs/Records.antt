@@ -1,4 +1,4 @@
--- A record of a sheet as five numbers, and the step that it stands for. Cited by Runs. Assumes nothing.
+-- A record of a sheet as five numbers, and the step that it stands for. Cited by Runs, Claim, Trials and the contracts that speak of records. Assumes nothing.
 use mathlib.Core.Bool.{Bool, true, false, cond, _&&_}
 use mathlib.Core.List.{List, [], _∷_}
 use Prim.Native.Nat.{ℕ}

@@ -1,4 +1,4 @@
--- Runs: lists of records, malformed and refused ones too, each on what the one before left. Cited by Claim. Assumes nothing.
+-- Runs: lists of records, malformed and refused ones too, each on what the one before left. Cited by Claim, Trials and the contracts of steps and sheet. Assumes nothing.
 use mathlib.Core.Bool.{Bool, true, false, cond, _&&_}
 use mathlib.Core.List.{List, [], _∷_, _++_}
 use Prim.Native.Nat.{ℕ}

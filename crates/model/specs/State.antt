@@ -1,4 +1,4 @@
--- The cluster (document 01: row): registry, replicas, controller, logs, receipts, and the opening. Cited by Steps. Assumes nothing.
+-- The cluster (document 01: row): registry, replicas, controller, logs, receipts, and the opening. Cited by Steps, Claim and most contracts. Assumes nothing.
 use mathlib.Core.Bool.{Bool, true, false, cond}
 use mathlib.Core.List.{List, []}
 use mathlib.Core.Logic.{_↔_}
@@ -104,10 +104,10 @@ stageNumber boards = 2
 stageNumber Stage.choosing = 3
 
 -- Step 10: "stage is idle, leader or choosing for normal, waiting or choosing".
-abbrev pub stageOf : Status → Stage
-stageOf normal = idle
-stageOf waiting = leader
-stageOf Status.choosing = Stage.choosing
+abbrev pub stageFor : Status → Stage
+stageFor normal = idle
+stageFor waiting = leader
+stageFor Status.choosing = Stage.choosing
 
 abbrev pub zeros : ℕ → ℕ
 zeros x = 0

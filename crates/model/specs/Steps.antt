@@ -1,5 +1,5 @@
 -- The fifteen steps of document 01: the checks in the order written, each with its refusal, and the state after acceptance.
--- Cited by Records and Runs. Assumes nothing.
+-- Cited by Records, Runs and every step's contract. Assumes nothing.
 use mathlib.Core.Bool.{Bool, true, false, cond, not, _&&_, _||_}
 use mathlib.Core.List.{List, [], _∷_, _++_}
 use Prim.Native.Nat.{ℕ, suc}
@@ -7,7 +7,7 @@ use lib.Dec.{leb, ltb, eqb}
 use lib.ListN.{length, getD}
 use Rattle.model.specs.Prelude.{upd, Check, _else_, firstFailed, passes}
 use Rattle.model.specs.Members.{Members, isReplica, _∩_, size, hasQuorum, lowest}
-use Rattle.model.specs.State.{Entries, View, Status, normal, waiting, Stage, idle, boards, Registry, Controller, State, Outline, outline, isNormal, isChoosing, stageNumber, stageOf, zeros}
+use Rattle.model.specs.State.{Entries, View, Status, normal, waiting, Stage, idle, boards, Registry, Controller, State, Outline, outline, isNormal, isChoosing, stageNumber, stageFor, zeros}
 
 -- The steps, each with its number and document 01's word where ours is another.
 pub data Step : Type 0 where
@@ -278,7 +278,7 @@ module _ (𝓔 : Entries) where
     next (join b) = withJoined (withLog s b (shared same (log b) (log (view b .leader)))) b (view b .term)
     next (receive b) = withLog s b (log b ++ (entryAt (view b .leader) (length (log b)) ∷ []))
     next (acknowledge a b) = withAcked s a (upd (acked a) b (length (log b)))
-    next refreshController = withController s (deaf (registry .view) (stageOf (registry .status)))
+    next refreshController = withController s (deaf (registry .view) (stageFor (registry .status)))
     next readLeader =
         withController s (heardOf controller boards (controller .view .leader) (length (log (controller .view .leader))) 0)
     next (read b) = withController s (heardOf controller (controller .stage) b (length (log b)) 0)

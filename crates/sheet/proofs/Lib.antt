@@ -1,5 +1,2 @@
-pub mod Records
 pub mod Playing
-pub mod Lines
-pub mod Endings
 pub mod Listings

@@ -1,29 +1,36 @@
 -- A sheet that was run, and its listing: what was written is what the definition says. Assumes nothing.
 use mathlib.Core.Bool.{Bool, true, false, cond, _&&_}
 use mathlib.Core.List.{List, [], _∷_, _++_, append-assoc}
-use mathlib.Core.Path.{_≡_, refl, sym, subst, ap, ap₂, _∙_}
-use Prim.Native.Nat.{ℕ, suc, _+_, _-_, _/_, _^_, _<_, _≤_}
+use mathlib.Core.Path.{_≡_, refl, sym, ap, ap₂, _∙_}
+use Prim.Native.Nat.{ℕ, suc, _+_, _-_, _/_, _<_, _≤_}
 use native.Mathlib.Omega.{arith}
-use lib.Dec.{T, leb}
-use lib.ListN.{length, take, getD, length-append}
+use lib.Dec.{leb}
+use lib.ListN.{length, take, length-append}
 use borrow.Author.Tests.{leb-true}
 use Rattle.model.specs.State.{outline, opened, values}
 use Rattle.model.specs.Runs.{answers}
-use Rattle.model.specs.Ranges.{inRange}
-use Rattle.model.specs.Claim.{after, receipts}
+use Rattle.model.specs.Claim.{receipts}
 use Rattle.model.proofs.Theorem.{safe}
 use Rattle.cluster.specs.declared.Cluster.{Cluster}
 use Rattle.cluster.specs.Layout.{outlineOf}
-use Rattle.memory.specs.Memory.{abs}
 use Rattle.text.specs.Text.{Text, over, Wrote}
 use Rattle.text.proofs.Laws.{over-holds, over-length, digits-one-length}
-use Rattle.sheet.specs.Listing.{recordAt, isSheet, answerLine, answerLines, ending, listingOf, listing, result, left, LengthsTell}
-use Rattle.sheet.specs.Running.{following, stateAt, Ran, lines, Delivered}
-use Rattle.sheet.specs.Ending.{endingText}
-use Rattle.sheet.proofs.Records.{room}
-use Rattle.sheet.proofs.Playing.{sheet-whole, sheet-real}
-use Rattle.sheet.proofs.Lines.{lines-are, line-length}
-use Rattle.sheet.proofs.Endings.{ending-is}
+use Rattle.records.specs.Bytes.{recordAt, records, isSheet}
+use Rattle.lines.specs.Lines.{answerLine}
+use Rattle.listing.specs.Listing.{answerLines, lines, ending, Delivered}
+use Rattle.lines.proofs.Lengths.{line-length}
+use Rattle.sheet.specs.Sheet.{listingOf, listing, result, left, LengthsTell}
+use Rattle.sheet.specs.Running.{following, stateAt, Ran}
+use Rattle.records.proofs.Decoding.{room}
+use Rattle.sheet.proofs.Playing.{sheet-whole, sheet-step, sheet-real}
+
+-- The first lines of the listing.
+pub lines-are : (s : Text) (k : ℕ) (row : Cluster) (store list ns : List ℕ) → isSheet s ≡ true → Ran s k row store list ns
+    → lines s ns (suc k) ≡ answerLine 1 0 0 ++ answerLines 2 (following s k) (answers values (opened (recordAt s .board)) (following s k))
+unfolding lines records answerLines
+lines-are s k row store list ns e h =
+    ap (answerLines 1 (recordAt s ∷ following s k)) (h .answered)
+    ∙ ap (λ n. answerLine 1 n 0 ++ answerLines 2 (following s k) (answers values (opened (recordAt s .board)) (following s k))) (sheet-step s e)
 
 -- What was written aside, read back.
 pub read-back : {d xs e : Text} {r : ℕ} → Wrote d 0 xs e r → r ≤ length d → take r e ≡ xs
@@ -31,6 +38,7 @@ read-back {d} {xs} {e} {r} w h =
     let n : r ≡ length xs = omega (arith, w .next) in
     ap₂ take n (w .text) ∙ over-holds d 0 xs (omega (arith, h, n))
 
+-- Whatever stands after it, a text is no shorter: so the listing's first line is enough to know that it is long.
 longer : (n : ℕ) (xs ys : Text) → n ≤ length xs → n ≤ length (xs ++ ys)
 longer n xs ys h = omega (arith, length-append xs ys)
 
@@ -55,16 +63,13 @@ module _ (s : Text) (e : isSheet s ≡ true) (row : Cluster) (store list ns : Li
   kept : take (row .count) list ≡ receipts values (recordAt s .board) (following s k)
   kept = ap (λ x. x .committed) (h .state) ∙ safe values (recordAt s .board) (sheet-real s e) (following s k) .kept
 
-  pub ended : endingText row list ≡ ending (stateAt s k) (receipts values (recordAt s .board) (following s k))
-  ended = ending-is row store list (h .outlined ∙ ap outline (sym (h .state))) ∙ ap₂ ending (h .state) kept
-
-  pub listed : lines s ns (length s / 8) ++ endingText row list ≡ listing s
+  pub listed : lines s ns (length s / 8) ++ ending (outlineOf row) (take (row .count) list) ≡ listing s
   unfolding listing listingOf
   listed =
-      ap₂ (λ x y. x ++ y) (ap (lines s ns) (sym some) ∙ lines-are s k row store list ns e h) ended
-      ∙ append-assoc (answerLine 1 0 0) (answerLines 2 (following s k) (answers values (opened (recordAt s .board)) (following s k))) (ending (stateAt s k) (receipts values (recordAt s .board) (following s k)))
+      ap₂ (λ x y. x ++ y) (ap (lines s ns) (sym some) ∙ lines-are s k row store list ns e h) (ap₂ ending (h .outlined) kept)
+      ∙ append-assoc (answerLine 1 0 0) (answerLines 2 (following s k) (answers values (opened (recordAt s .board)) (following s k))) (ending (outline (stateAt s k)) (receipts values (recordAt s .board) (following s k)))
 
-  pub delivered : {text out out′ : Text} {r : ℕ} → text ≡ endingText row list → Delivered (lines s ns (length s / 8) ++ text) out out′ r → (r ≡ result s out) × (out′ ≡ left s out)
+  pub delivered : {text out out′ : Text} {r : ℕ} → text ≡ ending (outlineOf row) (take (row .count) list) → Delivered (lines s ns (length s / 8) ++ text) out out′ r → (r ≡ result s out) × (out′ ≡ left s out)
   unfolding result left
   delivered {text} {out} {out′} {r} t d =
       let l : lines s ns (length s / 8) ++ text ≡ listing s = ap (λ x. lines s ns (length s / 8) ++ x) t ∙ listed in (

@@ -1,12 +1,12 @@
 -- One record more of a sheet that is run: the call's promise is the model's step. Assumes nothing.
-use mathlib.Core.Bool.{Bool, true, cond, _&&_}
+use mathlib.Core.Bool.{true, cond, _&&_}
 use mathlib.Core.List.{List, [], _∷_, _++_}
 use mathlib.Core.Path.{_≡_, refl, sym, subst, ap, ap₂, _∙_}
-use Prim.Native.Nat.{ℕ, zero, suc, _+_, _-_, _*_, _/_, _%_, _≤_, _<_}
+use Prim.Native.Nat.{ℕ, suc, _+_, _-_, _*_, _/_, _%_, _≤_, _<_}
 use native.Mathlib.Numerals.{add-one}
 use native.Mathlib.Omega.{arith}
 use lib.Dec.{T, eqb, leb, leb→le, eqb→eq}
-use lib.ListN.{length, take, drop, set, length-set}
+use lib.ListN.{length, drop, set, length-set}
 use lib.Seq.{take-suc-set, drop-drop}
 use Rattle.model.specs.Members.{isReplica}
 use Rattle.model.specs.State.{State, outline, opened, values}
@@ -24,10 +24,11 @@ use Rattle.cluster.specs.declared.Outcome.{Outcome}
 use Rattle.cluster.specs.Layout.{outlineOf}
 use Rattle.memory.specs.Memory.{abs, Shape, Ready, Turns}
 use Rattle.control.specs.Opening.{Opens, OpenedWith}
-use Rattle.steps.specs.Call.{valid, Did}
+use Rattle.steps.specs.Call.{Did}
 use Rattle.steps.proofs.Calling.{ready, all-tests, did-step, did-lengths}
 use Rattle.text.specs.Text.{Text}
-use Rattle.sheet.specs.Listing.{recordAt, records, wholeRecords, isOpening, isSheet}
+use Rattle.records.specs.Bytes.{recordAt, records, wholeRecords, isOpening, isSheet}
+use Rattle.listing.proofs.AnswerLines.{records-suc}
 use Rattle.sheet.specs.Running.{following, stateAt, Ran}
 
 -- What refusal 2 has seen.
@@ -60,14 +61,6 @@ begun s e b h x o =
     subst (λ n. OpenedWith n (x .row)) (ap (λ n. cond (isReplica n) n 1) h ∙ ap (λ t. cond t (recordAt s .board) 1) (is-true (isReplica (recordAt s .board)) (sheet-real s e))) (o .row)
 
 -- One record more.
-pub records-suc : (k : ℕ) (s : Text) → records (suc k) s ≡ records k s ++ (recordAt (drop (8 * k) s) ∷ [])
-unfolding records
-records-suc zero s = refl
-records-suc (suc k) s =
-    let n : 8 + 8 * k ≡ 8 * suc k = omega arith in
-    let d : drop (8 * k) (drop 8 s) ≡ drop (8 * suc k) s = drop-drop (8 * k) 8 s ∙ ap (λ m. drop m s) n in
-    ap (λ rs. recordAt s ∷ rs) (records-suc k (drop 8 s) ∙ ap (λ t. records k (drop 8 s) ++ (recordAt t ∷ [])) d)
-
 pub following-suc : (s : Text) (k : ℕ) → following s (suc k) ≡ following s k ++ (recordAt (drop (8 * k + 8) s) ∷ [])
 following-suc s k =
     let n : 8 + 8 * k ≡ 8 * k + 8 = omega arith in

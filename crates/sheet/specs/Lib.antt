@@ -1,3 +1,2 @@
-pub mod Listing
+pub mod Sheet
 pub mod Running
-pub mod Ending

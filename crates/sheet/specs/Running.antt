@@ -1,9 +1,7 @@
 -- How far a sheet has been run. Cited by the contracts of the runner. Assumes nothing.
-use mathlib.Core.Bool.{cond}
 use mathlib.Core.List.{List, _∷_}
 use mathlib.Core.Path.{_≡_}
 use Prim.Native.Nat.{ℕ, suc}
-use lib.Dec.{leb}
 use lib.ListN.{length, take, drop}
 use Rattle.model.specs.State.{State, outline, opened, values}
 use Rattle.model.specs.Records.{Record}
@@ -12,8 +10,8 @@ use Rattle.model.specs.Claim.{after}
 use Rattle.cluster.specs.declared.Cluster.{Cluster}
 use Rattle.cluster.specs.Layout.{outlineOf}
 use Rattle.memory.specs.Memory.{abs}
-use Rattle.text.specs.Text.{Text, over}
-use Rattle.sheet.specs.Listing.{recordAt, records, answerLines}
+use Rattle.text.specs.Text.{Text}
+use Rattle.records.specs.Bytes.{recordAt, records}
 
 -- The first k records after the opening.
 abbrev pub following : Text → ℕ → List Record
@@ -31,13 +29,3 @@ pub record Ran (s : Text) (k : ℕ) (row : Cluster) (store list ns : List ℕ) :
   pub full : length store ≡ 4096
   pub long : length list ≡ 512
   pub room : length ns ≡ 4096
-
--- The lines of the first n records of s, with the answers ns.
-unfoldable pub lines : Text → List ℕ → ℕ → Text
-unfolding records answerLines
-lines s ns n = answerLines 1 (records n s) (take n ns)
-
--- A text for a slice whose bytes are `out`: its length and the slice with it, or refusal 3 and the slice as it was.
-pub record Delivered (text out out′ : Text) (r : ℕ) : Type 0 where
-  pub answer : r ≡ cond (leb (length text) (length out)) (length text) 3
-  pub left : out′ ≡ cond (leb (length text) (length out)) (over out 0 text) out

@@ -6,15 +6,15 @@ ghost use Prim.Native.Nat.{_-_, _/_};
 ghost use lib.ListN.{length};
 ghost use Rattle.memory.specs.Memory.{rowOf, Shape};
 ghost use Rattle.control.specs.Opening.{OpenedWith};
-ghost use Rattle.sheet.specs.Listing.{isSheet, recordAt};
+ghost use Rattle.records.specs.Bytes.{recordAt, isSheet};
 ghost use Rattle.sheet.specs.Running.{Ran};
-use crate::decode;
 use cluster::Cluster;
 use cluster::Controller;
 use cluster::Registry;
 use cluster::View;
+use records::decode;
 
-// The opening.
+// The opening. Callers see to it that refusal 2 lets the sheet through.
 fn begin(sheet: &[u8]) -> Cluster
     requires { ⌜ isSheet (now sheet) ≡ true ⌝ }
     ensures { λ r. ⌜ OpenedWith (recordAt (now (sheet .entry)) .board) r ⌝ }
@@ -32,7 +32,7 @@ struct Centre {
     count: u16,
 }
 
-// The records after the opening, from the row `o`.
+// The records after the opening, from the opened row: `o` and the lent places. Callers see to it that these are the opening's.
 fn walk(
     sheet: &[u8],
     o: Centre,
@@ -54,7 +54,7 @@ fn walk(
     let mut k: usize = 0;
     while k < n {
         let r = decode(sheet, 8 * k + 8);
-        let x = steps::send(
+        let x = dispatch::send(
             g,
             c,
             views,
@@ -66,13 +66,14 @@ fn walk(
             &mut *list,
             r,
         );
-        answers[k + 1] = x.answer;
+        let s = x.settled;
+        answers[k + 1] = s.answer;
         count = x.count;
         let i = x.place;
         let v = x.view;
-        views[i] = v;
-        let h = x.registry;
-        let d = x.controller;
+        views[i] = v; // By its place, which is faster than the eight as a whole (docs/MEASURES.md).
+        let h = s.registry;
+        let d = s.controller;
         g = h;
         c = d;
         k += 1;

@@ -1,4 +1,4 @@
--- From refusal 1 and the inner step to what a call promises; a row that refusal 1 lets through is ready; equal outlines are equal rows.
+-- From refusal 1 and the inner step to what a call promises; a row that refusal 1 lets through is ready; the lent places keep their lengths; the shown list.
 -- Assumes nothing.
 use mathlib.Core.Bool.{Bool, true, false, not, cond, _&&_}
 use mathlib.Core.List.{List, [], _∷_}

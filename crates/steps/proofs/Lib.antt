@@ -1,3 +1,2 @@
-pub mod Sending
 pub mod Calling
 pub mod Following

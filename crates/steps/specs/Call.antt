@@ -1,35 +1,20 @@
--- What a call promises: its answer, the row it returns and every place of what it was lent. Cited by the contracts of steps. Assumes nothing.
+-- What a call promises: its answer, the row it returns and every place of what it was lent. Cited by the contracts of steps and hub's claim. Assumes nothing.
 use mathlib.Core.Bool.{Bool, true, cond, _&&_}
 use mathlib.Core.List.{List, []}
 use mathlib.Core.Logic.{_≢_}
 use mathlib.Core.Path.{_≡_}
-use Prim.Native.Nat.{ℕ, _<_}
+use Prim.Native.Nat.{ℕ}
 use lib.Dec.{eqb}
-use lib.ListN.{length, set}
+use lib.ListN.{length}
 use Rattle.model.specs.State as M
 use Rattle.model.specs.State.{outline, values}
 use Rattle.model.specs.Steps.{Step, accepted, answerOf, step}
-use Rattle.model.specs.Records as R
 use Rattle.model.specs.Ranges.{inRange}
-use Rattle.cluster.specs.declared.View.{View}
-use Rattle.cluster.specs.declared.Registry.{Registry}
-use Rattle.cluster.specs.declared.Controller.{Controller}
+use Rattle.logstore.specs.Log.{visibleAt}
 use Rattle.cluster.specs.declared.Cluster.{Cluster}
 use Rattle.cluster.specs.declared.Outcome.{Outcome}
 use Rattle.cluster.specs.Layout.{outlineOf}
-use Rattle.memory.specs.Memory.{abs, rowOf, storeAfter, listAfter, Leaves}
-use Rattle.steps.specs.declared.Record.{Record}
-use Rattle.steps.specs.declared.Sent.{Sent}
-
--- The model's record of a record.
-abbrev pub recordOf : Record → R.Record
-recordOf r = record { step = r .step; board = r .board; other = r .other; spare = r .spare; value = r .value }
-
--- What the step st of the row of these parts answers and leaves: x has all that it does not write where it is lent; of the views it changes one at most.
-pub record Sends (st : Step) (g : Registry) (c : Controller) (views : List View) (count : ℕ) (joined acked len store list : List ℕ) (x : Sent) (joined′ acked′ len′ store′ list′ : List ℕ) : Type 0 where
-  pub place : x .place < 8
-  pub leaves : Leaves st (rowOf g c views joined acked len count) store list (x .answer)
-      (rowOf (x .registry) (x .controller) (set views (x .place) (x .view)) joined′ acked′ len′ (x .count)) store′ list′
+use Rattle.memory.specs.Memory.{abs, storeAfter, listAfter}
 
 -- Refusal 1, apart from a step's fields: "a store not 4,096 or receipts not 512 long, a row with a number outside the ranges", leaders.
 abbrev pub valid : Cluster → List ℕ → List ℕ → Bool
@@ -53,3 +38,7 @@ pub record Did (st : Step) (row : Cluster) (store list : List ℕ) (x : Outcome)
 abbrev pub shown : Cluster → List ℕ → List ℕ → List ℕ
 shown row store list = cond (valid row store list)
     (cond (eqb (row .registry .view .leader) 0) (abs row store list .committed) (abs row store list .log (row .registry .view .leader))) []
+
+-- Where that part begins, a block and an offset in bytes, if the store and the list begin at `s` and `l`: it is a part of what was lent, "not a copy". The empty part is one of the list.
+abbrev pub shownAt : Cluster → List ℕ → List ℕ → ℕ × ℕ → ℕ × ℕ → ℕ × ℕ
+shownAt row store list s l = cond (valid row store list) (visibleAt s l (row .registry .view .leader)) l

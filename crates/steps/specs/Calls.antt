@@ -1,5 +1,5 @@
 -- Demand 3 about calls: the opening, then the call `step` on any list of records, each with the row and the lent places as the one before
--- returned or left them. Cited by the promise of `claim`. Assumes nothing.
+-- returned or left them. Cited by the promise of `steps::claim`. Assumes nothing.
 use mathlib.Core.Bool.{true}
 use mathlib.Core.List.{List, [], _∷_}
 use mathlib.Core.Logic.{_≢_}

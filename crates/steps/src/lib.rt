@@ -1,46 +1,21 @@
+// The public calls: the opening, the fifteen steps, any record, the shown list. None asks anything of its caller: refusal 1 is tested
+// first.
+
 ghost use mathlib.Core.Path.{_≡_};
-ghost use mathlib.Core.Bool.{cond, _&&_};
-ghost use lib.Dec.{eqb};
 ghost use lib.ListN.{length};
+ghost use denote.Ref.{ptr};
 ghost use Rattle.model.specs.Steps as T;
 ghost use Rattle.model.specs.Records as R;
-ghost use Rattle.memory.specs.Memory.{rowOf, Ready, Turns};
+ghost use Rattle.memory.specs.Memory.{Ready, Turns};
 ghost use Rattle.control.specs.Opening.{Opens};
 ghost use Rattle.steps.specs.Calls.{CallsSafe};
-ghost use Rattle.steps.specs.Call.{recordOf, Sends, Did, shown};
+ghost use Rattle.records.specs.Record.{recordOf};
+ghost use Rattle.steps.specs.Call.{Did, shown, shownAt};
 use cluster::Cluster;
-use cluster::Controller;
 use cluster::Outcome;
-use cluster::Registry;
-use cluster::Settled;
-use cluster::View;
+use records::Record;
 
-// A record of a sheet: its step, its board (a in step 9), b in step 9, a spare byte, the value.
-pub struct Record {
-    pub step: u8,
-    pub board: u8,
-    pub other: u8,
-    pub spare: u8,
-    pub value: u32,
-}
-
-// The board b of a record whose unused fields x, y and v are 0, else 0, which no step takes for a board.
-fn board(b: u8, x: u8, y: u8, v: u32) -> u8
-    ensures { λ r. ⌜ r ≡ cond (eqb x 0 && (eqb y 0 && eqb v 0)) b 0 ⌝ }
-{
-    if x != 0 {
-        return 0;
-    }
-    if y != 0 {
-        return 0;
-    }
-    if v != 0 {
-        return 0;
-    }
-    b
-}
-
-// The answer 1 to a record that is no step.
+// Refusal 1 of the row or of the lent lengths: the answer 1, and the row as it was.
 fn refused(row: Cluster) -> Outcome
     ensures { λ x. ⌜ (x .answer ≡ 1) × (x .row ≡ row) ⌝ }
 {
@@ -50,155 +25,8 @@ fn refused(row: Cluster) -> Outcome
     }
 }
 
-// What a record's step answers and leaves of a row: the number of receipts, one of the views and its place, the registry, the
-// controller. The rest it writes where it is lent.
-pub struct Sent {
-    pub answer: u8,
-    pub count: u16,
-    pub place: usize,
-    pub view: View,
-    pub registry: Registry,
-    pub controller: Controller,
-}
-
-// The answer a, and these as they are; v stands at place 0.
-fn kept(g: Registry, c: Controller, v: View, count: u16, a: u8) -> Sent
-    ensures { λ x. ⌜ x ≡ record { answer = a; count = count; place = 0; view = v; registry = g; controller = c } ⌝ }
-{
-    Sent {
-        answer: a,
-        count: count,
-        place: 0,
-        view: v,
-        registry: g,
-        controller: c,
-    }
-}
-
-// What a step of the registry and the controller answers and leaves, and the rest as it is.
-fn settled(v: View, count: u16, s: Settled) -> Sent
-    ensures { λ x. ⌜ x ≡ record { answer = s .answer; count = count; place = 0; view = v; registry = s .registry; controller = s .controller } ⌝ }
-{
-    let g = s.registry;
-    let c = s.controller;
-    Sent {
-        answer: s.answer,
-        count: count,
-        place: 0,
-        view: v,
-        registry: g,
-        controller: c,
-    }
-}
-
-// Sends a record to its field check and its step. Inner layer: callers see to it that refusal 1 lets the row and the lent places
-// through.
-pub fn send(
-    g: Registry,
-    c: Controller,
-    views: [View; 8],
-    count: u16,
-    joined: &mut [u16],
-    acked: &mut [u16],
-    len: &mut [u16],
-    store: &mut [u32],
-    list: &mut [u32],
-    r: Record,
-) -> Sent
-    requires { ⌜ Ready (rowOf g c views (now joined) (now acked) (now len) count) × (length (now store) ≡ 4096) × (length (now list) ≡ 512) ⌝ }
-    ensures { λ x. ⌜ Sends (R.stepOf (recordOf r)) g c views count (now (joined .entry)) (now (acked .entry)) (now (len .entry)) (now (store .entry)) (now (list .entry)) x (now (joined .exit)) (now (acked .exit)) (now (len .exit)) (now (store .exit)) (now (list .exit)) ⌝ }
-{
-    let n = r.step;
-    let b = board(r.board, r.other, r.spare, r.value);
-    let none = board(1, r.board, 0, 0);
-    let bare = board(none, r.other, r.spare, r.value);
-    let v = views[0];
-    match n {
-        0 => {
-            return kept(g, c, v, count, 1);
-        }
-        1 => {
-            let a = board(r.board, r.other, r.spare, 0);
-            let x = replicas::append(views, &mut *acked, &mut *len, &mut *store, a, r.value);
-            return kept(g, c, v, count, x);
-        }
-        2 => {
-            let x = replicas::commit(views, count, &*acked, &*len, &*store, &mut *list, b);
-            return kept(g, c, v, x.count, x.answer);
-        }
-        3 => {
-            return settled(v, count, control::add(g, c, b));
-        }
-        4 => {
-            return settled(v, count, control::remove(g, c, b));
-        }
-        5 => {
-            if bare == 0 {
-                return kept(g, c, v, count, 1);
-            }
-            return settled(v, count, control::change(g, c));
-        }
-        6 => {
-            let w = g.view;
-            let x = replicas::refresh(w, views, &mut *joined, &mut *acked, &*len, b);
-            let next = x.view;
-            return Sent {
-                answer: x.answer,
-                count: count,
-                place: x.place,
-                view: next,
-                registry: g,
-                controller: c,
-            };
-        }
-        7 => {
-            let x = replicas::join(views, &mut *joined, &mut *len, &*store, b);
-            return kept(g, c, v, count, x);
-        }
-        8 => {
-            let x = replicas::receive(views, &*joined, &mut *len, &mut *store, b);
-            return kept(g, c, v, count, x);
-        }
-        9 => {
-            let a = board(r.board, 0, r.spare, r.value);
-            let x = replicas::acknowledge(views, &*joined, &mut *acked, &*len, a, r.other);
-            return kept(g, c, v, count, x);
-        }
-        10 => {
-            if bare == 0 {
-                return kept(g, c, v, count, 1);
-            }
-            return settled(v, count, control::refresh_controller(g, c));
-        }
-        11 => {
-            if bare == 0 {
-                return kept(g, c, v, count, 1);
-            }
-            return settled(v, count, control::read_leader(g, c, views, &*len));
-        }
-        12 => {
-            return settled(v, count, control::read(g, c, &*joined, &*len, b));
-        }
-        13 => {
-            if bare == 0 {
-                return kept(g, c, v, count, 1);
-            }
-            return settled(v, count, control::set_normal(g, c));
-        }
-        14 => {
-            return settled(v, count, control::hear(g, c, views, &*joined, &*len, b));
-        }
-        15 => {
-            return settled(v, count, control::install(g, c, b));
-        }
-        16..=255 => {
-            return kept(g, c, v, count, 1);
-        }
-    }
-}
-
-// The same of a row by value.
-fn dispatch(row: Cluster, store: &mut [u32], list: &mut [u32], r: Record) -> Outcome
+// The step of a record, of a row by value. Callers see to refusal 1 of the row and of the lent lengths.
+fn turn(row: Cluster, store: &mut [u32], list: &mut [u32], r: Record) -> Outcome
     requires { ⌜ Ready row × (length (now store) ≡ 4096) × (length (now list) ≡ 512) ⌝ }
     ensures { λ x. ⌜ Turns (R.stepOf (recordOf r)) row (now (store .entry)) (now (list .entry)) x (now (store .exit)) (now (list .exit)) ⌝ }
 {
@@ -208,7 +36,7 @@ fn dispatch(row: Cluster, store: &mut [u32], list: &mut [u32], r: Record) -> Out
     let mut joined = row.joined;
     let mut acked = row.acked;
     let mut len = row.len;
-    let x = send(
+    let x = dispatch::send(
         g,
         c,
         views,
@@ -223,10 +51,11 @@ fn dispatch(row: Cluster, store: &mut [u32], list: &mut [u32], r: Record) -> Out
     let i = x.place;
     let v = x.view;
     views[i] = v;
-    let h = x.registry;
-    let d = x.controller;
+    let s = x.settled;
+    let h = s.registry;
+    let d = s.controller;
     Outcome {
-        answer: x.answer,
+        answer: s.answer,
         row: Cluster {
             registry: h,
             controller: d,
@@ -252,7 +81,7 @@ pub fn step(row: Cluster, store: &mut [u32], list: &mut [u32], r: Record) -> Out
     if !cluster::ranges::in_range(row) {
         return refused(row);
     }
-    dispatch(row, &mut *store, &mut *list, r)
+    turn(row, &mut *store, &mut *list, r)
 }
 
 // The opening with board b; it is lent nothing. Refused, it returns the row opened with board 1: the papers leave it free.
@@ -534,10 +363,10 @@ pub fn install(row: Cluster, store: &mut [u32], list: &mut [u32], b: u8) -> Outc
     )
 }
 
-// The shown list: a part of the store or of the list, not a copy (its lifetime says so); an empty part of the list where refusal 1 turns
-// the row or the lent lengths away.
+// The shown list: a part of the store or of the list, not a copy (the promise says where it begins); an empty part of the list where
+// refusal 1 turns the row or the lent lengths away.
 pub fn visible<'a>(row: Cluster, store: &'a [u32], list: &'a [u32]) -> &'a [u32]
-    ensures { λ r. ⌜ now r ≡ shown row (now (store .entry)) (now (list .entry)) ⌝ }
+    ensures { λ r. ⌜ (now r ≡ shown row (now (store .entry)) (now (list .entry))) × (ptr r ≡ shownAt row (now (store .entry)) (now (list .entry)) (ptr (store .entry)) (ptr (list .entry))) ⌝ }
 {
     if store.len() != 4096 {
         return &list[0..0];

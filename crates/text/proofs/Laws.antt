@@ -1,7 +1,7 @@
 -- What a stored text leaves as it was, texts one after the other, and how many digits a number has. Assumes nothing.
 use mathlib.Core.Bool.{Bool, true, false, cond}
 use mathlib.Core.List.{[], _∷_, _++_, append-assoc}
-use mathlib.Core.Path.{_≡_, refl, sym, ap, _∙_}
+use mathlib.Core.Path.{_≡_, refl, sym, ap, subst, _∙_}
 use Prim.Native.Nat.{ℕ, zero, suc, zero-le, _+_, _/_, _%_, _^_, _<_, _≤_}
 use native.Mathlib.Nat.{add-zero, add-suc, suc-add, not-suc-le-zero, pow-le-pow-right}
 use native.Mathlib.Omega.{arith}
@@ -78,6 +78,20 @@ byte at h = omega (arith, h)
 -- and, once the first is written, there is room for the second.
 pub rest : {d e : Text} {at p : ℕ} (xs ys : Text) → Wrote d at xs e p → at + length (xs ++ ys) ≤ length d → p + length ys ≤ length e
 rest {d = d} {e = e} {at = at} {p = p} xs ys w h = omega (arith, w .next, ap length (w .text) ∙ over-length d at xs, length-append xs ys, h)
+
+-- The three again where what is written first is two texts, such as a number and the space after it.
+pub fits-both : (at : ℕ) {n : ℕ} (xs ys zs : Text) → at + length (xs ++ (ys ++ zs)) ≤ n → at + length (xs ++ ys) ≤ n
+fits-both at {n} xs ys zs h = fits at (xs ++ ys) zs (subst (λ t. at + length t ≤ n) (sym (append-assoc xs ys zs)) h)
+
+pub rest-both : {d e : Text} {at p : ℕ} (xs ys zs : Text) → Wrote d at (xs ++ ys) e p → at + length (xs ++ (ys ++ zs)) ≤ length d → p + length zs ≤ length e
+rest-both {d = d} {at = at} xs ys zs w h = rest (xs ++ ys) zs w (subst (λ t. at + length t ≤ length d) (sym (append-assoc xs ys zs)) h)
+
+pub then-both : {d e f : Text} {at p q : ℕ} (xs ys : Text) {zs : Text} → Wrote d at (xs ++ ys) e p → Wrote e p zs f q → Wrote d at (xs ++ (ys ++ zs)) f q
+then-both {d} {e} {f} {at} {p} {q} xs ys {zs} w v = subst (λ t. Wrote d at t f q) (append-assoc xs ys zs) (then w v)
+
+-- A writer leaves the slice as long as it was.
+pub wrote-length : {d e xs : Text} {at r : ℕ} → Wrote d at xs e r → length e ≡ length d
+wrote-length {d} {e} {xs} {at} w = ap length (w .text) ∙ over-length d at xs
 
 -- Digits
 

@@ -1,11 +1,12 @@
-ghost use mathlib.Core.List.{_∷_, []};
+ghost use mathlib.Core.List.{_∷_, [], _++_};
 ghost use mathlib.Core.Path.{_≡_};
 ghost use Prim.Native.Nat.{_<_, _≤_, _+_};
 ghost use lib.ListN.{length};
 ghost use Rattle.text.specs.Text.{Wrote, digits};
 
-// Each writer stores a text in out from place at on and answers the place after it. Inner layer: callers see to the room.
+// Each writer stores a text in out from place at on and answers the place after it.
 
+// Writes one byte. Inner layer: callers see to the room.
 pub fn put_byte(out: &mut [u8], at: usize, b: u8) -> usize
     requires { ⌜ at < length (now out) ⌝ }
     ensures { λ r. ⌜ Wrote (now (out .entry)) at (b ∷ []) (now (out .exit)) r ⌝ }
@@ -14,6 +15,7 @@ pub fn put_byte(out: &mut [u8], at: usize, b: u8) -> usize
     at + 1
 }
 
+// Writes the bytes of src. Inner layer: callers see to the room.
 pub fn put_bytes(out: &mut [u8], at: usize, src: &[u8]) -> usize
     requires { ⌜ at + length (now src) ≤ length (now out) ⌝ }
     ensures { λ r. ⌜ Wrote (now (out .entry)) at (now (src .entry)) (now (out .exit)) r ⌝ }
@@ -60,7 +62,7 @@ pub fn number_length(n: u32) -> usize
     10
 }
 
-// The digits are stored from the last to the first, each from what is left of n.
+// Writes a number. The digits are stored from the last to the first, each from what is left of n. Inner layer: callers see to the room.
 pub fn put_number(out: &mut [u8], at: usize, n: u32) -> usize
     requires { ⌜ at + length (digits n) ≤ length (now out) ⌝ }
     ensures { λ r. ⌜ Wrote (now (out .entry)) at (digits n) (now (out .exit)) r ⌝ }
@@ -75,4 +77,13 @@ pub fn put_number(out: &mut [u8], at: usize, n: u32) -> usize
     }
     out[at] = 48 + left as u8;
     end
+}
+
+// Writes a number and a space after it. Inner layer: callers see to the room.
+pub fn put_field(out: &mut [u8], at: usize, n: u32) -> usize
+    requires { ⌜ at + length (digits n ++ (32 ∷ [])) ≤ length (now out) ⌝ }
+    ensures { λ r. ⌜ Wrote (now (out .entry)) at (digits n ++ (32 ∷ [])) (now (out .exit)) r ⌝ }
+{
+    let p = put_number(&mut *out, at, n);
+    put_byte(&mut *out, p, 32)
 }

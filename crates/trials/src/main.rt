@@ -1,7 +1,7 @@
 // The trials of document 01 on the calls: after each trial's name, the answers in order. P1 is about majorities, which have
 // no call of their own: `model` proves it.
 use cluster::Cluster;
-use steps::Record;
+use records::Record;
 
 // The answer n and a space.
 fn show(n: u8) {
@@ -39,7 +39,7 @@ fn tell(row: Cluster, store: &mut [u32], list: &mut [u32], r: [u8; 4]) -> Cluste
     x.row
 }
 
-// The records of a sheet, four bytes each.
+// Records in short, four bytes each: step, board, second board, value.
 fn play(row: Cluster, store: &mut [u32], list: &mut [u32], sheet: &[u8]) -> Cluster {
     let mut now = row;
     let mut i: usize = 0;
@@ -80,6 +80,7 @@ fn opened(b: u8) -> Cluster {
     x.row
 }
 
+// Shows the registry's epoch, which is below 256 here.
 fn epoch(row: Cluster) {
     let g = row.registry;
     let v = g.view;
@@ -87,6 +88,7 @@ fn epoch(row: Cluster) {
     show((v.epoch % 256) as u8);
 }
 
+// Shows the registry's leader.
 fn leader(row: Cluster) {
     let g = row.registry;
     let v = g.view;
@@ -94,39 +96,46 @@ fn leader(row: Cluster) {
     show(v.leader);
 }
 
+// Shows the length of board 4's log.
 fn length(row: Cluster) {
     io::write_all(1, b"length ");
     show((row.len[3] % 256) as u8);
 }
 
+// Shows the opening call's answer.
 fn answer(b: u8) {
     let x = steps::opening(b);
     show(x.answer);
 }
 
-fn main() {
+// A trial by itself: its name, and its records after an opening with board 1.
+fn trial(name: &[u8], sheet: &[u8]) {
     let mut store = [7u32; 4096];
     let mut list = [7u32; 512];
+    io::write_all(1, name);
+    play(opened(1), &mut store, &mut list, sheet);
+}
+
+fn main() {
     io::write_all(1, b"P2 ");
     answer(0);
     answer(9);
     answer(8);
-    io::write_all(1, b"\nP3 ");
     let p3 = [2u8, 1, 0, 0, 1, 1, 0, 41, 2, 1, 0, 0];
-    play(opened(1), &mut store, &mut list, &p3);
-    io::write_all(1, b"\nP4 ");
+    trial(b"\nP3 ", &p3);
     let p4 = [1u8, 2, 0, 41];
-    play(opened(1), &mut store, &mut list, &p4);
-    io::write_all(1, b"\nP5 ");
+    trial(b"\nP4 ", &p4);
     let p5 = [5u8, 0, 0, 0, 4, 1, 0, 0, 4, 2, 0, 0];
-    play(opened(1), &mut store, &mut list, &p5);
-    io::write_all(1, b"\nP6 ");
+    trial(b"\nP5 ", &p5);
     let p6 = [3u8, 2, 0, 0, 3, 2, 0, 0];
-    play(opened(1), &mut store, &mut list, &p6);
+    trial(b"\nP6 ", &p6);
     longer();
+    full();
+    worn();
+    four();
 }
 
-// The trials that go on from each other, and the long ones.
+// The trials that go on from each other.
 fn longer() {
     let mut store = [7u32; 4096];
     let mut list = [7u32; 512];
@@ -171,10 +180,10 @@ fn longer() {
     let c = play(b, &mut store, &mut list, &p9);
     leader(c);
     epoch(c);
-    longest();
 }
 
-fn longest() {
+// A log that gets full.
+fn full() {
     let mut store = [7u32; 4096];
     let mut list = [7u32; 512];
     io::write_all(1, b"\nfull ");
@@ -188,6 +197,12 @@ fn longest() {
     let a = turns(opened(1), &mut store, &mut list, append, append, 255);
     let last = [1u8, 1, 0, 9, 1, 1, 0, 9, 1, 1, 0, 9];
     play(a, &mut store, &mut list, &last);
+}
+
+// Epochs that are used up.
+fn worn() {
+    let mut store = [7u32; 4096];
+    let mut list = [7u32; 512];
     io::write_all(1, b"\nworn ");
     let add = Record {
         step: 3,
@@ -206,9 +221,9 @@ fn longest() {
     let b = turns(opened(1), &mut store, &mut list, add, remove, 1999);
     let end = [3u8, 2, 0, 0, 4, 2, 0, 0];
     play(b, &mut store, &mut list, &end);
-    four();
 }
 
+// The last case: four boards.
 fn four() {
     let mut store = [7u32; 4096];
     let mut list = [7u32; 512];

@@ -1,3 +1,4 @@
+-- `cluster::raised` meets its contract. Assumes nothing.
 use native.Mathlib.Numerals.{add-one}
 use borrow.Author.Tests.{lt-ltb, le-ltb}
 use borrow.Author.Needs.{needs}
@@ -6,15 +7,12 @@ use Rattle.cluster.proofs.raised.Tie as tie
 use Rattle.cluster.proofs.raised.Reads as reads
 use Rattle.cluster.proofs.raised.Lts as lts
 
--- src/lib.rt:95:9
 add-result : tie.Need-add-result
 add-result c = search needs
 
--- src/lib.rt:91:1
 returns : tie.Need-returns
 returns c = rw (lt-ltb _ _ (c .if1 .taken)) (add-one _)
 
--- src/lib.rt:91:1
 returns-2 : tie.Need-returns-2
 returns-2 c = rw (le-ltb _ _ (c .if1 .left))
 

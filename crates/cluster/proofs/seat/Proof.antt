@@ -1,3 +1,4 @@
+-- `cluster::seat` meets its contract. Assumes nothing.
 use native.Mathlib.Omega.{arith}
 use Rattle.members.proofs.Laws.{replica-range}
 use borrow.Author.Needs.{needs}
@@ -6,15 +7,12 @@ use Rattle.cluster.proofs.seat.Tie as tie
 use Rattle.cluster.proofs.seat.Reads as reads
 use Rattle.cluster.proofs.seat.Lts as lts
 
--- src/lib.rt:76:6
 add-result : tie.Need-add-result
 add-result c = search needs
 
--- src/lib.rt:76:5
 add-result-2 : tie.Need-add-result-2
 add-result-2 c = search needs
 
--- src/lib.rt:73:1
 returns : tie.Need-returns
 returns c = (search needs, search needs, λ e. omega (arith, replica-range (c .args .b) e))
 

@@ -1,7 +1,7 @@
 -- `control::add` meets its contract. Assumes nothing.
 use mathlib.Core.Path.{refl}
 use Rattle.model.specs.Steps.{add}
-use Rattle.control.proofs.Centre.{rules-govern}
+use Rattle.control.proofs.Governing.{rules-govern}
 use borrow.Author.Needs.{needs}
 use Rattle.control.proofs.add.Statement.{statement}
 use Rattle.control.proofs.add.Tie as tie

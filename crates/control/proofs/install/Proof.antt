@@ -1,7 +1,7 @@
 -- `control::install` meets its contract. Assumes nothing.
 use mathlib.Core.Path.{refl}
 use Rattle.model.specs.Steps.{install}
-use Rattle.control.proofs.Centre.{settles-govern}
+use Rattle.control.proofs.Governing.{settles-govern}
 use borrow.Author.Needs.{needs}
 use Rattle.control.proofs.install.Statement.{statement}
 use Rattle.control.proofs.install.Tie as tie

@@ -1,3 +1,4 @@
+-- `control::opened` meets its contract. Assumes nothing.
 use Rattle.control.proofs.Start.{opened-with}
 use borrow.Author.Needs.{needs}
 use Rattle.control.proofs.opened.Statement.{statement}
@@ -6,11 +7,9 @@ use Rattle.control.proofs.opened.Reads as reads
 use Rattle.control.proofs.opened.Lts as lts
 use Rattle.members.proofs.single.Reads as single-reads
 
--- src/lib.rt:25:9
 single-requires : tie.Need-single-requires
 single-requires c κs = search needs
 
--- src/lib.rt:21:1
 returns : tie.Need-returns
 returns c = opened-with (c .before .args .b) _ (c .single .ensures)
 

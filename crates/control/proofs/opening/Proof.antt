@@ -1,3 +1,4 @@
+-- `control::opening` meets its contract. Assumes nothing.
 use mathlib.Core.Bool.{cond}
 use mathlib.Core.Path.{ap, _∙_}
 use Rattle.control.proofs.Start.{chosen, opens}
@@ -10,25 +11,20 @@ use Rattle.cluster.proofs.check.Reads as check-reads
 use Rattle.cluster.proofs.replica.Reads as replica-reads
 use Rattle.control.proofs.opened.Reads as opened-reads
 
--- src/lib.rt:57:9
 replica-requires : tie.Need-replica-requires
 replica-requires c κs = search needs
 
--- src/lib.rt:58:9
 check-requires : tie.Need-check-requires
 check-requires c κs = search needs
 
--- src/lib.rt:59:9
 check-requires-2 : tie.Need-check-requires-2
 check-requires-2 c κs = search needs
 
--- src/lib.rt:60:9
 opened-requires : tie.Need-opened-requires
 opened-requires c κs =
     let b = c .before .before .before .args .b in
     chosen b _ (c .before .check .ensures ∙ ap (λ t. cond t b 1) (c .before .before .replica .ensures))
 
--- src/lib.rt:54:1
 returns : tie.Need-returns
 returns c =
     let b = c .before .before .before .before .args .b in

@@ -2,7 +2,8 @@
 use mathlib.Core.Path.{refl}
 use denote.Ref.{now}
 use Rattle.model.specs.Steps.{readLeader}
-use Rattle.control.proofs.Centre.{tells-govern, short-log, seated}
+use Rattle.memory.proofs.Turning.{short-at}
+use Rattle.control.proofs.Governing.{tells-govern, seated}
 use borrow.Author.Needs.{needs}
 use Rattle.control.proofs.read_leader.Statement.{statement}
 use Rattle.control.proofs.read_leader.Tie as tie
@@ -29,7 +30,7 @@ shared-slice-read-n : tie.Need-shared-slice-read-n
 shared-slice-read-n c = search needs
 
 read-leader-requires : tie.Need-read-leader-requires
-read-leader-requires c κs = short-log (now (c .before .before .before .before .before .args .len)) (c .before .before .before .before .before .pre .1) _ (c .before .before .seat .ensures .0)
+read-leader-requires c κs = short-at (now (c .before .before .before .before .before .args .len)) _ (c .before .before .before .before .before .pre .1 .most) (c .before .before .seat .ensures .0)
 
 returns : tie.Need-returns
 returns c =

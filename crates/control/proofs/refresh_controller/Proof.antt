@@ -1,7 +1,7 @@
 -- `control::refresh_controller` meets its contract. Assumes nothing.
 use mathlib.Core.Path.{refl}
 use Rattle.model.specs.Steps.{refreshController}
-use Rattle.control.proofs.Centre.{tells-govern}
+use Rattle.control.proofs.Governing.{tells-govern}
 use borrow.Author.Needs.{needs}
 use Rattle.control.proofs.refresh_controller.Statement.{statement}
 use Rattle.control.proofs.refresh_controller.Tie as tie

@@ -1,7 +1,7 @@
 -- `control::set_normal` meets its contract. Assumes nothing.
 use mathlib.Core.Path.{refl}
 use Rattle.model.specs.Steps.{setNormal}
-use Rattle.control.proofs.Centre.{settles-govern}
+use Rattle.control.proofs.Governing.{settles-govern}
 use borrow.Author.Needs.{needs}
 use Rattle.control.proofs.set_normal.Statement.{statement}
 use Rattle.control.proofs.set_normal.Tie as tie

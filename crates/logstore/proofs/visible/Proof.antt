@@ -1,5 +1,5 @@
 -- `logstore::visible` meets its contract: a part has as many places as its bounds say. Assumes nothing.
-use mathlib.Core.Path.{_≡_}
+use mathlib.Core.Path.{_≡_, ap}
 use Prim.Native.Nat.{_+_, _-_, _*_}
 use native.Mathlib.Omega.{arith}
 use borrow.Author.Tests.{eq-eqb, ne-eqb}
@@ -20,7 +20,9 @@ returns : tie.Need-returns
 returns c =
     let a = c .before .before .args in
     let e : a .count - 0 ≡ a .count = omega arith in
-    rw (e, eq-eqb _ _ (c .before .if1 .taken))
+    let p = a .committed .ptr in
+    let o : 0 * 4 + p .1 ≡ p .1 = omega arith in
+    (rw (e, eq-eqb _ _ (c .before .if1 .taken)), rw (eq-eqb _ _ (c .before .if1 .taken)) (ap (λ i. (p .0, i)) o))
 
 sub-start : tie.Need-sub-start
 sub-start c = search needs
@@ -51,7 +53,9 @@ returns-2 c =
     let a = c .before .before .args in
     let from = 512 * (a .leader - 1) in
     let e : from + a .len - from ≡ a .len = omega arith in
-    rw (e, ne-eqb _ _ (c .before .if1 .left))
+    let p = a .store .ptr in
+    let o : from * 4 + p .1 ≡ p .1 + 4 * (from + 0) = omega arith in
+    (rw (e, ne-eqb _ _ (c .before .if1 .left)), rw (ne-eqb _ _ (c .before .if1 .left)) (ap (λ i. (p .0, i)) o))
 
 pub visible-spec : {M : Type 1} → statement M
 visible-spec =

@@ -1,3 +1,4 @@
+-- `model::claim` meets its contract. Assumes nothing.
 use Rattle.model.proofs.claim.Statement.{statement}
 use Rattle.model.proofs.claim.Tie as tie
 use Rattle.model.specs.State.{values}

@@ -1,3 +1,4 @@
+-- `model::ranges` meets its contract. Assumes nothing.
 use Rattle.model.proofs.ranges.Statement.{statement}
 use Rattle.model.proofs.ranges.Tie as tie
 use Rattle.model.specs.State.{values}

@@ -1,3 +1,4 @@
+-- `model::trials` meets its contract. Assumes nothing.
 use Rattle.model.proofs.trials.Statement.{statement}
 use Rattle.model.proofs.trials.Tie as tie
 use Rattle.model.specs.Trials.{TrialsHold, OthersHold, holds, allHold}

@@ -1,4 +1,4 @@
--- `main` lends only what it may: a result that is no refusal is a length within the slice. Assumes nothing.
+-- `runsheet::main` lends only what it may: a result that is no refusal is a length within the slice. Assumes nothing.
 use mathlib.Core.Path.{sym}
 use native.Mathlib.Omega.{arith}
 use lib.Seq.{length-take-le}

@@ -1,12 +1,12 @@
--- `run_sheet` meets its contract: the sheet is run, and what is delivered is its listing. Assumes nothing.
-use mathlib.Core.Path.{_≡_, refl, sym, ap, _∙_}
+-- `sheet::run_sheet` meets its contract: the sheet is run, and what is delivered is its listing. Assumes nothing.
+use mathlib.Core.Path.{refl, sym, _∙_}
 use native.Mathlib.Omega.{arith}
-use lib.ListN.{length, length-take}
+use lib.ListN.{length-take}
 use lib.Seq.{length-take-le}
 use denote.Ref.{now}
 use borrow.Author.Tests.{not-true, not-false}
+use Rattle.text.proofs.Laws.{wrote-length}
 use Rattle.sheet.proofs.Playing.{sheet-most, ran-fits, ran-count}
-use Rattle.sheet.proofs.Endings.{wrote-length}
 use Rattle.sheet.proofs.Listings.{read-back, no-sheet, delivered}
 use borrow.Author.Needs.{needs}
 use Rattle.sheet.proofs.run_sheet.Statement.{statement}

@@ -1,3 +1,4 @@
+-- `steps::claim` meets its contract. Assumes nothing.
 use Rattle.steps.proofs.claim.Statement.{statement}
 use Rattle.steps.proofs.claim.Tie as tie
 use Rattle.steps.proofs.Following.{calls-safe}

@@ -1,8 +1,11 @@
-use mathlib.Core.Path.{sym, _∙_}
+-- `steps::visible` meets its contract. Assumes nothing.
+use mathlib.Core.Path.{_≡_, sym, ap, _∙_}
+use Prim.Native.Nat.{ℕ, _+_, _*_}
+use native.Mathlib.Omega.{arith}
 use lib.ListN.{length-map}
 use denote.Ref.{now}
 use borrow.Author.Tests.{not-true, not-false}
-use Rattle.replicas.proofs.Afters.{short-at}
+use Rattle.memory.proofs.Turning.{short-at}
 use Rattle.steps.proofs.Calling.{ready, short-store, short-list, all-tests, shown-is, leader-small}
 use borrow.Author.Needs.{needs}
 use Rattle.steps.proofs.visible.Statement.{statement}
@@ -13,85 +16,73 @@ use Rattle.cluster.proofs.ranges.in_range.Reads as in-range-reads
 use Rattle.cluster.proofs.seat.Reads as seat-reads
 use Rattle.logstore.proofs.visible.Reads as visible-reads
 
--- src/lib.rt:259:16
+-- An empty part at a slice's start begins there.
+from-start : (p : ℕ × ℕ) → _≡_ {A = ℕ × ℕ} (p .0, 0 * 4 + p .1) p
+from-start p = let o : 0 * 4 + p .1 ≡ p .1 = omega arith in ap (λ i. (p .0, i)) o
+
 sub-result : tie.Need-sub-result
 sub-result c = search needs
 
--- src/lib.rt:259:16
 part-result-start : tie.Need-part-result-start
 part-result-start c = search needs
 
--- src/lib.rt:259:16
 part-result-end : tie.Need-part-result-end
 part-result-end c = search needs
 
--- src/lib.rt:259:9
 returns : tie.Need-returns
 returns c =
     let a = c .before .before .before .before .args in
-    rw (short-store (a .t1) (now (a .store)) (now (a .list)) (c .before .if1 .taken))
+    let e = short-store (a .t1) (now (a .store)) (now (a .list)) (c .before .if1 .taken) in
+    (rw e, rw e (from-start (a .list .ptr)))
 
--- src/lib.rt:262:16
 sub-result-2 : tie.Need-sub-result-2
 sub-result-2 c = search needs
 
--- src/lib.rt:262:16
 part-result-start-2 : tie.Need-part-result-start-2
 part-result-start-2 c = search needs
 
--- src/lib.rt:262:16
 part-result-end-2 : tie.Need-part-result-end-2
 part-result-end-2 c = search needs
 
--- src/lib.rt:262:9
 returns-2 : tie.Need-returns-2
 returns-2 c =
     let a = c .before .before .before .before .before .args in
-    rw (short-list (a .t1) (now (a .store)) (now (a .list)) (c .before .before .if1 .left) (c .before .if2 .taken))
+    let e = short-list (a .t1) (now (a .store)) (now (a .list)) (c .before .before .if1 .left) (c .before .if2 .taken) in
+    (rw e, rw e (from-start (a .list .ptr)))
 
--- src/lib.rt:264:9
 in-range-requires : tie.Need-in-range-requires
 in-range-requires c κs = search needs
 
--- src/lib.rt:265:16
 sub-result-3 : tie.Need-sub-result-3
 sub-result-3 c = search needs
 
--- src/lib.rt:265:16
 part-result-start-3 : tie.Need-part-result-start-3
 part-result-start-3 c = search needs
 
--- src/lib.rt:265:16
 part-result-end-3 : tie.Need-part-result-end-3
 part-result-end-3 c = search needs
 
--- src/lib.rt:265:9
 returns-3 : tie.Need-returns-3
 returns-3 c =
     let a = c .before .before .before .before .before .before .before .args in
-    rw (all-tests (a .t1) (now (a .store)) (now (a .list)) (c .before .before .before .before .if1 .left) (c .before .before .before .if2 .left) (sym (c .before .before .in-range .ensures) ∙ not-true _ (c .before .if3 .taken)))
+    let e = all-tests (a .t1) (now (a .store)) (now (a .list)) (c .before .before .before .before .if1 .left) (c .before .before .before .if2 .left) (sym (c .before .before .in-range .ensures) ∙ not-true _ (c .before .if3 .taken)) in
+    (rw e, rw e (from-start (a .list .ptr)))
 
--- src/lib.rt:269:9
 seat-requires : tie.Need-seat-requires
 seat-requires c κs = search needs
 
--- src/lib.rt:270:14
 sub-i : tie.Need-sub-i
 sub-i c = search needs
 
--- src/lib.rt:270:13
 cast-i : tie.Need-cast-i
 cast-i c = search needs
 
--- src/lib.rt:271:13
 mul-n : tie.Need-mul-n
 mul-n c = search needs
 
--- src/lib.rt:271:13
 element-copy-out-n : tie.Need-element-copy-out-n
 element-copy-out-n c = search needs
 
--- src/lib.rt:272:5
 visible-requires : tie.Need-visible-requires
 visible-requires c κs =
     let a = c .before .before .before .before .before .before .before .before .before .before .args in
@@ -104,12 +95,12 @@ visible-requires c κs =
     }) t in
     (c .before .before .before .before .before .before .before .if1 .left, c .before .before .before .before .before .before .if2 .left, leader-small (a .t1) t, short-at (a .t1 .len) (c .before .seat .result) (r .len) (c .before .seat .ensures .0), r .count)
 
--- src/lib.rt:255:1
 returns-4 : tie.Need-returns-4
 returns-4 c =
     let a = c .before .before .before .before .before .before .before .before .before .before .before .args in
     let t = sym (c .before .before .before .before .before .before .in-range .ensures) ∙ not-false _ (c .before .before .before .before .before .if3 .left) in
-    c .visible .ensures ∙ shown-is (a .t1) (now (a .store)) (now (a .list)) (c .before .before .seat .result) (all-tests (a .t1) (now (a .store)) (now (a .list)) (c .before .before .before .before .before .before .before .before .if1 .left) (c .before .before .before .before .before .before .before .if2 .left) t) (leader-small (a .t1) t) (c .before .before .seat .ensures .2)
+    let e = all-tests (a .t1) (now (a .store)) (now (a .list)) (c .before .before .before .before .before .before .before .before .if1 .left) (c .before .before .before .before .before .before .before .if2 .left) t in
+    (c .visible .ensures .0 ∙ shown-is (a .t1) (now (a .store)) (now (a .list)) (c .before .before .seat .result) e (leader-small (a .t1) t) (c .before .before .seat .ensures .2), rw e (c .visible .ensures .1))
 
 pub visible-spec : {M : Type 1} → statement M
 visible-spec =

@@ -1,7 +1,7 @@
--- `running::begin` meets its contract. Assumes nothing.
+-- `sheet::running::begin` meets its contract. Assumes nothing.
 use mathlib.Core.Path.{ap}
 use denote.Ref.{now}
-use Rattle.sheet.proofs.Records.{room}
+use Rattle.records.proofs.Decoding.{room}
 use Rattle.sheet.proofs.Playing.{sheet-whole, begun}
 use borrow.Author.Needs.{needs}
 use Rattle.sheet.proofs.running.begin.Statement.{statement}

@@ -1,4 +1,4 @@
--- `running::play` meets its contract. Assumes nothing.
+-- `sheet::running::play` meets its contract. Assumes nothing.
 use mathlib.Core.Path.{sym, _∙_}
 use lib.ListN.{length-map, length-set}
 use denote.Ref.{now}

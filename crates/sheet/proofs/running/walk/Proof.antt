@@ -1,4 +1,4 @@
--- `running::walk` meets its contract. The loop's invariant: the sheet was run up to k. Assumes nothing.
+-- `sheet::running::walk` meets its contract. The loop's invariant: the sheet was run up to k. Assumes nothing.
 use mathlib.Core.Path.{_≡_, subst, _∙_}
 use Prim.Native.Nat.{_+_, _-_, _/_, _≤_, _<_}
 use native.Mathlib.Omega.{arith}
@@ -7,7 +7,7 @@ use denote.Ref.{now}
 use borrow.Author.Needs.{needs}
 use Rattle.memory.specs.Memory.{rowOf, Shape}
 use Rattle.sheet.specs.Running.{Ran}
-use Rattle.sheet.proofs.Records.{room}
+use Rattle.records.proofs.Decoding.{room}
 use Rattle.sheet.proofs.Playing.{sheet-whole, sheet-most, ran-ready, ran-more}
 use Rattle.sheet.proofs.running.walk.Statement.{statement}
 use Rattle.sheet.proofs.running.walk.Tie as tie
@@ -45,33 +45,33 @@ send-requires c κs =
     (ran-ready (now (c .before .before .before .before .before .before .before .before .before .before .before .before .before .before .before .before .before .before .args .sheet)) (c .before .before .before .before .before .before .before .before .before .before .before .before .before .before .before .before .before .before .pre .0) (l .k) _ (l .store) (l .list) (l .answers) h (l .inv .1), h .full, h .long)
 
 add-answers : tie.Need-add-answers Inv-loop μ-loop
-add-answers c = omega (arith, small (c .before .before .before .before .before .before .before .before .before .before .before .before .before .before .before .before .before))
+add-answers c = omega (arith, small (c .before .before .before .before .before .before .before .before .before .before .before .before .before .before .before .before .before .before))
 
 slice-write-answers : tie.Need-slice-write-answers Inv-loop μ-loop
-slice-write-answers c = omega (arith, small (c .before .before .before .before .before .before .before .before .before .before .before .before .before .before .before .before .before), c .before .before .before .before .before .before .before .before .before .before .before .before .before .before .before .before .before .before .loop .inv .2 .room)
+slice-write-answers c = omega (arith, small (c .before .before .before .before .before .before .before .before .before .before .before .before .before .before .before .before .before .before), c .before .before .before .before .before .before .before .before .before .before .before .before .before .before .before .before .before .before .before .loop .inv .2 .room)
 
 mul-views : tie.Need-mul-views Inv-loop μ-loop
 mul-views c = search needs
 
 array-set-from-views : tie.Need-array-set-from-views Inv-loop μ-loop
-array-set-from-views c = omega (arith, c .before .before .before .before .before .before .before .before .before .before .before .send .ensures .place, c .before .before .before .before .before .before .before .before .before .before .before .before .before .before .before .before .before .before .before .loop .inv .1 .views)
+array-set-from-views c = omega (arith, c .before .before .before .before .before .before .before .before .before .before .before .before .send .ensures .place, c .before .before .before .before .before .before .before .before .before .before .before .before .before .before .before .before .before .before .before .before .loop .inv .1 .views)
 
 add-k : tie.Need-add-k Inv-loop μ-loop
-add-k c = omega (arith, small (c .before .before .before .before .before .before .before .before .before .before .before .before .before .before .before .before .before .before .before .before))
+add-k c = omega (arith, small (c .before .before .before .before .before .before .before .before .before .before .before .before .before .before .before .before .before .before .before .before .before))
 
 loop-less : tie.Need-loop-less Inv-loop μ-loop
 loop-less c = omega arith
 
 loop-again : tie.Need-loop-again Inv-loop μ-loop
 loop-again c =
-    let l = c .before .before .before .before .before .before .before .before .before .before .before .before .before .before .before .before .before .before .before .before .before .loop in
-    let e = c .before .before .before .before .before .before .before .before .before .before .before .before .before .before .before .before .before .before .before .before .before .before .before .before .before .before .before .before .before .before .before .before in
+    let l = c .before .before .before .before .before .before .before .before .before .before .before .before .before .before .before .before .before .before .before .before .before .before .loop in
+    let e = c .before .before .before .before .before .before .before .before .before .before .before .before .before .before .before .before .before .before .before .before .before .before .before .before .before .before .before .before .before .before .before .before .before in
     let h = l .inv .2 in
-    let same = c .before .before .before .before .before .before .before .before .before .before .before .before .before .send .kept .1 .1 .1 .1 in (
-      omega (arith, c .before .before .before .before .before .before .before .before .before .before .before .before .before .before .before .before .before .before .before .before .loop-test .taken),
+    let same = c .before .before .before .before .before .before .before .before .before .before .before .before .before .before .send .kept .1 .1 .1 .1 in (
+      omega (arith, c .before .before .before .before .before .before .before .before .before .before .before .before .before .before .before .before .before .before .before .before .before .loop-test .taken),
       record { views = length-set (l .views) _ _ ∙ l .inv .1 .views; joined = same .0 ∙ l .inv .1 .joined; acked = same .1 .0 ∙ l .inv .1 .acked; len = same .1 .1 .0 ∙ l .inv .1 .len },
       ran-more (now (e .args .sheet)) (e .pre .0) (l .k) (rowOf (l .g) (l .c) (l .views) (l .joined) (l .acked) (l .len) (l .count)) (l .store) (l .list) (l .answers) h _
-          (c .before .before .before .before .before .before .before .before .before .before .before .before .before .before .before .before .before .before .before .decode .ensures) (c .before .before .before .before .before .before .before .before .before .before .before .before .before .send .ensures .leaves) (omega (arith, small (c .before .before .before .before .before .before .before .before .before .before .before .before .before .before .before .before .before .before .before .before), h .room)),
+          (c .before .before .before .before .before .before .before .before .before .before .before .before .before .before .before .before .before .before .before .before .decode .ensures) (c .before .before .before .before .before .before .before .before .before .before .before .before .before .before .send .ensures .leaves) (omega (arith, small (c .before .before .before .before .before .before .before .before .before .before .before .before .before .before .before .before .before .before .before .before .before), h .room)),
     )
 
 same-length : tie.Need-same-length Inv-loop μ-loop

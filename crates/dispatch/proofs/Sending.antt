@@ -1,0 +1,136 @@
+-- From the call of a step to the record that stands for it: unused fields and numbers that are no step. Assumes nothing.
+use mathlib.Core.Bool.{Bool, true, false, cond, _&&_, false≢true}
+use mathlib.Core.List.{List, [], _∷_}
+use mathlib.Core.Logic.{_≢_}
+use mathlib.Core.Path.{_≡_, refl, sym, subst, ap, _∙_}
+use Prim.Native.Nat.{ℕ}
+use native.Mathlib.Nat.{zero-add}
+use native.Mathlib.Omega.{arith}
+use lib.Dec.{eqb}
+use lib.ListN.{length, getD, set}
+use Rattle.model.specs.State.{Outline, outline, values}
+use Rattle.model.specs.Steps.{Step, malformed, accepted, answerOf, next}
+use Rattle.model.specs.Records.{Record, unused, rules}
+use Rattle.model.proofs.Theorem.{nth}
+use Rattle.cluster.specs.declared.View.{View}
+use Rattle.cluster.specs.declared.Registry.{Registry}
+use Rattle.cluster.specs.declared.Controller.{Controller}
+use Rattle.cluster.specs.declared.Cluster.{Cluster}
+use Rattle.cluster.specs.declared.Outcome.{Outcome}
+use Rattle.cluster.specs.declared.Settled.{Settled}
+use Rattle.cluster.specs.Layout.{noView, outlineOf}
+use Rattle.memory.specs.Memory.{abs, rowOf, Ready, storeAfter, listAfter, Turns, Leaves}
+use Rattle.memory.proofs.Turning.{turns-refused, set-idle}
+use Rattle.dispatch.specs.declared.Sent.{Sent}
+use Rattle.dispatch.specs.Send.{Sends}
+
+-- The answer 1 to what is no step.
+pub malformed-leaves : (row : Cluster) → Ready row → (store list : List ℕ) → length store ≡ 4096 → length list ≡ 512 → Leaves malformed row store list 1 row store list
+malformed-leaves row p store list full long = turns-refused row (p .shape .len) (p .len) (p .count) store list full long malformed 1 refl (λ e. omega arith)
+
+-- A step that leaves the views.
+pub sends-kept : {st : Step} {g : Registry} {c : Controller} {views : List View} {count count′ : ℕ} {joined acked len store list joined′ acked′ len′ store′ list′ : List ℕ} {s : Settled}
+    → Leaves st (rowOf g c views joined acked len count) store list (s .answer) (rowOf (s .registry) (s .controller) views joined′ acked′ len′ count′) store′ list′
+    → Sends st g c views count joined acked len store list (record { count = count′; place = 0; view = getD views 0 noView; settled = s }) joined′ acked′ len′ store′ list′
+sends-kept {st} {g} {c} {views} {count} {count′} {joined} {acked} {len} {store} {list} {joined′} {acked′} {len′} {store′} {list′} {s} h = record {
+  place = omega arith;
+  leaves = subst (λ vs. Leaves st (rowOf g c views joined acked len count) store list (s .answer) (rowOf (s .registry) (s .controller) vs joined′ acked′ len′ count′) store′ list′) (sym (set-idle noView views 0)) h;
+}
+
+module _ (row : Cluster) (store list : List ℕ) (x : Outcome) (store′ list′ : List ℕ) where
+  abbrev P : Step → Type 0
+  P st = Turns st row store list x store′ list′
+
+  -- A step that every row answers 1 is as good as none.
+  as-malformed : (st : Step) → ((m : Outline) → answerOf m st ≡ 1) → ((m : Outline) → accepted m st ≡ false) → P st → P malformed
+  as-malformed st one never k = record {
+    answer = k .answer ∙ one (outlineOf row);
+    state = k .state ∙ ap (λ t. cond t (next values (abs row store list) st) (abs row store list)) (never (outline (abs row store list)));
+    eight = k .eight;
+    len = k .len;
+    count = k .count;
+    stored = k .stored ∙ ap (λ t. cond t (storeAfter st row store) store) (never (outlineOf row));
+    listed = k .listed ∙ ap (λ t. cond t (listAfter st row store list) list) (never (outlineOf row));
+    refused = k .refused;
+  }
+
+  -- A record with a board and the unused fields o, s and v: its step at the board, or what is no step, which board 0 answers alike.
+  pub by-board : (f : ℕ → Step) (b o s v n : ℕ) → n ≡ cond (eqb o 0 && (eqb s 0 && eqb v 0)) b 0
+      → ((m : Outline) → answerOf m (f 0) ≡ 1) → ((m : Outline) → accepted m (f 0) ≡ false) → P (f n) → P (unused (o ∷ s ∷ v ∷ []) (f b))
+  by-board f b o s v n e one never h = go (eqb o 0) (eqb s 0) (eqb v 0) (subst (λ m. P (f m)) e h)
+    where
+      go : (p q r : Bool) → P (f (cond (p && (q && r)) b 0)) → P (cond p (cond q (cond r (f b) malformed) malformed) malformed)
+      go true true true k = k
+      go true true false k = as-malformed (f 0) one never k
+      go true false r k = as-malformed (f 0) one never k
+      go false q r k = as-malformed (f 0) one never k
+
+  -- A record that uses no field: whether all are 0.
+  module _ (st : Step) (b o s v : ℕ) {t : Bool} (e : t ≡ (eqb b 0 && (eqb o 0 && (eqb s 0 && eqb v 0)))) where
+    pub alone-taken : t ≡ true → P st → P (unused (b ∷ o ∷ s ∷ v ∷ []) st)
+    alone-taken h k = go (eqb b 0) (eqb o 0) (eqb s 0) (eqb v 0) (sym e ∙ h)
+      where
+        go : (p q r u : Bool) → (p && (q && (r && u))) ≡ true → P (cond p (cond q (cond r (cond u st malformed) malformed) malformed) malformed)
+        go true true true true _ = k
+        go true true true false z = absurd (false≢true z)
+        go true true false u z = absurd (false≢true z)
+        go true false r u z = absurd (false≢true z)
+        go false q r u z = absurd (false≢true z)
+
+    pub alone-refused : t ≡ false → P malformed → P (unused (b ∷ o ∷ s ∷ v ∷ []) st)
+    alone-refused h k = go (eqb b 0) (eqb o 0) (eqb s 0) (eqb v 0) (sym e ∙ h)
+      where
+        go : (p q r u : Bool) → (p && (q && (r && u))) ≡ false → P (cond p (cond q (cond r (cond u st malformed) malformed) malformed) malformed)
+        go true true true true z = absurd (false≢true (sym z))
+        go true true true false _ = k
+        go true true false u _ = k
+        go true false r u _ = k
+        go false q r u _ = k
+
+-- A number that is none of the steps.
+abbrev pub Other : ℕ → Type 0
+Other n = (((((((((((((((Unit {0} × (n ≡ 0 → ⊥)) × (n ≡ 1 → ⊥)) × (n ≡ 2 → ⊥)) × (n ≡ 3 → ⊥)) × (n ≡ 4 → ⊥)) × (n ≡ 5 → ⊥)) × (n ≡ 6 → ⊥)) × (n ≡ 7 → ⊥))
+    × (n ≡ 8 → ⊥)) × (n ≡ 9 → ⊥)) × (n ≡ 10 → ⊥)) × (n ≡ 11 → ⊥)) × (n ≡ 12 → ⊥)) × (n ≡ 13 → ⊥)) × (n ≡ 14 → ⊥)) × (n ≡ 15 → ⊥)
+
+pub no-step : (r : Record) (n : ℕ) → Other n → getD (rules r) n malformed ≡ malformed
+no-step r n h = nth (λ m st. Other m → st ≡ malformed) malformed (λ _ _. refl) (rules r) 0 n (
+  (λ _. refl),
+  (
+    (λ o. absurd (o .0 .0 .0 .0 .0 .0 .0 .0 .0 .0 .0 .0 .0 .0 .1 refl)),
+    (
+      (λ o. absurd (o .0 .0 .0 .0 .0 .0 .0 .0 .0 .0 .0 .0 .0 .1 refl)),
+      (
+        (λ o. absurd (o .0 .0 .0 .0 .0 .0 .0 .0 .0 .0 .0 .0 .1 refl)),
+        (
+          (λ o. absurd (o .0 .0 .0 .0 .0 .0 .0 .0 .0 .0 .0 .1 refl)),
+          (
+            (λ o. absurd (o .0 .0 .0 .0 .0 .0 .0 .0 .0 .0 .1 refl)),
+            (
+              (λ o. absurd (o .0 .0 .0 .0 .0 .0 .0 .0 .0 .1 refl)),
+              (
+                (λ o. absurd (o .0 .0 .0 .0 .0 .0 .0 .0 .1 refl)),
+                (
+                  (λ o. absurd (o .0 .0 .0 .0 .0 .0 .0 .1 refl)),
+                  (
+                    (λ o. absurd (o .0 .0 .0 .0 .0 .0 .1 refl)),
+                    (
+                      (λ o. absurd (o .0 .0 .0 .0 .0 .1 refl)),
+                      (
+                        (λ o. absurd (o .0 .0 .0 .0 .1 refl)),
+                        (
+                          (λ o. absurd (o .0 .0 .0 .1 refl)),
+                          ((λ o. absurd (o .0 .0 .1 refl)), ((λ o. absurd (o .0 .1 refl)), ((λ o. absurd (o .1 refl)), tt))),
+                        ),
+                      ),
+                    ),
+                  ),
+                ),
+              ),
+            ),
+          ),
+        ),
+      ),
+    ),
+  ),
+)
+    (subst Other (sym (zero-add n)) h) ∙ refl

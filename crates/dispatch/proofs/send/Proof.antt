@@ -1,0 +1,343 @@
+-- `dispatch::send` meets its contract. Assumes nothing.
+use mathlib.Core.Path.{refl}
+use denote.Ref.{now}
+use borrow.Author.Needs.{needs}
+use Rattle.model.specs.Steps.{append, commit, add, remove, changeLeader, refresh, join, receive, acknowledge, refreshController, readLeader, read, setNormal, hear, install}
+use Rattle.memory.specs.Memory.{Short}
+use Rattle.records.specs.Record.{recordOf}
+use Rattle.dispatch.proofs.Sending.{malformed-leaves, sends-kept, by-board, alone-taken, alone-refused, no-step}
+use Rattle.dispatch.proofs.send.Statement.{statement}
+use Rattle.dispatch.proofs.send.Tie as tie
+
+board-requires : tie.Need-board-requires
+board-requires c κs = search needs
+
+bare-requires : tie.Need-bare-requires
+bare-requires c κs = search needs
+
+array-copy-out-v : tie.Need-array-copy-out-v
+array-copy-out-v c = search needs
+
+board-requires-2 : tie.Need-board-requires-2
+board-requires-2 c κs = search needs
+
+append-requires : tie.Need-append-requires
+append-requires c κs = search needs
+
+commit-requires : tie.Need-commit-requires
+commit-requires c κs = search needs
+
+add-requires : tie.Need-add-requires
+add-requires c κs = search needs
+
+remove-requires : tie.Need-remove-requires
+remove-requires c κs = search needs
+
+change-requires : tie.Need-change-requires
+change-requires c κs = search needs
+
+refresh-requires : tie.Need-refresh-requires
+refresh-requires c κs = search needs
+
+join-requires : tie.Need-join-requires
+join-requires c κs = search needs
+
+receive-requires : tie.Need-receive-requires
+receive-requires c κs = search needs
+
+board-requires-3 : tie.Need-board-requires-3
+board-requires-3 c κs = search needs
+
+acknowledge-requires : tie.Need-acknowledge-requires
+acknowledge-requires c κs = search needs
+
+refresh-controller-requires : tie.Need-refresh-controller-requires
+refresh-controller-requires c κs = search needs
+
+read-leader-requires : tie.Need-read-leader-requires
+read-leader-requires c κs = search needs
+
+read-requires : tie.Need-read-requires
+read-requires c κs = search needs
+
+set-normal-requires : tie.Need-set-normal-requires
+set-normal-requires c κs = search needs
+
+hear-requires : tie.Need-hear-requires
+hear-requires c κs = search needs
+
+install-requires : tie.Need-install-requires
+install-requires c κs = search needs
+
+returns : tie.Need-returns
+returns c =
+    let p = c .before .before .before .before .before .before .before .before .before .pre in
+    rw (c .match .keys1) (sends-kept (malformed-leaves _ (p .0) _ _ (p .1) (p .2)))
+
+same-length : tie.Need-same-length
+same-length c = search needs
+
+same-length-2 : tie.Need-same-length-2
+same-length-2 c = search needs
+
+same-length-3 : tie.Need-same-length-3
+same-length-3 c = search needs
+
+returns-2 : tie.Need-returns-2
+returns-2 c =
+    let a = c .before .before .before .before .before .before .before .before .before .before .before .before .before .before .before .before .before .before .before .before .args in
+    let p = c .before .before .before .before .before .before .before .before .before .before .before .before .before .before .before .before .before .before .before .before .pre in
+    rw (c .before .before .before .before .before .before .before .before .before .before .before .match .keys2) (sends-kept (by-board _ _ _ _ _ _ (λ b. append b (a .r .value)) (a .r .board) (a .r .other) (a .r .spare) 0 _ (c .before .before .before .before .before .before .before .before .before .before .board2 .ensures) (λ m. refl) (λ m. refl) (c .before .before .before .before .before .before .append .ensures (a .g) (a .c) (now (a .joined)) (a .count) (now (a .list)) (p .0 .count) (p .2))))
+
+same-length-4 : tie.Need-same-length-4
+same-length-4 c = search needs
+
+same-length-5 : tie.Need-same-length-5
+same-length-5 c = search needs
+
+same-length-6 : tie.Need-same-length-6
+same-length-6 c = search needs
+
+same-length-7 : tie.Need-same-length-7
+same-length-7 c = search needs
+
+returns-3 : tie.Need-returns-3
+returns-3 c =
+    let a = c .before .before .before .before .before .before .before .before .before .before .before .before .before .before .before .before .args in
+    let p = c .before .before .before .before .before .before .before .before .before .before .before .before .before .before .before .before .pre in
+    rw (c .before .before .before .before .before .before .before .match .keys3) (sends-kept (by-board _ _ _ _ _ _ commit (a .r .board) (a .r .other) (a .r .spare) (a .r .value) _ (c .before .before .before .before .before .before .before .before .before .before .board .ensures) (λ m. refl) (λ m. refl) (c .before .before .commit .ensures (a .g) (a .c) (now (a .joined)))))
+
+returns-4 : tie.Need-returns-4
+returns-4 c =
+    let a = c .before .before .before .before .before .before .before .before .before .before .args in
+    let p = c .before .before .before .before .before .before .before .before .before .before .pre in
+    let s : Short (now (a .len)) = record { eight = p .0 .shape .len; most = p .0 .len } in
+    rw (c .before .match .keys4) (sends-kept (by-board _ _ _ _ _ _ add (a .r .board) (a .r .other) (a .r .spare) (a .r .value) _ (c .before .before .before .before .board .ensures) (λ m. refl) (λ m. refl) (c .add .ensures (a .t3) (now (a .joined)) (now (a .len)) s (now (a .acked)) (a .count) (now (a .store)) (now (a .list)) (p .0 .count) (p .1) (p .2))))
+
+returns-5 : tie.Need-returns-5
+returns-5 c =
+    let a = c .before .before .before .before .before .before .before .before .before .before .args in
+    let p = c .before .before .before .before .before .before .before .before .before .before .pre in
+    let s : Short (now (a .len)) = record { eight = p .0 .shape .len; most = p .0 .len } in
+    rw (c .before .match .keys5) (sends-kept (by-board _ _ _ _ _ _ remove (a .r .board) (a .r .other) (a .r .spare) (a .r .value) _ (c .before .before .before .before .board .ensures) (λ m. refl) (λ m. refl) (c .remove .ensures (a .t3) (now (a .joined)) (now (a .len)) s (now (a .acked)) (a .count) (now (a .store)) (now (a .list)) (p .0 .count) (p .1) (p .2))))
+
+returns-6 : tie.Need-returns-6
+returns-6 c =
+    let a = c .before .before .before .before .before .before .before .before .before .before .before .args in
+    let p = c .before .before .before .before .before .before .before .before .before .before .before .pre in
+    let s : Short (now (a .len)) = record { eight = p .0 .shape .len; most = p .0 .len } in
+    rw (c .before .before .match .keys6) (sends-kept (alone-taken _ _ _ _ _ _ changeLeader (a .r .board) (a .r .other) (a .r .spare) (a .r .value) (c .before .before .before .before .bare .ensures) (c .before .if1 .taken) (c .change .ensures (a .t3) (now (a .joined)) (now (a .len)) s (now (a .acked)) (a .count) (now (a .store)) (now (a .list)) (p .0 .count) (p .1) (p .2))))
+
+returns-7 : tie.Need-returns-7
+returns-7 c =
+    let a = c .before .before .before .before .before .before .before .before .before .before .args in
+    let p = c .before .before .before .before .before .before .before .before .before .before .pre in
+    rw (c .before .match .keys6) (sends-kept (alone-refused _ _ _ _ _ _ changeLeader (a .r .board) (a .r .other) (a .r .spare) (a .r .value) (c .before .before .before .bare .ensures) (c .if1 .left) (malformed-leaves _ (p .0) _ _ (p .1) (p .2))))
+
+same-length-8 : tie.Need-same-length-8
+same-length-8 c = search needs
+
+same-length-9 : tie.Need-same-length-9
+same-length-9 c = search needs
+
+same-length-10 : tie.Need-same-length-10
+same-length-10 c = search needs
+
+returns-8 : tie.Need-returns-8
+returns-8 c =
+    let a = c .before .before .before .before .before .before .before .before .before .before .before .before .before .before .before .before .before .before .before .args in
+    let p = c .before .before .before .before .before .before .before .before .before .before .before .before .before .before .before .before .before .before .before .pre in
+    rw (c .before .before .before .before .before .before .before .before .before .before .match .keys7) (record { place = c .before .before .before .before .before .refresh .ensures .0; leaves = by-board _ _ _ _ _ _ refresh (a .r .board) (a .r .other) (a .r .spare) (a .r .value) _ (c .before .before .before .before .before .before .before .before .before .before .before .before .before .board .ensures) (λ m. refl) (λ m. refl) (c .before .before .before .before .before .refresh .ensures .1 (a .g .status) (a .c) (a .count) (now (a .store)) (now (a .list)) (p .0 .count) (p .1) (p .2)) })
+
+same-length-11 : tie.Need-same-length-11
+same-length-11 c = search needs
+
+same-length-12 : tie.Need-same-length-12
+same-length-12 c = search needs
+
+same-length-13 : tie.Need-same-length-13
+same-length-13 c = search needs
+
+returns-9 : tie.Need-returns-9
+returns-9 c =
+    let a = c .before .before .before .before .before .before .before .before .before .before .before .before .before .before .before .before .before .args in
+    let p = c .before .before .before .before .before .before .before .before .before .before .before .before .before .before .before .before .before .pre in
+    rw (c .before .before .before .before .before .before .before .before .match .keys8) (sends-kept (by-board _ _ _ _ _ _ join (a .r .board) (a .r .other) (a .r .spare) (a .r .value) _ (c .before .before .before .before .before .before .before .before .before .before .before .board .ensures) (λ m. refl) (λ m. refl) (c .before .before .before .before .join .ensures (a .g) (a .c) (now (a .acked)) (a .count) (now (a .list)) (p .0 .count) (p .2))))
+
+same-length-14 : tie.Need-same-length-14
+same-length-14 c = search needs
+
+same-length-15 : tie.Need-same-length-15
+same-length-15 c = search needs
+
+same-length-16 : tie.Need-same-length-16
+same-length-16 c = search needs
+
+returns-10 : tie.Need-returns-10
+returns-10 c =
+    let a = c .before .before .before .before .before .before .before .before .before .before .before .before .before .before .before .before .before .args in
+    let p = c .before .before .before .before .before .before .before .before .before .before .before .before .before .before .before .before .before .pre in
+    rw (c .before .before .before .before .before .before .before .before .match .keys9) (sends-kept (by-board _ _ _ _ _ _ receive (a .r .board) (a .r .other) (a .r .spare) (a .r .value) _ (c .before .before .before .before .before .before .before .before .before .before .before .board .ensures) (λ m. refl) (λ m. refl) (c .before .before .before .before .receive .ensures (a .g) (a .c) (now (a .acked)) (a .count) (now (a .list)) (p .0 .count) (p .2))))
+
+same-length-17 : tie.Need-same-length-17
+same-length-17 c = search needs
+
+same-length-18 : tie.Need-same-length-18
+same-length-18 c = search needs
+
+same-length-19 : tie.Need-same-length-19
+same-length-19 c = search needs
+
+returns-11 : tie.Need-returns-11
+returns-11 c =
+    let a = c .before .before .before .before .before .before .before .before .before .before .before .before .before .before .before .before .args in
+    let p = c .before .before .before .before .before .before .before .before .before .before .before .before .before .before .before .before .pre in
+    rw (c .before .before .before .before .before .before .before .match .keys10) (sends-kept (by-board _ _ _ _ _ _ (λ x. acknowledge x (a .r .other)) (a .r .board) 0 (a .r .spare) (a .r .value) _ (c .before .before .before .before .before .before .board3 .ensures) (λ m. refl) (λ m. refl) (c .before .before .acknowledge .ensures (a .g) (a .c) (a .count) (now (a .store)) (now (a .list)) (p .0 .count) (p .1) (p .2))))
+
+returns-12 : tie.Need-returns-12
+returns-12 c =
+    let a = c .before .before .before .before .before .before .before .before .before .before .before .args in
+    let p = c .before .before .before .before .before .before .before .before .before .before .before .pre in
+    let s : Short (now (a .len)) = record { eight = p .0 .shape .len; most = p .0 .len } in
+    rw (c .before .before .match .keys11) (sends-kept (alone-taken _ _ _ _ _ _ refreshController (a .r .board) (a .r .other) (a .r .spare) (a .r .value) (c .before .before .before .before .bare .ensures) (c .before .if2 .taken) (c .refresh-controller .ensures (a .t3) (now (a .joined)) (now (a .len)) s (now (a .acked)) (a .count) (now (a .store)) (now (a .list)) (p .0 .count) (p .1) (p .2))))
+
+returns-13 : tie.Need-returns-13
+returns-13 c =
+    let a = c .before .before .before .before .before .before .before .before .before .before .args in
+    let p = c .before .before .before .before .before .before .before .before .before .before .pre in
+    rw (c .before .match .keys11) (sends-kept (alone-refused _ _ _ _ _ _ refreshController (a .r .board) (a .r .other) (a .r .spare) (a .r .value) (c .before .before .before .bare .ensures) (c .if2 .left) (malformed-leaves _ (p .0) _ _ (p .1) (p .2))))
+
+same-length-20 : tie.Need-same-length-20
+same-length-20 c = search needs
+
+returns-14 : tie.Need-returns-14
+returns-14 c =
+    let a = c .before .before .before .before .before .before .before .before .before .before .before .before .args in
+    let p = c .before .before .before .before .before .before .before .before .before .before .before .before .pre in
+    rw (c .before .before .before .match .keys12) (sends-kept (alone-taken _ _ _ _ _ _ readLeader (a .r .board) (a .r .other) (a .r .spare) (a .r .value) (c .before .before .before .before .before .bare .ensures) (c .before .before .if3 .taken) (c .read-leader .ensures (now (a .joined)) (now (a .acked)) (a .count) (now (a .store)) (now (a .list)) (p .0 .count) (p .1) (p .2))))
+
+returns-15 : tie.Need-returns-15
+returns-15 c =
+    let a = c .before .before .before .before .before .before .before .before .before .before .args in
+    let p = c .before .before .before .before .before .before .before .before .before .before .pre in
+    rw (c .before .match .keys12) (sends-kept (alone-refused _ _ _ _ _ _ readLeader (a .r .board) (a .r .other) (a .r .spare) (a .r .value) (c .before .before .before .bare .ensures) (c .if3 .left) (malformed-leaves _ (p .0) _ _ (p .1) (p .2))))
+
+same-length-21 : tie.Need-same-length-21
+same-length-21 c = search needs
+
+same-length-22 : tie.Need-same-length-22
+same-length-22 c = search needs
+
+returns-16 : tie.Need-returns-16
+returns-16 c =
+    let a = c .before .before .before .before .before .before .before .before .before .before .before .before .args in
+    let p = c .before .before .before .before .before .before .before .before .before .before .before .before .pre in
+    rw (c .before .before .before .match .keys13) (sends-kept (by-board _ _ _ _ _ _ read (a .r .board) (a .r .other) (a .r .spare) (a .r .value) _ (c .before .before .before .before .before .before .board .ensures) (λ m. refl) (λ m. refl) (c .read .ensures (a .t3) (now (a .acked)) (a .count) (now (a .store)) (now (a .list)) (p .0 .count) (p .1) (p .2))))
+
+returns-17 : tie.Need-returns-17
+returns-17 c =
+    let a = c .before .before .before .before .before .before .before .before .before .before .before .args in
+    let p = c .before .before .before .before .before .before .before .before .before .before .before .pre in
+    let s : Short (now (a .len)) = record { eight = p .0 .shape .len; most = p .0 .len } in
+    rw (c .before .before .match .keys14) (sends-kept (alone-taken _ _ _ _ _ _ setNormal (a .r .board) (a .r .other) (a .r .spare) (a .r .value) (c .before .before .before .before .bare .ensures) (c .before .if4 .taken) (c .set-normal .ensures (a .t3) (now (a .joined)) (now (a .len)) s (now (a .acked)) (a .count) (now (a .store)) (now (a .list)) (p .0 .count) (p .1) (p .2))))
+
+returns-18 : tie.Need-returns-18
+returns-18 c =
+    let a = c .before .before .before .before .before .before .before .before .before .before .args in
+    let p = c .before .before .before .before .before .before .before .before .before .before .pre in
+    rw (c .before .match .keys14) (sends-kept (alone-refused _ _ _ _ _ _ setNormal (a .r .board) (a .r .other) (a .r .spare) (a .r .value) (c .before .before .before .bare .ensures) (c .if4 .left) (malformed-leaves _ (p .0) _ _ (p .1) (p .2))))
+
+same-length-23 : tie.Need-same-length-23
+same-length-23 c = search needs
+
+same-length-24 : tie.Need-same-length-24
+same-length-24 c = search needs
+
+returns-19 : tie.Need-returns-19
+returns-19 c =
+    let a = c .before .before .before .before .before .before .before .before .before .before .before .before .args in
+    let p = c .before .before .before .before .before .before .before .before .before .before .before .before .pre in
+    rw (c .before .before .before .match .keys15) (sends-kept (by-board _ _ _ _ _ _ hear (a .r .board) (a .r .other) (a .r .spare) (a .r .value) _ (c .before .before .before .before .before .before .board .ensures) (λ m. refl) (λ m. refl) (c .hear .ensures (now (a .acked)) (a .count) (now (a .store)) (now (a .list)) (p .0 .count) (p .1) (p .2))))
+
+returns-20 : tie.Need-returns-20
+returns-20 c =
+    let a = c .before .before .before .before .before .before .before .before .before .before .args in
+    let p = c .before .before .before .before .before .before .before .before .before .before .pre in
+    let s : Short (now (a .len)) = record { eight = p .0 .shape .len; most = p .0 .len } in
+    rw (c .before .match .keys16) (sends-kept (by-board _ _ _ _ _ _ install (a .r .board) (a .r .other) (a .r .spare) (a .r .value) _ (c .before .before .before .before .board .ensures) (λ m. refl) (λ m. refl) (c .install .ensures (a .t3) (now (a .joined)) (now (a .len)) s (now (a .acked)) (a .count) (now (a .store)) (now (a .list)) (p .0 .count) (p .1) (p .2))))
+
+returns-21 : tie.Need-returns-21
+returns-21 c =
+    let a = c .before .before .before .before .before .before .before .before .before .args in
+    let p = c .before .before .before .before .before .before .before .before .before .pre in
+    rw (no-step (recordOf (a .r)) (a .r .step) (c .match .rest)) (sends-kept (malformed-leaves _ (p .0) _ _ (p .1) (p .2)))
+
+pub send-spec : {M : Type 1} → statement M
+send-spec =
+    tie.close
+    (tie.spec
+    board-requires
+    bare-requires
+    array-copy-out-v
+    board-requires-2
+    append-requires
+    commit-requires
+    add-requires
+    remove-requires
+    change-requires
+    refresh-requires
+    join-requires
+    receive-requires
+    board-requires-3
+    acknowledge-requires
+    refresh-controller-requires
+    read-leader-requires
+    read-requires
+    set-normal-requires
+    hear-requires
+    install-requires
+    returns
+    same-length
+    same-length-2
+    same-length-3
+    returns-2
+    same-length-4
+    same-length-5
+    same-length-6
+    same-length-7
+    returns-3
+    returns-4
+    returns-5
+    returns-6
+    returns-7
+    same-length-8
+    same-length-9
+    same-length-10
+    returns-8
+    same-length-11
+    same-length-12
+    same-length-13
+    returns-9
+    same-length-14
+    same-length-15
+    same-length-16
+    returns-10
+    same-length-17
+    same-length-18
+    same-length-19
+    returns-11
+    returns-12
+    returns-13
+    same-length-20
+    returns-14
+    returns-15
+    same-length-21
+    same-length-22
+    returns-16
+    returns-17
+    returns-18
+    same-length-23
+    same-length-24
+    returns-19
+    returns-20
+    returns-21)

@@ -1,0 +1,95 @@
+-- `listing::ending::put_ending` meets its contract: no ending is longer than the slice. Assumes nothing.
+use mathlib.Core.List.{_++_}
+use Prim.Native.Nat.{_+_, _≤_}
+use native.Mathlib.Omega.{arith}
+use lib.ListN.{length, take}
+use denote.Ref.{now}
+use Rattle.cluster.specs.Layout.{registryOf, controllerOf, outlineOf}
+use Rattle.text.specs.Text.{Text}
+use Rattle.text.proofs.Laws.{fits, rest, then}
+use Rattle.lines.specs.Lines.{registryLine, controlLine}
+use Rattle.listing.specs.Listing.{boardLines, receiptsLine, ending}
+use Rattle.listing.proofs.Endings.{ending-most}
+use borrow.Author.Needs.{needs}
+use Rattle.listing.proofs.ending.put_ending.Statement.{statement}
+use Rattle.listing.proofs.ending.put_ending.Tie as tie
+
+-- The ending is short, as the list's values are words of 32 bits.
+most : (k : tie.After-shared-slice-known) → length (ending (outlineOf (k .before .before .args .row)) (take (k .before .before .args .row .count) (now (k .before .before .args .list)))) ≤ 6144
+most k =
+    let e = k .before .before in
+    ending-most (outlineOf (e .args .row)) (now (e .args .list)) (e .pre .0) (λ i. omega (arith, k .shared-slice-known .given i))
+
+-- What is still to be written after the call j.
+abbrev text3 : tie.Start → Text
+text3 e = receiptsLine (take (e .args .row .count) (now (e .args .list)))
+
+abbrev text2 : tie.Start → Text
+text2 e = boardLines (outlineOf (e .args .row)) ++ text3 e
+
+abbrev text1 : tie.Start → Text
+text1 e = controlLine (controllerOf (e .args .row .controller)) ++ text2 e
+
+room0 : (k : tie.After-shared-slice-known) → 0 + length (registryLine (registryOf (k .before .before .args .row .registry)) ++ text1 (k .before .before)) ≤ length (now (k .before .before .args .out))
+unfolding ending
+room0 k = let e = k .before .before in omega (arith, e .pre .2, most k)
+
+-- What was given at the start, and what is known of the list, from after the call j.
+abbrev known1 : tie.After-put-registry → tie.After-shared-slice-known
+known1 c = c .before .before .before .before
+
+abbrev start1 : tie.After-put-registry → tie.Start
+start1 c = known1 c .before .before
+
+abbrev start2 : tie.After-put-control → tie.Start
+start2 c = start1 (c .before .before .before .before)
+
+abbrev start3 : tie.After-put-replicas → tie.Start
+start3 c = start2 (c .before .before .before .before)
+
+-- The room that is left after the call j.
+room1 : (c : tie.After-put-registry) → c .put-registry .result + length (text1 (start1 c)) ≤ length (c .put-registry .last .0)
+room1 c = let e = start1 c in rest (registryLine (registryOf (e .args .row .registry))) (text1 e) (c .put-registry .ensures) (room0 (known1 c))
+
+room2 : (c : tie.After-put-control) → c .put-control .result + length (text2 (start2 c)) ≤ length (c .put-control .last .0)
+room2 c = let e = start2 c in rest (controlLine (controllerOf (e .args .row .controller))) (text2 e) (c .put-control .ensures) (room1 (c .before .before .before .before))
+
+room3 : (c : tie.After-put-replicas) → c .put-replicas .result + length (text3 (start3 c)) ≤ length (c .put-replicas .last .0)
+room3 c = let e = start3 c in rest (boardLines (outlineOf (e .args .row))) (text3 e) (c .put-replicas .ensures) (room2 (c .before .before .before .before))
+
+put-registry-requires : tie.Need-put-registry-requires
+put-registry-requires c κs = let k = c .before .before .before in let e = k .before .before in fits _ (registryLine (registryOf (e .args .row .registry))) (text1 e) (room0 k)
+
+put-control-requires : tie.Need-put-control-requires
+put-control-requires c κs = let e = start1 (c .before .before .before) in fits _ (controlLine (controllerOf (e .args .row .controller))) (text2 e) (room1 (c .before .before .before))
+
+put-replicas-requires : tie.Need-put-replicas-requires
+put-replicas-requires c κs = let e = start2 (c .before .before .before) in fits _ (boardLines (outlineOf (e .args .row))) (text3 e) (room2 (c .before .before .before))
+
+put-receipts-requires : tie.Need-put-receipts-requires
+put-receipts-requires c κs = let e = start3 (c .before .before .before) in (e .pre .1, room3 (c .before .before .before))
+
+same-length : tie.Need-same-length
+same-length c = search needs
+
+returns : tie.Need-returns
+unfolding ending
+returns c =
+    let w =
+    then (c .before .before .before .before .before .before .before .before .before .before .before .before .before .before .put-registry .ensures)
+    (then (c .before .before .before .before .before .before .before .before .before .before .put-control .ensures)
+    (then (c .before .before .before .before .before .before .put-replicas .ensures)
+    (c .before .before .put-receipts .ensures)))
+    in
+    (w, omega (arith, w .next, most (c .before .before .before .before .before .before .before .before .before .before .before .before .before .before .before .before .before .before)))
+
+pub put-ending-spec : {M : Type 1} → statement M
+put-ending-spec =
+    tie.close
+    (tie.spec
+    put-registry-requires
+    put-control-requires
+    put-replicas-requires
+    put-receipts-requires
+    same-length
+    returns)

@@ -1,0 +1,58 @@
+-- A listing of document 01, byte for byte: the lines of its records, its ending, and its slice. Cited by the promises of `deliver`, of the writers of the
+-- ending and, through `listing`, of `run_sheet`. Assumes nothing.
+use mathlib.Core.Bool.{cond}
+use mathlib.Core.List.{List, [], _∷_, _++_}
+use mathlib.Core.Path.{_≡_}
+use Prim.Native.Nat.{ℕ, suc}
+use lib.Dec.{leb, ltb}
+use lib.ListN.{length, take}
+use Rattle.model.specs.State.{Outline}
+use Rattle.model.specs.Records.{Record}
+use Rattle.text.specs.Text.{Text, digits, over}
+use Rattle.lines.specs.Lines.{word, space, newline, eight, answerLine, registryLine, controlLine, boardText}
+use Rattle.records.specs.Bytes.{records}
+
+-- The records' lines
+
+unfoldable pub answerLines : ℕ → List Record → List ℕ → Text
+unfolding answerLine
+answerLines k [] ns = []
+answerLines k (r ∷ rs) [] = []
+answerLines k (r ∷ rs) (n ∷ ns) = answerLine k (r .step) n ++ answerLines (suc k) rs ns
+
+-- The lines of the first n records of s, with the answers ns.
+unfoldable pub lines : Text → List ℕ → ℕ → Text
+unfolding records answerLines
+lines s ns n = answerLines 1 (records n s) (take n ns)
+
+-- The ending
+
+unfoldable pub boardLine : Outline → ℕ → Text
+unfolding boardText
+boardLine m b = boardText b (m .view b) (m .joined b) (m .len b) (ltb (m .view b .epoch) (m .registry .view .epoch))
+
+unfoldable pub boardLines : Outline → Text
+unfolding boardLine
+boardLines m = eight (boardLine m)
+
+-- The values, a space before each.
+unfoldable pub valuesText : List ℕ → Text
+unfolding digits
+valuesText [] = []
+valuesText (v ∷ vs) = space ++ (digits v ++ valuesText vs)
+
+-- "how many receipts, then their values"
+unfoldable pub receiptsLine : List ℕ → Text
+unfolding digits valuesText
+receiptsLine vs = word "receipts " ++ (digits (length vs) ++ (valuesText vs ++ newline))
+
+-- The lines after the answers: the state, in outline m, and the receipts vs.
+unfoldable pub ending : Outline → List ℕ → Text
+ending m vs = registryLine (m .registry) ++ (controlLine (m .controller) ++ (boardLines m ++ receiptsLine vs))
+
+-- A listing's slice
+
+-- A text for a slice whose bytes are `out`: its length and the slice with it, or refusal 3 and the slice as it was.
+pub record Delivered (text out out′ : Text) (r : ℕ) : Type 0 where
+  pub answer : r ≡ cond (leb (length text) (length out)) (length text) 3
+  pub left : out′ ≡ cond (leb (length text) (length out)) (over out 0 text) out

@@ -1,0 +1,94 @@
+// The lines after the answers, from the row and the committed list. Inner layer: callers see to the room, and that b is a replica.
+
+ghost use mathlib.Core.Bool.{true};
+ghost use mathlib.Core.Path.{_≡_};
+ghost use Prim.Native.Nat.{_+_, _-_, _≤_};
+ghost use lib.Dec.{ltb};
+ghost use lib.ListN.{length, getD, take};
+ghost use Rattle.model.specs.Ranges.{inRange};
+ghost use Rattle.cluster.specs.Layout.{viewOf, noView, outlineOf};
+ghost use Rattle.text.specs.Text.{Wrote};
+ghost use Rattle.lines.specs.Lines.{boardText};
+ghost use Rattle.listing.specs.Listing.{boardLines, valuesText, receiptsLine, ending};
+use cluster::Cluster;
+use cluster::View;
+
+// Writes the line of the replica b, where the registry is at `epoch`.
+fn put_replica(
+    out: &mut [u8],
+    at: usize,
+    b: u8,
+    views: [View; 8],
+    joined: [u16; 8],
+    len: [u16; 8],
+    epoch: u16,
+) -> usize
+    requires { ⌜ (1 ≤ b) × (b ≤ 8) × (at + length (boardText b (viewOf (getD views (b - 1) noView)) (getD joined (b - 1) 0) (getD len (b - 1) 0) (ltb (getD views (b - 1) noView .epoch) epoch)) ≤ length (now out)) ⌝ }
+    ensures { λ r. ⌜ Wrote (now (out .entry)) at (boardText b (viewOf (getD views (b - 1) noView)) (getD joined (b - 1) 0) (getD len (b - 1) 0) (ltb (getD views (b - 1) noView .epoch) epoch)) (now (out .exit)) r ⌝ }
+{
+    let i = (b - 1) as usize;
+    let v = views[i];
+    let j = joined[i];
+    let n = len[i];
+    lines::put_board(&mut *out, at, b, v, j, n, v.epoch < epoch)
+}
+
+// Writes the lines of the eight replicas.
+fn put_replicas(out: &mut [u8], at: usize, row: Cluster) -> usize
+    requires { ⌜ at + length (boardLines (outlineOf row)) ≤ length (now out) ⌝ }
+    ensures { λ r. ⌜ Wrote (now (out .entry)) at (boardLines (outlineOf row)) (now (out .exit)) r ⌝ }
+{
+    let views = row.views;
+    let joined = row.joined;
+    let len = row.len;
+    let g = row.registry;
+    let w = g.view;
+    let mut p = at;
+    let mut b: u8 = 0;
+    while b < 8 {
+        b += 1;
+        p = put_replica(&mut *out, p, b, views, joined, len, w.epoch);
+    }
+    p
+}
+
+// Writes the first n values of a list.
+fn put_values(out: &mut [u8], at: usize, list: &[u32], n: usize) -> usize
+    requires { ⌜ (n ≤ length (now list)) × (at + length (valuesText (take n (now list))) ≤ length (now out)) ⌝ }
+    ensures { λ r. ⌜ Wrote (now (out .entry)) at (valuesText (take n (now (list .entry)))) (now (out .exit)) r ⌝ }
+{
+    let mut i = 0;
+    let mut p = at;
+    while i < n {
+        let q = text::put_byte(&mut *out, p, 32);
+        p = text::put_number(&mut *out, q, list[i]);
+        i += 1;
+    }
+    p
+}
+
+// Writes the line of the receipts: how many, and the values.
+fn put_receipts(out: &mut [u8], at: usize, list: &[u32], n: u16) -> usize
+    requires { ⌜ (n ≤ length (now list)) × (at + length (receiptsLine (take n (now list))) ≤ length (now out)) ⌝ }
+    ensures { λ r. ⌜ Wrote (now (out .entry)) at (receiptsLine (take n (now (list .entry)))) (now (out .exit)) r ⌝ }
+{
+    let a = text::put_bytes(&mut *out, at, b"receipts ");
+    let b = text::put_number(&mut *out, a, n as u32);
+    let c = put_values(&mut *out, b, list, n as usize);
+    text::put_byte(&mut *out, c, 10)
+}
+
+// Writes the ending at the start of a slice: the registry, the controller, the replicas, the receipts. Inner layer: callers see to it that
+// the row is in range, the list as long as it says, and the slice long enough for any ending.
+pub fn put_ending(out: &mut [u8], row: Cluster, list: &[u32]) -> usize
+    requires { ⌜ (inRange (outlineOf row) ≡ true) × (row .count ≤ length (now list)) × (6144 ≤ length (now out)) ⌝ }
+    ensures { λ r. ⌜ Wrote (now (out .entry)) 0 (ending (outlineOf row) (take (row .count) (now (list .entry)))) (now (out .exit)) r × (r ≤ 6144) ⌝ }
+{
+    let g = row.registry;
+    let k = row.controller;
+    let n = row.count;
+    let a = lines::put_registry(&mut *out, 0, g);
+    let b = lines::put_control(&mut *out, a, k);
+    let c = put_replicas(&mut *out, b, row);
+    put_receipts(&mut *out, c, list, n)
+}

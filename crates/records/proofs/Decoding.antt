@@ -1,0 +1,35 @@
+-- A record's fields, place by place. Cited by `decode`. Assumes nothing.
+use mathlib.Core.Bool.{true, _&&_}
+use mathlib.Core.List.{List}
+use mathlib.Core.Path.{_≡_, sym, subst, _∙_}
+use Prim.Native.Nat.{ℕ, _+_, _/_, _%_, _≤_}
+use lib.Dec.{T, eqb, leb, leb→le}
+use native.Mathlib.Nat.{add-zero}
+use native.Mathlib.Omega.{arith}
+use lib.ListN.{getD, drop}
+use lib.Seq.{getD-drop}
+use Rattle.model.specs.Records.{Record}
+use Rattle.model.proofs.Tests.{split-and}
+use Rattle.records.specs.Bytes.{recordAt, number}
+use Rattle.records.specs.Bytes.{wholeRecords}
+
+-- Whole records, one at least: room for the first.
+pub room : (n : ℕ) → wholeRecords n ≡ true → 0 + 8 ≤ n
+room n e = omega (arith, leb→le 1 (n / 8) (split-and (eqb (n % 8) 0) (leb 1 (n / 8)) (split-and (eqb (n % 8) 0 && leb 1 (n / 8)) (leb (n / 8) 4095) (subst T (sym e) tt) .0) .1))
+
+module _ (s : List ℕ) (at : ℕ) where
+  pub decoded : (v : ℕ) → v ≡ number (getD s (at + 4) 0) (getD s (at + 5) 0) (getD s (at + 6) 0) (getD s (at + 7) 0)
+      → _≡_ {A = Record} (record { step = getD s at 0; board = getD s (at + 1) 0; other = getD s (at + 2) 0; spare = getD s (at + 3) 0; value = v }) (recordAt (drop at s))
+  decoded v e = λ i. record {
+    step = first i;
+    board = sym (getD-drop at s 1 0) i;
+    other = sym (getD-drop at s 2 0) i;
+    spare = sym (getD-drop at s 3 0) i;
+    value = valued i;
+  }
+    where
+      first : getD s at 0 ≡ recordAt (drop at s) .step
+      first = rw (getD-drop at s 0 0, add-zero at)
+
+      valued : v ≡ recordAt (drop at s) .value
+      valued = e ∙ rw (getD-drop at s 4 0, getD-drop at s 5 0, getD-drop at s 6 0, getD-drop at s 7 0)

@@ -1,0 +1,86 @@
+-- Sheets and listings of document 01, byte for byte, through the model's run; the records stand in the crate records, single lines in lines, the parts of a listing in listing. Cited by the promises of
+-- `run_sheet` and `sample`. Assumes nothing.
+use mathlib.Core.Bool.{Bool, true, cond, _&&_}
+use mathlib.Core.List.{List, [], _∷_, _++_}
+use mathlib.Core.Path.{_≡_}
+use Prim.Native.Nat.{ℕ, _-_, _/_, _%_, _≤_}
+use lib.Dec.{eqb, leb}
+use lib.ListN.{length, drop, replicate}
+use Rattle.model.specs.State.{outline, opened, values}
+use Rattle.model.specs.Records.{Record}
+use Rattle.model.specs.Runs.{answers}
+use Rattle.model.specs.Claim.{after, receipts}
+use Rattle.text.specs.Text.{Text, over}
+use Rattle.records.specs.Bytes.{recordAt, records, isSheet}
+use Rattle.lines.specs.Lines.{word, answerLine}
+use Rattle.listing.specs.Listing.{answerLines, ending}
+
+-- The listing
+
+-- The listing of the opening with b and the records rs: the answers, then the state, then the receipts given.
+unfoldable pub listingOf : ℕ → List Record → Text
+unfolding answerLine answerLines ending
+listingOf b rs =
+    answerLine 1 0 0 ++ (answerLines 2 rs (answers values (opened b) rs) ++ ending (outline (after values b rs)) (receipts values b rs))
+
+-- The listing of a sheet that refusal 2 lets through.
+unfoldable pub listing : Text → Text
+unfolding records listingOf
+listing s = listingOf (recordAt s .board) (records (length s / 8 - 1) (drop 8 s))
+
+-- The call, with the sheet s and a slice whose bytes are `out`
+
+-- "... one number, the listing's length, or 2 or 3 if refused"; "for a sheet 2, then 3."
+unfoldable pub result : Text → Text → ℕ
+unfolding listing
+result s out = cond (isSheet s) (cond (leb (length (listing s)) (length out)) (length (listing s)) 3) 2
+
+-- What the slice holds then: "Refusals 2 and 3 leave the listing slice untouched; bytes past the end of a listing ... keep their values."
+unfoldable pub left : Text → Text → Text
+unfolding listing over
+left s out = cond (isSheet s && leb (length (listing s)) (length out)) (over out 0 (listing s)) out
+
+-- Trials
+
+-- The paper's sample: opening 1; append 1, 41; receipt by 1; add 2.
+abbrev pub sampleSheet : Text
+sampleSheet =
+    0 ∷ 1 ∷ 0 ∷ 0 ∷ 0 ∷ 0 ∷ 0 ∷ 0
+    ∷ 1 ∷ 1 ∷ 0 ∷ 0 ∷ 41 ∷ 0 ∷ 0 ∷ 0
+    ∷ 2 ∷ 1 ∷ 0 ∷ 0 ∷ 0 ∷ 0 ∷ 0 ∷ 0
+    ∷ 3 ∷ 2 ∷ 0 ∷ 0 ∷ 0 ∷ 0 ∷ 0 ∷ 0 ∷ []
+
+abbrev pub sampleListing : Text
+sampleListing =
+    word "1 0 0\n2 1 0\n3 2 0\n4 3 0\nregistry 2 1 1 12 waiting\ncontrol 1 1 1 1 idle\nboard 1 1 1 1 1 1 1 late\nboard 2 1 1 1 1 1 0 late\n"
+    ++ word "board 3 1 1 1 1 1 0 late\nboard 4 1 1 1 1 1 0 late\nboard 5 1 1 1 1 1 0 late\nboard 6 1 1 1 1 1 0 late\nboard 7 1 1 1 1 1 0 late\n"
+    ++ word "board 8 1 1 1 1 1 0 late\nreceipts 1 41\n"
+
+unfoldable pub SampleHolds : Type 0
+SampleHolds = (isSheet sampleSheet ≡ true) × (listing sampleSheet ≡ sampleListing) × (length sampleListing ≡ 285)
+
+-- A slice of n bytes.
+abbrev pub slice : ℕ → Text
+slice n = replicate n 255
+
+-- A slice one byte short is refused and keeps its bytes; one of the listing's length is enough; a longer one keeps those past the listing.
+unfoldable pub RoomHolds : Type 0
+RoomHolds =
+    (result sampleSheet (slice 284) ≡ 3) × (left sampleSheet (slice 284) ≡ slice 284)
+    × (result sampleSheet (slice 285) ≡ 285) × (left sampleSheet (slice 285) ≡ sampleListing)
+    × (result sampleSheet (slice 287) ≡ 285) × (left sampleSheet (slice 287) ≡ sampleListing ++ slice 2)
+
+-- A sheet of an opening alone.
+abbrev pub openingSheet : ℕ → Text
+openingSheet b = 0 ∷ b ∷ 0 ∷ 0 ∷ 0 ∷ 0 ∷ 0 ∷ 0 ∷ []
+
+-- P2: the opening with board 0 or 9, "a sheet that begins so: 2", whatever the slice holds. No byte at all, and half a record: 2 as well.
+unfoldable pub RefusedHolds : Type 0
+RefusedHolds =
+    (out : Text) → (result (openingSheet 0) out ≡ 2) × (result (openingSheet 9) out ≡ 2) × (result [] out ≡ 2) × (result (0 ∷ 1 ∷ 0 ∷ 0 ∷ []) out ≡ 2)
+    × (left (openingSheet 9) out ≡ out)
+
+-- No listing is so short that its length could be taken for a refusal.
+unfoldable pub LengthsTell : Type 0
+unfolding listing
+LengthsTell = (s : Text) → 4 ≤ length (listing s)
