@@ -86,18 +86,18 @@ lines-room s ns i n h l =
 pub few : (n r : ℕ) → r ≡ length (digits n) → n < 2 ^ 32 → r ≤ 10
 few n r e h = omega (arith, e, digits-most-10 n h)
 
--- A line has at most 13 bytes: four digits of its number, three of a byte, three of the other.
-pub lines-most : (s : Text) (ns : List ℕ) → ((i : ℕ) → getD s i 0 < 256) → ((i : ℕ) → getD ns i 0 < 256) → (n : ℕ) → n ≤ 4095 → n ≤ length ns → length (lines s ns n) ≤ 13 * n
-lines-most s ns hs hn zero h l = omega (arith, ap length (lines-none s ns))
-lines-most s ns hs hn (suc n) h l = omega (
+-- A line has at most 12 bytes: four digits of its number, three of the step's byte, two of an answer.
+pub lines-most : (s : Text) (ns : List ℕ) → ((i : ℕ) → getD s i 0 < 256) → (n : ℕ) → ((i : ℕ) → i < n → getD ns i 0 < 100) → n ≤ 4095 → n ≤ length ns → length (lines s ns n) ≤ 12 * n
+lines-most s ns hs zero hn h l = omega (arith, ap length (lines-none s ns))
+lines-most s ns hs (suc n) hn h l = omega (
   arith,
-  lines-most s ns hs hn n (omega (arith, h)) (omega (arith, l)),
+  lines-most s ns hs n (λ i q. hn i (omega (arith, q))) (omega (arith, h)) (omega (arith, l)),
   ap length (lines-suc s ns n (omega (arith, l))),
   length-append (lines s ns n) (answerLine (suc n) (getD s (8 * n) 0) (getD ns n 0)),
   line-length (suc n) (getD s (8 * n) 0) (getD ns n 0),
   digits-most-4 (suc n) (omega (arith, h)),
   digits-most 2 (getD s (8 * n) 0) (omega (arith, hs (8 * n))),
-  digits-most 2 (getD ns n 0) (omega (arith, hn n)),
+  digits-most 1 (getD ns n 0) (omega (arith, hn n (omega arith))),
 )
 
 -- A text that is too long, and one that was written.

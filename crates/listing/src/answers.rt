@@ -1,11 +1,11 @@
 // The first lines of a listing: record, step, answer. Inner layer: callers see to it that there is an answer for each record, 4,095 of
-// them at most, and to the room.
+// them at most, that an answer has two digits at most, and to the room.
 
 ghost use mathlib.Core.Path.{_≡_};
 ghost use mathlib.Core.List.{_++_};
-ghost use Prim.Native.Nat.{_+_, _/_, _≤_};
+ghost use Prim.Native.Nat.{ℕ, _+_, _/_, _≤_, _<_};
 ghost use lib.Dec.{leb};
-ghost use lib.ListN.{length};
+ghost use lib.ListN.{length, getD};
 ghost use Rattle.text.specs.Text.{Wrote};
 ghost use Rattle.lines.specs.Lines.{answerLine};
 ghost use Rattle.listing.specs.Listing.{lines, Delivered};
@@ -35,13 +35,13 @@ fn answers_length(sheet: &[u8], answers: &[u8]) -> usize
     total
 }
 
-// Whether a slice of `room` bytes has place for the lines and `end` bytes more. A line has at most 13 bytes, whatever byte
-// the answer is (12 in a run), so where there is place for as many of each record, no line is counted.
+// Whether a slice of `room` bytes has place for the lines and `end` bytes more. A line has at most 12 bytes, so
+// where there is place for as many of each record, no line is counted.
 fn has_room(sheet: &[u8], answers: &[u8], end: usize, room: usize) -> bool
-    requires { ⌜ (length (now sheet) / 8 ≤ 4095) × (length (now sheet) / 8 ≤ length (now answers)) × (end ≤ 6144) ⌝ }
+    requires { ⌜ (length (now sheet) / 8 ≤ 4095) × (length (now sheet) / 8 ≤ length (now answers)) × (end ≤ 6144) × ((i : ℕ) → i < length (now sheet) / 8 → getD (now answers) i 0 < 100) ⌝ }
     ensures { λ r. ⌜ r ≡ leb (length (lines (now (sheet .entry)) (now (answers .entry)) (length (now (sheet .entry)) / 8)) + end) room ⌝ }
 {
-    if 13 * (sheet.len() / 8) + end <= room {
+    if 12 * (sheet.len() / 8) + end <= room {
         return true;
     }
     answers_length(sheet, answers) + end <= room
@@ -64,9 +64,9 @@ fn put_answers(out: &mut [u8], sheet: &[u8], answers: &[u8]) -> usize
 }
 
 // Writes the lines of the records and the ending after them, if both fit; else refusal 3. Inner layer: callers see to it that there is an answer
-// for each record, 4,095 of them at most, and that the ending is short.
+// of two digits at most for each record, 4,095 of them at most, and that the ending is short.
 pub fn deliver(sheet: &[u8], answers: &[u8], ending: &[u8], out: &mut [u8]) -> usize
-    requires { ⌜ (length (now sheet) / 8 ≤ 4095) × (length (now sheet) / 8 ≤ length (now answers)) × (length (now ending) ≤ 6144) ⌝ }
+    requires { ⌜ (length (now sheet) / 8 ≤ 4095) × (length (now sheet) / 8 ≤ length (now answers)) × (length (now ending) ≤ 6144) × ((i : ℕ) → i < length (now sheet) / 8 → getD (now answers) i 0 < 100) ⌝ }
     ensures { λ r. ⌜ Delivered (lines (now (sheet .entry)) (now (answers .entry)) (length (now (sheet .entry)) / 8) ++ now (ending .entry)) (now (out .entry)) (now (out .exit)) r ⌝ }
 {
     if !has_room(sheet, answers, ending.len(), out.len()) {

@@ -1,25 +1,31 @@
--- A step is accepted just where its answer is 0: no refusal has the number 0. Assumes nothing.
-use mathlib.Core.Bool.{Bool, true, false, not, _&&_}
+-- A step is accepted just where its answer is 0, and no answer is above 16: refusals have the numbers 1 to 16. Assumes nothing.
+use mathlib.Core.Bool.{Bool, true, false, _&&_}
 use mathlib.Core.List.{List, [], _∷_}
 use mathlib.Core.Logic.{_≢_}
 use mathlib.Core.Path.{_≡_, refl}
-use Prim.Native.Nat.{ℕ}
-use lib.Dec.{T, eqb}
+use Prim.Native.Nat.{ℕ, _≤_}
+use native.Mathlib.Omega.{arith}
+use lib.Dec.{T, leb, leb→le}
 use Rattle.model.specs.Prelude.{Check, _else_, firstFailed, passes}
 use Rattle.model.specs.State.{Outline}
 use Rattle.model.specs.Steps.{Step, append, commit, add, remove, changeLeader, refresh, join, receive, acknowledge, refreshController, readLeader, read, setNormal, hear, install, malformed, checks, accepted, answerOf}
 use Rattle.model.proofs.Tests.{split-and, ne-fact}
 
--- No refusal has the number 0.
+-- Refusals have the numbers 1 to 16.
 abbrev pub numbered : List Check → Bool
 numbered [] = true
-numbered ((c else n) ∷ cs) = not (eqb n 0) && numbered cs
+numbered ((c else n) ∷ cs) = (leb 1 n && leb n 16) && numbered cs
 
 -- Where the answer is 0, no check fails.
 pub zero-passes : (cs : List Check) → T (numbered cs) → firstFailed cs ≡ 0 → passes cs ≡ true
 zero-passes [] t e = refl
-zero-passes ((true else n) ∷ cs) t e = zero-passes cs (split-and (not (eqb n 0)) (numbered cs) t .1) e
-zero-passes ((false else n) ∷ cs) t e = absurd (ne-fact n 0 (split-and (not (eqb n 0)) (numbered cs) t .0) e)
+zero-passes ((true else n) ∷ cs) t e = zero-passes cs (split-and (leb 1 n && leb n 16) (numbered cs) t .1) e
+zero-passes ((false else n) ∷ cs) t e = absurd (omega (arith, leb→le 1 n (split-and (leb 1 n) (leb n 16) (split-and (leb 1 n && leb n 16) (numbered cs) t .0) .0), e))
+
+first-most : (cs : List Check) → T (numbered cs) → firstFailed cs ≤ 16
+first-most [] t = omega arith
+first-most ((true else n) ∷ cs) t = first-most cs (split-and (leb 1 n && leb n 16) (numbered cs) t .1)
+first-most ((false else n) ∷ cs) t = leb→le n 16 (split-and (leb 1 n) (leb n 16) (split-and (leb 1 n && leb n 16) (numbered cs) t .0) .1)
 
 passes-zero : (cs : List Check) → passes cs ≡ true → firstFailed cs ≡ 0
 passes-zero [] e = refl
@@ -43,6 +49,9 @@ all-numbered m setNormal = tt
 all-numbered m (hear b) = tt
 all-numbered m (install b) = tt
 all-numbered m malformed = tt
+
+pub answer-most : (m : Outline) (st : Step) → answerOf m st ≤ 16
+answer-most m st = first-most (checks m st) (all-numbered m st)
 
 pub zero-accepted : (m : Outline) (st : Step) → answerOf m st ≡ 0 → accepted m st ≡ true
 zero-accepted m st e = zero-passes (checks m st) (all-numbered m st) e

@@ -2,12 +2,12 @@
 use mathlib.Core.Bool.{true, cond, _&&_}
 use mathlib.Core.List.{List, [], _∷_, _++_}
 use mathlib.Core.Path.{_≡_, refl, sym, subst, ap, ap₂, _∙_}
-use Prim.Native.Nat.{ℕ, suc, _+_, _-_, _*_, _/_, _%_, _≤_, _<_}
+use Prim.Native.Nat.{ℕ, zero, suc, _+_, _-_, _*_, _/_, _%_, _≤_, _<_}
 use native.Mathlib.Numerals.{add-one}
 use native.Mathlib.Omega.{arith}
 use lib.Dec.{T, eqb, leb, leb→le, eqb→eq}
-use lib.ListN.{length, drop, set, length-set}
-use lib.Seq.{take-suc-set, drop-drop}
+use lib.ListN.{length, drop, getD, set, length-set}
+use lib.Seq.{take-suc-set, drop-drop, getD-take}
 use Rattle.model.specs.Members.{isReplica}
 use Rattle.model.specs.State.{State, outline, opened, values}
 use Rattle.model.specs.Steps.{answerOf, step}
@@ -16,6 +16,7 @@ use Rattle.model.specs.Runs.{run, answers}
 use Rattle.model.specs.Ranges.{inRange}
 use Rattle.model.specs.Claim.{after}
 use Rattle.model.proofs.Tests.{split-and, is-true, of-true}
+use Rattle.model.proofs.Answer.{answer-most}
 use Rattle.model.proofs.Range.{to-ranges}
 use Rattle.model.proofs.Bounds.{in-range}
 use Rattle.model.proofs.Theorem.{run-append}
@@ -72,6 +73,17 @@ unfolding answers run
 answers-suc s [] r = refl
 answers-suc s (q ∷ rs) r = ap (λ ns. answerOf (outline s) (stepOf q) ∷ ns) (answers-suc (step values s (stepOf q)) rs r)
 
+-- No answer is above 16.
+answers-small : (t : State ℕ) (rs : List Record) (i : ℕ) → getD (answers values t rs) i 0 < 100
+unfolding answers
+answers-small t [] i = omega arith
+answers-small t (r ∷ rs) zero = omega (arith, answer-most (outline t) (stepOf r))
+answers-small t (r ∷ rs) (suc i) = answers-small (step values t (stepOf r)) rs i
+
+all-small : (t : State ℕ) (rs : List Record) (i : ℕ) → getD (0 ∷ answers values t rs) i 0 < 100
+all-small t rs zero = omega arith
+all-small t rs (suc i) = answers-small t rs i
+
 module _ (s : Text) (sheet : isSheet s ≡ true) (k : ℕ) (row : Cluster) (store list ns : List ℕ) (h : Ran s k row store list ns) where
   abbrev b : ℕ
   b = recordAt s .board
@@ -81,6 +93,12 @@ module _ (s : Text) (sheet : isSheet s ≡ true) (k : ℕ) (row : Cluster) (stor
 
   pub ran-count : row .count ≤ length list
   ran-count = omega (arith, h .long, to-ranges (outlineOf row) (of-true ran-fits) .committed)
+
+  -- An answer has two digits at most.
+  pub ran-small : (i : ℕ) → i ≤ k → getD ns i 0 < 100
+  ran-small i q =
+      let n : getD ns i 0 ≡ getD (0 ∷ answers values (opened b) (following s k)) i 0 = sym (getD-take (suc k) ns i 0 (omega (arith, q))) ∙ ap (λ xs. getD xs i 0) (h .answered) in
+      subst (λ m. m < 100) (sym n) (all-small (opened b) (following s k) i)
 
   pub ran-ready : Shape row → Ready row
   ran-ready shape = ready row shape ran-fits

@@ -1,12 +1,13 @@
 -- `sheet::run_sheet` meets its contract: the sheet is run, and what is delivered is its listing. Assumes nothing.
 use mathlib.Core.Path.{refl, sym, _∙_}
+use Prim.Native.Nat.{_-_, _/_}
 use native.Mathlib.Omega.{arith}
-use lib.ListN.{length-take}
+use lib.ListN.{length, length-take}
 use lib.Seq.{length-take-le}
 use denote.Ref.{now}
 use borrow.Author.Tests.{not-true, not-false}
 use Rattle.text.proofs.Laws.{wrote-length}
-use Rattle.sheet.proofs.Playing.{sheet-most, ran-fits, ran-count}
+use Rattle.sheet.proofs.Playing.{sheet-most, ran-fits, ran-count, ran-small}
 use Rattle.sheet.proofs.Listings.{read-back, no-sheet, delivered}
 use borrow.Author.Needs.{needs}
 use Rattle.sheet.proofs.run_sheet.Statement.{statement}
@@ -64,7 +65,7 @@ deliver-requires c κs =
     let e = sym (c .before .before .before .before .before .before .before .before .before .before .before .before .before .before .before .is-sheet .ensures) ∙ not-false _ (c .before .before .before .before .before .before .before .before .before .before .before .before .before .before .if1 .left) in
     let h = c .before .before .before .before .before .before .before .before .before .before .play .ensures in
     let w = c .before .before .before .before .put-ending .ensures in
-    (sheet-most s e, omega (arith, sheet-most s e, h .room), omega (arith, w .1, length-take (c .before .before .before .before .put-ending .result) (c .before .before .before .before .put-ending .last .0)))
+    (sheet-most s e, omega (arith, sheet-most s e, h .room), omega (arith, w .1, length-take (c .before .before .before .before .put-ending .result) (c .before .before .before .before .put-ending .last .0)), λ i q. ran-small s e (length s / 8 - 1) _ _ _ _ h i (omega (arith, q)))
 
 same-length : tie.Need-same-length
 same-length c = search needs

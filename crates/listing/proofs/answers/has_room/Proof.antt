@@ -18,13 +18,13 @@ mul-if1 c = search needs
 add-if1 : tie.Need-add-if1
 add-if1 c = search needs
 
--- There is place for 13 bytes a line.
+-- There is place for 12 bytes a line.
 returns : tie.Need-returns
 returns c =
     let e = c .before .before .before in
     let s = now (e .args .sheet) in
     let ns = now (e .args .answers) in
-    let most = lines-most s ns (λ i. omega (arith, c .before .before .shared-slice-known .given i)) (λ i. omega (arith, c .before .shared-slice-known2 .given i)) (length s / 8) (e .pre .0) (e .pre .1) in
+    let most = lines-most s ns (λ i. omega (arith, c .before .before .shared-slice-known .given i)) (length s / 8) (e .pre .3) (e .pre .0) (e .pre .1) in
     sym (le-leb (length (lines s ns (length s / 8)) + e .args .end) (e .args .room) (omega (arith, most, c .if1 .taken)))
 
 answers-length-requires : tie.Need-answers-length-requires
