@@ -3,8 +3,8 @@
  *
  * Link with libsheet.a, built for x86-64. No heap is used, and nothing is kept
  * between calls. On every sheet that bench/stack.c tried, a call took at most
- * 29,792 bytes of stack, with memcpy and memset bound beforehand (link with
- * -z now; bound lazily, the first call took 32,808). Of the C library it calls
+ * 29,360 bytes of stack, with memcpy and memset bound beforehand (link with
+ * -z now; bound lazily, the first call took 32,488). Of the C library it calls
  * those two alone.
  */
 #ifndef ROW_H
