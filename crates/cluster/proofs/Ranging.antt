@@ -60,7 +60,7 @@ module _ (row : Cluster) where
 
   abbrev pub rowTests : Bool
   rowTests =
-      every (viewRanges (m .registry .view)) && (every (viewRanges (m .controller .view)) && (leaderNamed m && (controllerLeaderNamed m && (leb (m .count) 512 && every (eight (λ b. every (replicaRanges m b)))))))
+      every (viewRanges (m .registry .view)) && (every (viewRanges (m .controller .view)) && (leaderNamed m && (controllerLeaderNamed m && (leb (m .issued) 512 && every (eight (λ b. every (replicaRanges m b)))))))
 
   pub row-tests : (r : Bool) → r ≡ rowTests → r ≡ inRange m
   row-tests r e = e ∙ rw (and-true (every (eight (λ b. every (replicaRanges m b)))))

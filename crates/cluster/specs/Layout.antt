@@ -56,5 +56,5 @@ outlineOf row = record {
   joined = at 0 (row .joined);
   acked = atPair (row .acked);
   len = at 0 (row .len);
-  count = row .count;
+  issued = row .issued;
 }

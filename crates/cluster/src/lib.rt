@@ -2,8 +2,8 @@ ghost use mathlib.Core.Path.{_≡_};
 ghost use mathlib.Core.Bool.{true, cond};
 ghost use Prim.Native.Nat.{_≤_, suc};
 ghost use lib.Dec.{ltb};
-ghost use Rattle.model.specs.Members as M;
-ghost use Rattle.model.specs.State as X;
+ghost use Rattle.model.specs.Members as Q;
+ghost use Rattle.model.specs.State as M;
 ghost use Rattle.cluster.specs.Layout.{statusOf, stageOf};
 
 pub mod ranges;
@@ -52,7 +52,7 @@ pub struct Cluster {
     pub joined: [u16; 8],
     pub acked: [u16; 64],
     pub len: [u16; 8],
-    pub count: u16,
+    pub issued: u16,
 }
 
 // What a step answers, and the row it leaves.
@@ -82,14 +82,14 @@ pub struct Settled {
 
 // Whether b is a replica.
 pub fn replica(b: u8) -> bool
-    ensures { λ r. ⌜ r ≡ M.isReplica b ⌝ }
+    ensures { λ r. ⌜ r ≡ Q.isReplica b ⌝ }
 {
     1 <= b && b <= 8
 }
 
 // A replica in any case, and b if b is one: so that a refused number is no index either.
 pub fn seat(b: u8) -> u8
-    ensures { λ r. ⌜ (1 ≤ r) × (r ≤ 8) × (M.isReplica b ≡ true → r ≡ b) ⌝ }
+    ensures { λ r. ⌜ (1 ≤ r) × (r ≤ 8) × (Q.isReplica b ≡ true → r ≡ b) ⌝ }
 {
     (b % 16 + 7) % 8 + 1
 }
@@ -110,7 +110,7 @@ pub fn raised(e: u16) -> u16
 
 // Whether the registry is choosing.
 pub fn choosing(g: Status) -> bool
-    ensures { λ r. ⌜ r ≡ X.isChoosing (statusOf g) ⌝ }
+    ensures { λ r. ⌜ r ≡ M.isChoosing (statusOf g) ⌝ }
 {
     match g {
         Status::Normal => false,
@@ -121,7 +121,7 @@ pub fn choosing(g: Status) -> bool
 
 // Whether the registry is normal.
 pub fn normal(g: Status) -> bool
-    ensures { λ r. ⌜ r ≡ X.isNormal (statusOf g) ⌝ }
+    ensures { λ r. ⌜ r ≡ M.isNormal (statusOf g) ⌝ }
 {
     match g {
         Status::Normal => true,
@@ -132,7 +132,7 @@ pub fn normal(g: Status) -> bool
 
 // A stage by its place in document 01's list.
 pub fn number(g: Stage) -> u8
-    ensures { λ r. ⌜ r ≡ X.stageNumber (stageOf g) ⌝ }
+    ensures { λ r. ⌜ r ≡ M.stageNumber (stageOf g) ⌝ }
 {
     match g {
         Stage::Idle => 0,

@@ -125,7 +125,7 @@ pub fn in_range(row: Cluster) -> bool
     let v = g.view;
     let c = row.controller;
     let w = c.view;
-    let t5 = both(row.count <= 512, replicas_in(row));
+    let t5 = both(row.issued <= 512, replicas_in(row));
     let t4 = both(reads(c), t5);
     let t3 = both(named(g), t4);
     let t2 = both(view(w), t3);

@@ -19,22 +19,22 @@ use Rattle.cluster.specs.declared.Cluster.{Cluster}
 use Rattle.cluster.specs.declared.Outcome.{Outcome}
 use Rattle.cluster.specs.declared.Settled.{Settled}
 use Rattle.cluster.specs.Layout.{noView, outlineOf}
-use Rattle.memory.specs.Memory.{abs, rowOf, Ready, storeAfter, listAfter, Turns, Leaves}
-use Rattle.memory.proofs.Turning.{turns-refused, set-idle}
+use Rattle.refinement.specs.Memory.{abs, rowOf, Ready, storeAfter, listAfter, Turns, Leaves}
+use Rattle.refinement.proofs.Turning.{turns-refused, set-idle}
 use Rattle.dispatch.specs.declared.Sent.{Sent}
 use Rattle.dispatch.specs.Send.{Sends}
 
 -- The answer 1 to what is no step.
 pub malformed-leaves : (row : Cluster) → Ready row → (store list : List ℕ) → length store ≡ 4096 → length list ≡ 512 → Leaves malformed row store list 1 row store list
-malformed-leaves row p store list full long = turns-refused row (p .shape .len) (p .len) (p .count) store list full long malformed 1 refl (λ e. omega arith)
+malformed-leaves row p store list full long = turns-refused row (p .shape .len) (p .len) (p .issued) store list full long malformed 1 refl (λ e. omega arith)
 
 -- A step that leaves the views.
-pub sends-kept : {st : Step} {g : Registry} {c : Controller} {views : List View} {count count′ : ℕ} {joined acked len store list joined′ acked′ len′ store′ list′ : List ℕ} {s : Settled}
-    → Leaves st (rowOf g c views joined acked len count) store list (s .answer) (rowOf (s .registry) (s .controller) views joined′ acked′ len′ count′) store′ list′
-    → Sends st g c views count joined acked len store list (record { count = count′; place = 0; view = getD views 0 noView; settled = s }) joined′ acked′ len′ store′ list′
-sends-kept {st} {g} {c} {views} {count} {count′} {joined} {acked} {len} {store} {list} {joined′} {acked′} {len′} {store′} {list′} {s} h = record {
+pub sends-kept : {st : Step} {g : Registry} {c : Controller} {views : List View} {issued issued′ : ℕ} {joined acked len store list joined′ acked′ len′ store′ list′ : List ℕ} {s : Settled}
+    → Leaves st (rowOf g c views joined acked len issued) store list (s .answer) (rowOf (s .registry) (s .controller) views joined′ acked′ len′ issued′) store′ list′
+    → Sends st g c views issued joined acked len store list (record { issued = issued′; place = 0; view = getD views 0 noView; central = s }) joined′ acked′ len′ store′ list′
+sends-kept {st} {g} {c} {views} {issued} {issued′} {joined} {acked} {len} {store} {list} {joined′} {acked′} {len′} {store′} {list′} {s} h = record {
   place = omega arith;
-  leaves = subst (λ vs. Leaves st (rowOf g c views joined acked len count) store list (s .answer) (rowOf (s .registry) (s .controller) vs joined′ acked′ len′ count′) store′ list′) (sym (set-idle noView views 0)) h;
+  leaves = subst (λ vs. Leaves st (rowOf g c views joined acked len issued) store list (s .answer) (rowOf (s .registry) (s .controller) vs joined′ acked′ len′ issued′) store′ list′) (sym (set-idle noView views 0)) h;
 }
 
 module _ (row : Cluster) (store list : List ℕ) (x : Outcome) (store′ list′ : List ℕ) where
@@ -48,7 +48,7 @@ module _ (row : Cluster) (store list : List ℕ) (x : Outcome) (store′ list′
     state = k .state ∙ ap (λ t. cond t (next values (abs row store list) st) (abs row store list)) (never (outline (abs row store list)));
     eight = k .eight;
     len = k .len;
-    count = k .count;
+    issued = k .issued;
     stored = k .stored ∙ ap (λ t. cond t (storeAfter st row store) store) (never (outlineOf row));
     listed = k .listed ∙ ap (λ t. cond t (listAfter st row store list) list) (never (outlineOf row));
     refused = k .refused;

@@ -4,7 +4,7 @@
 ghost use mathlib.Core.Path.{_≡_};
 ghost use lib.ListN.{length};
 ghost use Rattle.model.specs.Records as R;
-ghost use Rattle.memory.specs.Memory.{rowOf, Ready};
+ghost use Rattle.refinement.specs.Memory.{rowOf, Ready};
 ghost use Rattle.records.specs.Record.{recordOf};
 ghost use Rattle.dispatch.specs.Send.{Sends};
 use cluster::Controller;
@@ -16,12 +16,12 @@ use records::bare;
 use records::board;
 
 // What a record's step answers and leaves of a row beside what it writes where it is lent: the number of receipts, one view and its
-// place among the eight, and, settled, the answer, the registry and the controller.
+// place among the eight, and, central, the answer, the registry and the controller.
 pub struct Sent {
-    pub count: u16,
+    pub issued: u16,
     pub place: usize,
     pub view: View,
-    pub settled: Settled,
+    pub central: Settled,
 }
 
 // Sends a record to its field check and its step. Inner layer: callers see to it that refusal 1 lets the row and the lent places
@@ -30,7 +30,7 @@ pub fn send(
     g: Registry,
     c: Controller,
     views: [View; 8],
-    count: u16,
+    issued: u16,
     joined: &mut [u16],
     acked: &mut [u16],
     len: &mut [u16],
@@ -38,8 +38,8 @@ pub fn send(
     list: &mut [u32],
     r: Record,
 ) -> Sent
-    requires { ⌜ Ready (rowOf g c views (now joined) (now acked) (now len) count) × (length (now store) ≡ 4096) × (length (now list) ≡ 512) ⌝ }
-    ensures { λ x. ⌜ Sends (R.stepOf (recordOf r)) g c views count (now (joined .entry)) (now (acked .entry)) (now (len .entry)) (now (store .entry)) (now (list .entry)) x (now (joined .exit)) (now (acked .exit)) (now (len .exit)) (now (store .exit)) (now (list .exit)) ⌝ }
+    requires { ⌜ Ready (rowOf g c views (now joined) (now acked) (now len) issued) × (length (now store) ≡ 4096) × (length (now list) ≡ 512) ⌝ }
+    ensures { λ x. ⌜ Sends (R.stepOf (recordOf r)) g c views issued (now (joined .entry)) (now (acked .entry)) (now (len .entry)) (now (store .entry)) (now (list .entry)) x (now (joined .exit)) (now (acked .exit)) (now (len .exit)) (now (store .exit)) (now (list .exit)) ⌝ }
 {
     let b = board(r.board, r.other, r.spare, r.value);
     let none = bare(r.board, r.other, r.spare, r.value);
@@ -49,7 +49,7 @@ pub fn send(
         registry: g,
         controller: c,
     };
-    let mut n = count;
+    let mut n = issued;
     let mut i: usize = 0;
     let mut v = views[0];
     let step = r.step;
@@ -57,71 +57,71 @@ pub fn send(
         0 => {}
         1 => {
             let a = board(r.board, r.other, r.spare, 0);
-            s.answer = leader::append(views, &mut *acked, &mut *len, &mut *store, a, r.value);
+            s.answer = steps_leader::append(views, &mut *acked, &mut *len, &mut *store, a, r.value);
         }
         2 => {
-            let x = leader::commit(views, count, &*acked, &*len, &*store, &mut *list, b);
+            let x = steps_leader::commit(views, issued, &*acked, &*len, &*store, &mut *list, b);
             s.answer = x.answer;
-            n = x.count;
+            n = x.issued;
         }
         3 => {
-            s = control::add(g, c, b);
+            s = steps_central::add(g, c, b);
         }
         4 => {
-            s = control::remove(g, c, b);
+            s = steps_central::remove(g, c, b);
         }
         5 => {
             if none {
-                s = control::change(g, c);
+                s = steps_central::change(g, c);
             }
         }
         6 => {
             let w = g.view;
-            let x = follower::refresh(w, views, &mut *joined, &mut *acked, &*len, b);
+            let x = steps_follower::refresh(w, views, &mut *joined, &mut *acked, &*len, b);
             s.answer = x.answer;
             i = x.place;
             v = x.view;
         }
         7 => {
-            s.answer = follower::join(views, &mut *joined, &mut *len, &*store, b);
+            s.answer = steps_follower::join(views, &mut *joined, &mut *len, &*store, b);
         }
         8 => {
-            s.answer = follower::receive(views, &*joined, &mut *len, &mut *store, b);
+            s.answer = steps_follower::receive(views, &*joined, &mut *len, &mut *store, b);
         }
         9 => {
             let a = board(r.board, 0, r.spare, r.value);
-            s.answer = leader::acknowledge(views, &*joined, &mut *acked, &*len, a, r.other);
+            s.answer = steps_leader::acknowledge(views, &*joined, &mut *acked, &*len, a, r.other);
         }
         10 => {
             if none {
-                s = control::refresh_controller(g, c);
+                s = steps_central::refresh_controller(g, c);
             }
         }
         11 => {
             if none {
-                s = control::read_leader(g, c, views, &*len);
+                s = steps_central::read_leader(g, c, views, &*len);
             }
         }
         12 => {
-            s = control::read(g, c, &*joined, &*len, b);
+            s = steps_central::read(g, c, &*joined, &*len, b);
         }
         13 => {
             if none {
-                s = control::set_normal(g, c);
+                s = steps_central::set_normal(g, c);
             }
         }
         14 => {
-            s = control::hear(g, c, views, &*joined, &*len, b);
+            s = steps_central::hear(g, c, views, &*joined, &*len, b);
         }
         15 => {
-            s = control::install(g, c, b);
+            s = steps_central::install(g, c, b);
         }
         16..=255 => {}
     }
     Sent {
-        count: n,
+        issued: n,
         place: i,
         view: v,
-        settled: s,
+        central: s,
     }
 }

@@ -8,7 +8,7 @@ use Rattle.model.specs.State.{State, opened, zeros}
 use Rattle.model.specs.Steps.{Step}
 use Rattle.cluster.specs.declared.Controller.{Controller}
 use Rattle.cluster.specs.Layout.{controllerOf}
-use Rattle.memory.proofs.Rows.{at-equal, view-equal, stage-equal}
+use Rattle.refinement.proofs.Rows.{at-equal, view-equal, stage-equal}
 use Rattle.hub.specs.declared.Report.{Report}
 use Rattle.hub.specs.Lent.{Reported, Lends}
 

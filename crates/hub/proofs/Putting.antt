@@ -8,7 +8,7 @@ use lib.ListN.{length}
 use borrow.Author.Tests.{eqb-true, eq-eqb}
 use Rattle.model.specs.Members.{isReplica}
 use Rattle.model.specs.State.{State, Outline, outline, values, stageNumber}
-use Rattle.model.specs.Steps as S
+use Rattle.model.specs.Steps as T
 use Rattle.model.specs.Steps.{Step, accepted, answerOf, step}
 use Rattle.model.specs.Ranges.{every, viewRanges, replicaRanges, leaderNamed, controllerLeaderNamed, ranges, inRange}
 use Rattle.model.proofs.Tests.{of-true, is-true, split-and}
@@ -17,8 +17,8 @@ use Rattle.cluster.specs.declared.Controller.{Controller}
 use Rattle.cluster.specs.declared.Cluster.{Cluster}
 use Rattle.cluster.specs.declared.Outcome.{Outcome}
 use Rattle.cluster.specs.Layout.{stageOf, at, outlineOf}
-use Rattle.memory.specs.Memory.{abs, Shape, Ready, storeAfter, listAfter}
-use Rattle.memory.proofs.Turning.{log-len, outline-abs}
+use Rattle.refinement.specs.Memory.{abs, Shape, Ready, storeAfter, listAfter}
+use Rattle.refinement.proofs.Turning.{log-len, outline-abs}
 use Rattle.steps.specs.Call.{valid, Did}
 use Rattle.steps.proofs.Calling.{ready}
 use Rattle.hub.specs.Lent.{registryFits, controllerFits, reportRanges, reportFits, leaderFits, Reported, Lends}
@@ -107,8 +107,8 @@ module _ (st : Step) (row : Cluster) (shape : Shape row) (store list : List ℕ)
       → (n : ℕ) (c′ : Controller) → Steps n c′ → Agrees row store list x store′ list′ n c′
   agrees hs hl x store′ list′ d n c′ g =
       let p = is-ready in
-      let o = outline-abs row (shape .len) (p .len) (p .count) store list full long in
-      let o′ = outline-abs (putBack row c′) (shape .len) (p .len) (p .count) store list full long in
+      let o = outline-abs row (shape .len) (p .len) (p .issued) store list full long in
+      let o′ = outline-abs (putBack row c′) (shape .len) (p .len) (p .issued) store list full long in
       let t = valid row store list && accepted (outlineOf row) st in
       record {
         answer = d .answer ∙ ap (λ u. cond u (answerOf (outlineOf row) st) 1) v ∙ ap (λ m. answerOf m st) (sym o) ∙ sym (g .answer);
@@ -145,14 +145,14 @@ pub put-back : PutBack
 unfolding PutBack
 put-back row shape = record {
   news = λ n c′ l store list x store′ list′ v d.
-      let ok = within S.refreshController row shape store list v in
-      agrees S.refreshController row shape store list v refl refl x store′ list′ d n c′ (steps S.refreshController row shape store list v _ _ n c′ (rw (registry-fit row ok, controller-fit row ok)) refl l);
+      let ok = within T.refreshController row shape store list v in
+      agrees T.refreshController row shape store list v refl refl x store′ list′ d n c′ (steps T.refreshController row shape store list v _ _ n c′ (rw (registry-fit row ok, controller-fit row ok)) refl l);
   readLeader = λ b n c′ t h l store list x store′ list′ v d.
-      let ok = within S.readLeader row shape store list v in
-      agrees S.readLeader row shape store list v refl refl x store′ list′ d n c′ (steps S.readLeader row shape store list v _ _ n c′ (leader-fit row b (report-fit row ok b t) h)
-      (reported row (is-ready S.readLeader row shape store list v) store list (full S.readLeader row shape store list v) b) l);
+      let ok = within T.readLeader row shape store list v in
+      agrees T.readLeader row shape store list v refl refl x store′ list′ d n c′ (steps T.readLeader row shape store list v _ _ n c′ (leader-fit row b (report-fit row ok b t) h)
+      (reported row (is-ready T.readLeader row shape store list v) store list (full T.readLeader row shape store list v) b) l);
   read = λ b n c′ l store list x store′ list′ v d.
-      agrees (S.read b) row shape store list v refl refl x store′ list′ d n c′ (told-steps (S.read b) b (λ m e. (rw e, rw e)) row shape store list v n c′ l);
+      agrees (T.read b) row shape store list v refl refl x store′ list′ d n c′ (told-steps (T.read b) b (λ m e. (rw e, rw e)) row shape store list v n c′ l);
   hear = λ b n c′ l store list x store′ list′ v d.
-      agrees (S.hear b) row shape store list v refl refl x store′ list′ d n c′ (told-steps (S.hear b) b (λ m e. (rw e, rw e)) row shape store list v n c′ l);
+      agrees (T.hear b) row shape store list v refl refl x store′ list′ d n c′ (told-steps (T.hear b) b (λ m e. (rw e, rw e)) row shape store list v n c′ l);
 }

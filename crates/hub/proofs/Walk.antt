@@ -44,14 +44,14 @@ use denote.Triple.Walked.{says, Stays, stay-ref, stay-none, walkOf, goes-ref, go
 use denote.Exit.{yes, Exit, unchanged, Last, left}
 use Rattle.cluster.specs.declared.Controller.{Controller}
 use Rattle.cluster.specs.declared.Told.{Told}
-use Rattle.cluster.proofs.Controller as T
-use Rattle.cluster.proofs.Controller.Laws as T′
-use Rattle.cluster.proofs.Told as P
-use Rattle.cluster.proofs.Told.Laws as P′
+use Rattle.cluster.proofs.Controller as Ctl
+use Rattle.cluster.proofs.Controller.Laws as Ctl′
+use Rattle.cluster.proofs.Told as Ans
+use Rattle.cluster.proofs.Told.Laws as Ans′
 
 -- The machine value of a controller.
 abbrev mach : Controller → Val
-mach d = LL.val T.the-type T′.the-laws d
+mach d = LL.val Ctl.the-type Ctl′.the-laws d
 
 -- Plain data is seen at exit as it was passed: nothing is bound there, and nothing said.
 module _ {D : Type 0} (e : Exit D) (s : e ≡ unchanged) (x : D) where
@@ -70,7 +70,7 @@ module _ (G : Declared) (GL : LL.Laws G) (GP : Plains (fields G)) (GC : LL.Copya
     signature = record {
       lifetimes = 1;
       outlives = [];
-      params = RefMutOf (0 ∷ []) tt (plain (λ _. T.the-row)) (λ _. tt) ∷ plain (λ _. row G) ∷ [];
+      params = RefMutOf (0 ∷ []) tt (plain (λ _. Ctl.the-row)) (λ _. tt) ∷ plain (λ _. row G) ∷ [];
       result = plain (λ _. u8);
     };
     kept = (yes, (yes, tt));
@@ -82,14 +82,14 @@ module _ (G : Declared) (GL : LL.Laws G) (GP : Plains (fields G)) (GC : LL.Copya
     outlives = [];
     params = 2;
     locals = local (tyInt w8) valueLocal
-        ∷ local (tyRef (named 0) mut (pointee (T.the-row .written))) valueLocal
+        ∷ local (tyRef (named 0) mut (pointee (Ctl.the-row .written))) valueLocal
         ∷ local (layout (shape G)) valueLocal
-        ∷ local P′.mir valueLocal
-        ∷ local T′.mir valueLocal
+        ∷ local Ans′.mir valueLocal
+        ∷ local Ctl′.mir valueLocal
         ∷ [];
-    body = seq (assign (place 4 []) (rvOpd (copy (place 1 (deref T′.mir ∷ [])))))
+    body = seq (assign (place 4 []) (rvOpd (copy (place 1 (deref Ctl′.mir ∷ [])))))
         (seq (call f (copy (place 4 []) ∷ copy (place 2 []) ∷ []) (place 3 []))
-        (seq (assign (place 1 (deref T′.mir ∷ [])) (rvOpd (copy (place 3 (field 1 ∷ [])))))
+        (seq (assign (place 1 (deref Ctl′.mir ∷ [])) (rvOpd (copy (place 3 (field 1 ∷ [])))))
         (seq (assign (place 0 []) (rvOpd (copy (place 3 (field 0 ∷ []))))) return)));
   }
 
@@ -99,14 +99,14 @@ module _ (G : Declared) (GL : LL.Laws G) (GP : Plains (fields G)) (GC : LL.Copya
     signature = record {
       lifetimes = 0;
       outlives = [];
-      params = plain (λ _. T.the-row) ∷ plain (λ _. row G) ∷ [];
-      result = plain (λ _. P.the-row);
+      params = plain (λ _. Ctl.the-row) ∷ plain (λ _. row G) ∷ [];
+      result = plain (λ _. Ans.the-row);
     };
     kept = (yes, (yes, tt));
   }
 
   abbrev stayed : Stays (lent .signature .params) (lent .kept)
-  stayed = (stay-ref (0 ∷ []) tt (plain (λ _. T.the-row)), (stay-none (λ _. row G) yes, tt))
+  stayed = (stay-ref (0 ∷ []) tt (plain (λ _. Ctl.the-row)), (stay-none (λ _. row G) yes, tt))
 
   abbrev machG : G .D → Val
   machG d = LL.val G GL d
@@ -140,57 +140,57 @@ module _ (G : Declared) (GL : LL.Laws G) (GP : Plains (fields G)) (GC : LL.Copya
         abbrev passed : Cited .Ghost
         passed = ((tt, tt, tt, (h, (n, tt)), (mach h ∷ [], (machG n ∷ [], tt))), tt)
 
-        goes : Is T.the-row h (mach h ∷ []) → ent 𝓤 (sem 𝓤 H A ftrue) (Cited .pre passed)
+        goes : Is Ctl.the-row h (mach h ∷ []) → ent 𝓤 (sem 𝓤 H A ftrue) (Cited .pre passed)
         goes is =
             qed W (‵ ftrue ∷ []) ∵ nothing ! $ owned ! (row G) (Is (row G)) ((LL.makes G GP) 𝓤 H A) n _ n-is $ fjoin ! $
-            owned ! T.the-row (Is T.the-row) ((LL.makes T.the-type T′.the-plain) 𝓤 H A) h _ is $ fjoin ! $ move ! (1 ∷ 0 ∷ []) $ join ! $ frame ! $ done !
+            owned ! Ctl.the-row (Is Ctl.the-row) ((LL.makes Ctl.the-type Ctl′.the-plain) 𝓤 H A) h _ is $ fjoin ! $ move ! (1 ∷ 0 ∷ []) $ join ! $ frame ! $ done !
 
         -- Of what the function called ensures, the promise alone.
         promised : (r : Told) → ent 𝓤 (ensured 𝓤 H A byValue value-clauses tt (h, (n, tt)) tt r) (fact 𝓤 (Q h n (r .answer) (r .controller)))
         promised r = exE 𝓤 _ (λ ws. snd∗ 𝓤 (sem 𝓤 H A (lasts byValue tt (h, (n, tt)) ws)) (fact 𝓤 (Q h n (r .answer) (r .controller))))
 
         exits : (r : Told) → Q h n (r .answer) (r .controller) → r .answer < 2 ^ 8
-            → ent 𝓤 (⋆ 𝓤 H A (‵ (fobs γ (T.the-row .coded .code (r .controller))) ∷ ‵ (fbor κ (Body (mem T.the-row) b o γ)) ∷ ‵ (flft κ q) ∷ [])) (Post (vint w8 (r .answer)))
+            → ent 𝓤 (⋆ 𝓤 H A (‵ (fobs γ (Ctl.the-row .coded .code (r .controller))) ∷ ‵ (fbor κ (Body (mem Ctl.the-row) b o γ)) ∷ ‵ (flft κ q) ∷ [])) (Post (vint w8 (r .answer)))
         exits r e r-fits =
-            qed W (‵ (fobs γ (T.the-row .coded .code (r .controller))) ∷ ‵ (fbor κ (Body (mem T.the-row) b o γ)) ∷ ‵ (flft κ q) ∷ []) ∵
+            qed W (‵ (fobs γ (Ctl.the-row .coded .code (r .controller))) ∷ ‵ (fbor κ (Body (mem Ctl.the-row) b o γ)) ∷ ‵ (flft κ q) ∷ []) ∵
             suffices ! _ (ends-at 𝓤 H A lent stayed lent-clauses W (((κ, tt), (q, tt), tt, x, at), tt) (vint w8 (r .answer)) (r .answer) (r .controller, (bound (row G .exit yes) (LL.still G GC yes) n, tt)) (tt, (tt, tt))) $
             says ! e $ nothing ! $ move ! (3 ∷ 0 ∷ []) $ join ! $
             frame ! $ feqI ! (List Val) (vptr b o ∷ []) (vptr b o ∷ []) refl $ fjoin3 ! $ nothing ! $ owned ! (row G) (Is (row G)) ((LL.makes G GP) 𝓤 H A) n _ n-is $ fjoin ! $ move ! (1 ∷ 0 ∷ []) $ fjoin ! $
             owned ! u8 (Is u8) (uint-makes 𝓤 H A W w8) (r .answer) _ (refl, r-fits) $ move ! (1 ∷ 0 ∷ []) $ done !
 
         -- What whoever holds the result knows of its fields.
-        is-controller : (r : Told) (w : Val) → Is P.the-row r (w ∷ []) → Is T.the-row (r .controller) (mach (r .controller) ∷ [])
-        is-controller r w is = LL.owed P.the-type P′.the-laws r _ is .1 .0
+        is-controller : (r : Told) (w : Val) → Is Ans.the-row r (w ∷ []) → Is Ctl.the-row (r .controller) (mach (r .controller) ∷ [])
+        is-controller r w is = LL.owed Ans.the-type Ans′.the-laws r _ is .1 .0
 
-        answer-fits : (r : Told) (w : Val) → Is P.the-row r (w ∷ []) → r .answer < 2 ^ 8
-        answer-fits r w is = LL.owed P.the-type P′.the-laws r _ is .0 .1
+        answer-fits : (r : Told) (w : Val) → Is Ans.the-row r (w ∷ []) → r .answer < 2 ^ 8
+        answer-fits r w is = LL.owed Ans.the-type Ans′.the-laws r _ is .0 .1
 
         module _ (C : Calls 𝓤 H) (Λ : Loops 𝓤 H) (fm : FmC 𝓤 H (W .laws) C) (f : Name) (known : Triple 𝓤 (C f) Cited) where
           walk : ent 𝓤 (onEntry 𝓤 H A (lent .signature) (κ, tt) (q, tt) x at) (WpFn 𝓤 H C Λ (code f) (vptr b o ∷ machG n ∷ []) Post)
           walk =
-              qed W ((‵ (flft κ q) ⊛ ‵ ftrue) ∷ ‵ (owns (MutRef (named 0) κ T.the-row ∷ row G ∷ []) x at) ∷ []) ∵ enter ! C Λ (code f) (vptr b o ∷ machG n ∷ []) _ $
+              qed W ((‵ (flft κ q) ⊛ ‵ ftrue) ∷ ‵ (owns (MutRef (named 0) κ Ctl.the-row ∷ row G ∷ []) x at) ∷ []) ∵ enter ! C Λ (code f) (vptr b o ∷ machG n ∷ []) _ $
               alloc1 ! (λ l₀. alloc1 ! (λ l₁. alloc1 ! (λ l₂. alloc1 ! (λ l₃. alloc1 ! (λ l₄. alloc0 ! $ params1 ! $ pass1 ! (init ! 6 refl (tt, tt)) $ pass1 ! (init ! 4 refl (LL.lawful G GL 𝓤 H A W .typed n _ n-is .0)) $ pass0 ! $
               -- the borrow is opened
               move ! (11 ∷ []) $ fsplit ! $ fsplit3 ! $ drop ! $ move ! (13 ∷ []) $ split ! $ move ! (2 ∷ 3 ∷ 0 ∷ []) $
-              opens ! tt T.the-row {h = h} b o (λ vs. spelt ! T.the-row (Is T.the-row) (shows 𝓤 H A T.the-row) (LL.vals T.the-type T′.the-laws) (LL.tells T.the-type T′.the-laws) fullShare h vs b o $
-              use1 W (‵ (fat fullShare T′.mir b o (mach h))) (W .laws .raw-at fullShare T′.mir b o (mach h)) $
-              move ! (1 ∷ []) $ peeks ! T.the-row (Is T.the-row) (shows 𝓤 H A T.the-row) h (mach h ∷ []) (λ g. move ! (1 ∷ 0 ∷ []) $
+              opens ! tt Ctl.the-row {h = h} b o (λ vs. spelt ! Ctl.the-row (Is Ctl.the-row) (shows 𝓤 H A Ctl.the-row) (LL.vals Ctl.the-type Ctl′.the-laws) (LL.tells Ctl.the-type Ctl′.the-laws) fullShare h vs b o $
+              use1 W (‵ (fat fullShare Ctl′.mir b o (mach h))) (W .laws .raw-at fullShare Ctl′.mir b o (mach h)) $
+              move ! (1 ∷ []) $ peeks ! Ctl.the-row (Is Ctl.the-row) (shows 𝓤 H A Ctl.the-row) h (mach h ∷ []) (λ g. move ! (1 ∷ 0 ∷ []) $
               -- [the struct's cell; what it owns; the open borrow; obs; auth; true; n's; _4; …; _3; …; _2; …; _1; …; room for _0; …]
-              assigns ! (of-opd ! (load ! (from ! (hop ! (look ! 13 refl) (stop !))) (look ! 0 refl))) (from ! (stop !)) (init ! 7 refl (LL.lawful T.the-type T′.the-laws 𝓤 H A W .typed h _ g .0)) $
+              assigns ! (of-opd ! (load ! (from ! (hop ! (look ! 13 refl) (stop !))) (look ! 0 refl))) (from ! (stop !)) (init ! 7 refl (LL.lawful Ctl.the-type Ctl′.the-laws 𝓤 H A W .typed h _ g .0)) $
               -- [true; the cell; own; the open borrow; obs; auth; n's; _4; ..]
               move ! (5 ∷ []) $ use1 W (raw (Cited .pre passed)) (goes g) $
               calls-at ! fm Cited known passed (and-then ! (load ! (from ! (stop !)) (look ! 7 refl)) (and-then ! (load ! (from ! (stop !)) (look ! 11 refl)) (no-more !))) (λ w.
-              use1 W (later (some (λ (r : Told). (‵ ftrue ⊛ ‵ (P.the-row .own r (w ∷ []))) ⊛ raw (ensured 𝓤 H A byValue value-clauses tt (h, (n, tt)) tt r)))) (id⊢ 𝓤 _) $ await ! tt $ pick ! (λ r.
+              use1 W (later (some (λ (r : Told). (‵ ftrue ⊛ ‵ (Ans.the-row .own r (w ∷ []))) ⊛ raw (ensured 𝓤 H A byValue value-clauses tt (h, (n, tt)) tt r)))) (id⊢ 𝓤 _) $ await ! tt $ pick ! (λ r.
               split ! $ move ! (1 ∷ []) $ use1 W (raw (fact 𝓤 (Q h n (r .answer) (r .controller)))) (promised r) $ heard ! (Q h n (r .answer) (r .controller)) (λ e. split ! $ drop ! $
-              peeks ! P.the-row (Is P.the-row) (shows 𝓤 H A P.the-row) r (w ∷ []) (λ is.
+              peeks ! Ans.the-row (Is Ans.the-row) (shows 𝓤 H A Ans.the-row) r (w ∷ []) (λ is.
               -- [own; the cell; own; the open borrow; obs; auth; n's; _4; …; _3; …; _2; …; _1; …; room for _0; …]
-              land ! (from ! (stop !)) (init ! 9 refl (LL.lawful P.the-type P′.the-laws 𝓤 H A W .typed r _ is .0)) $
-              rewrite ! 9 (λ (u : Val). ‵ (fat fullShare P′.mir l₃ 0 u)) (ap only (LL.tells P.the-type P′.the-laws r (w ∷ []) is)) refl $
-              assigns ! (of-opd ! (load ! (from ! (fld ! refl (stop !))) (look-in ! 9 (sub ! 1 refl (whole !))))) (from ! (hop ! (look ! 13 refl) (stop !))) (store-in ! 1 (whole !) (LL.lawful T.the-type T′.the-laws 𝓤 H A W .typed (r .controller) _ (is-controller r w is) .0)) $
+              land ! (from ! (stop !)) (init ! 9 refl (LL.lawful Ans.the-type Ans′.the-laws 𝓤 H A W .typed r _ is .0)) $
+              rewrite ! 9 (λ (u : Val). ‵ (fat fullShare Ans′.mir l₃ 0 u)) (ap only (LL.tells Ans.the-type Ans′.the-laws r (w ∷ []) is)) refl $
+              assigns ! (of-opd ! (load ! (from ! (fld ! refl (stop !))) (look-in ! 9 (sub ! 1 refl (whole !))))) (from ! (hop ! (look ! 13 refl) (stop !))) (store-in ! 1 (whole !) (LL.lawful Ctl.the-type Ctl′.the-laws 𝓤 H A W .typed (r .controller) _ (is-controller r w is) .0)) $
               assigns ! (of-opd ! (load ! (from ! (fld ! refl (stop !))) (look-in ! 9 (sub ! 0 refl (whole !))))) (from ! (stop !)) (init ! 15 refl (tt, record { fits = answer-fits r w is })) $
               -- the borrow is closed at the new record
-              drop ! $ move ! (1 ∷ []) $ drop ! $ use1 W (‵ (cellAt fullShare (T.the-row .mir) (mach (r .controller) ∷ []) b o)) (W .laws .at-raw fullShare T′.mir b o (mach (r .controller))) $
-              owned ! T.the-row (Is T.the-row) ((LL.makes T.the-type T′.the-plain) 𝓤 H A) (r .controller) _ (is-controller r w is) $ move ! (1 ∷ 0 ∷ []) $ closes ! tt T.the-row (r .controller) (mach (r .controller) ∷ []) b o $
+              drop ! $ move ! (1 ∷ []) $ drop ! $ use1 W (‵ (cellAt fullShare (Ctl.the-row .mir) (mach (r .controller) ∷ []) b o)) (W .laws .at-raw fullShare Ctl′.mir b o (mach (r .controller))) $
+              owned ! Ctl.the-row (Is Ctl.the-row) ((LL.makes Ctl.the-type Ctl′.the-plain) 𝓤 H A) (r .controller) _ (is-controller r w is) $ move ! (1 ∷ 0 ∷ []) $ closes ! tt Ctl.the-row (r .controller) (mach (r .controller) ∷ []) b o $
               -- [obs; the borrow; the token; n's; _4; …; _3; …; _2; …; _1; …; _0; …]
               returns ! (look ! 12 refl) $ forget ! 4 refl $ forget ! 6 refl $ forget ! 8 refl $ forget ! 10 refl $ forget ! 12 refl $
               move ! (12 ∷ 13 ∷ []) $ free1 ! $ move ! (10 ∷ 11 ∷ []) $ free1 ! $ move ! (8 ∷ 9 ∷ []) $ free1 ! $ move ! (6 ∷ 7 ∷ []) $ free1 ! $ move ! (4 ∷ 5 ∷ []) $ free1 ! $ free0 ! $
@@ -198,12 +198,12 @@ module _ (G : Declared) (GL : LL.Laws G) (GP : Plains (fields G)) (GC : LL.Copya
 
       module _ (W : Given 𝓤 H A) (f : Name) where
         walks : (C : Calls 𝓤 H) (Λ : Loops 𝓤 H) → FmC 𝓤 H (W .laws) C → Triple 𝓤 (C f) Cited → Walks 𝓤 H A lent stayed (WpFn 𝓤 H C Λ (code f)) lent-clauses
-        walks C Λ fm known = walked 𝓤 H A lent stayed lent-clauses (WpFn 𝓤 H C Λ (code f)) (λ κs. (ptr-vals, (LL.vals G GL, tt))) (λ κs. (mut-tells (named 0) (κs .0) T.the-row, (LL.tells G GL, tt)))
+        walks C Λ fm known = walked 𝓤 H A lent stayed lent-clauses (WpFn 𝓤 H C Λ (code f)) (λ κs. (ptr-vals, (LL.vals G GL, tt))) (λ κs. (mut-tells (named 0) (κs .0) Ctl.the-row, (LL.tells G GL, tt)))
             (λ κs qs bounds a g are. via 𝓤 _ (fst∗ 𝓤 _ (emp 𝓤)) (walk W (κs .0) (qs .0) (a .0 .ptr .0) (a .0 .ptr .1) (a .0 .name) (a .0 .now) (a .1 .0) (are .1 .0) C Λ fm f known))
 
         pub meets : (𝓣 : Tables 𝓤 H) → Triple 𝓤 (𝓣 .C f) Cited → Meets 𝓤 H A (lent .signature) (WpFn 𝓤 H (𝓣 .C) (𝓣 .Λ) (code f)) (closing 𝓤 H A lent lent-clauses)
         meets 𝓣 known =
-            walk-meets 𝓤 H A lent stayed W (goes-ref 𝓤 H A W 1 0 tt (plain (λ _. T.the-row)), (goes-none 𝓤 H A W 1 (λ _. row G) yes (λ κs. unsaid (row G .exit yes) (LL.still G GC yes)), tt)) lent-clauses
+            walk-meets 𝓤 H A lent stayed W (goes-ref 𝓤 H A W 1 0 tt (plain (λ _. Ctl.the-row)), (goes-none 𝓤 H A W 1 (λ _. row G) yes (λ κs. unsaid (row G .exit yes) (LL.still G GC yes)), tt)) lent-clauses
             (WpFn 𝓤 H (𝓣 .C) (𝓣 .Λ) (code f)) (WpFn-mono 𝓤 H (W .laws) 𝓣 (code f)) (walks (𝓣 .C) (𝓣 .Λ) (fmOf 𝓤 H (W .laws) 𝓣) known)
 
     -- From the function that is called, which meets its contract, to the one that is lent the controller.

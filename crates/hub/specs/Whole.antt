@@ -11,7 +11,7 @@ use Rattle.cluster.specs.declared.Controller.{Controller}
 use Rattle.cluster.specs.declared.Cluster.{Cluster}
 use Rattle.cluster.specs.declared.Outcome.{Outcome}
 use Rattle.cluster.specs.Layout.{stageOf, at, noView, outlineOf}
-use Rattle.memory.specs.Memory.{abs, Shape}
+use Rattle.refinement.specs.Memory.{abs, Shape}
 use Rattle.steps.specs.Call.{valid, Did}
 use Rattle.hub.specs.declared.Report.{Report}
 use Rattle.hub.specs.Lent.{TakesNews, ReadsLeader, Reads, Hears}
@@ -25,7 +25,7 @@ putBack row c = record {
   joined = row .joined;
   acked = row .acked;
   len = row .len;
-  count = row .count;
+  issued = row .issued;
 }
 
 -- What the board b of a row tells.

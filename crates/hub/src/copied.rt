@@ -32,7 +32,7 @@ pub fn refresh_controller(c: Controller, g: Registry) -> Told
     ensures { λ t. ⌜ TakesNews c g (t .answer) (t .controller) ⌝ }
 {
     let ok = fits::news(c, g);
-    let a = telling::refresh_controller(c, g);
+    let a = steps_controller::refresh_controller(c, g);
     let d = a.controller;
     let n = check(ok, a.answer, 1);
     ended(n, c, d)
@@ -44,7 +44,7 @@ pub fn read_leader(c: Controller, x: Report) -> Told
 {
     let ok = fits::leader(c, x);
     let l = fits::length(x.len);
-    let a = telling::read_leader(c, x.epoch, l);
+    let a = steps_controller::read_leader(c, x.epoch, l);
     let d = a.controller;
     let n = check(ok, a.answer, 1);
     ended(n, c, d)
@@ -56,7 +56,7 @@ pub fn read(c: Controller, x: Report) -> Told
 {
     let ok = fits::report(c, x);
     let l = fits::length(x.len);
-    let a = telling::read(c, x.board, x.joined, l);
+    let a = steps_controller::read(c, x.board, x.joined, l);
     let d = a.controller;
     let n = check(ok, a.answer, 1);
     ended(n, c, d)
@@ -68,7 +68,7 @@ pub fn hear(c: Controller, x: Report) -> Told
 {
     let ok = fits::report(c, x);
     let l = fits::length(x.len);
-    let a = telling::hear(c, x.board, x.epoch, x.joined, l);
+    let a = steps_controller::hear(c, x.board, x.epoch, x.joined, l);
     let d = a.controller;
     let n = check(ok, a.answer, 1);
     ended(n, c, d)

@@ -97,7 +97,7 @@ module _ (m : M.Outline) (list : List ℕ) (ranges : inRange m ≡ true) (words 
   unfolding boardLines
   boards-most = eight-most 46 (boardLine m) (line-most 1 tt) (line-most 2 tt) (line-most 3 tt) (line-most 4 tt) (line-most 5 tt) (line-most 6 tt) (line-most 7 tt) (line-most 8 tt)
 
-  pub ending-most : length (ending m (take (m .count) list)) ≤ 6144
+  pub ending-most : length (ending m (take (m .issued) list)) ≤ 6144
   unfolding ending
   ending-most =
       simp length-append (omega (
@@ -105,6 +105,6 @@ module _ (m : M.Outline) (list : List ℕ) (ranges : inRange m ≡ true) (words 
         registry-most (m .registry) (all .registry),
         control-most (m .controller) (all .controller),
         boards-most,
-        receipts-most (m .count) list (all .committed) words,
+        receipts-most (m .issued) list (all .committed) words,
         all .committed,
       ))

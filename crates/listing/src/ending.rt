@@ -81,12 +81,12 @@ fn put_receipts(out: &mut [u8], at: usize, list: &[u32], n: u16) -> usize
 // Writes the ending at the start of a slice: the registry, the controller, the replicas, the receipts. Inner layer: callers see to it that
 // the row is in range, the list as long as it says, and the slice long enough for any ending.
 pub fn put_ending(out: &mut [u8], row: Cluster, list: &[u32]) -> usize
-    requires { ⌜ (inRange (outlineOf row) ≡ true) × (row .count ≤ length (now list)) × (6144 ≤ length (now out)) ⌝ }
-    ensures { λ r. ⌜ Wrote (now (out .entry)) 0 (ending (outlineOf row) (take (row .count) (now (list .entry)))) (now (out .exit)) r × (r ≤ 6144) ⌝ }
+    requires { ⌜ (inRange (outlineOf row) ≡ true) × (row .issued ≤ length (now list)) × (6144 ≤ length (now out)) ⌝ }
+    ensures { λ r. ⌜ Wrote (now (out .entry)) 0 (ending (outlineOf row) (take (row .issued) (now (list .entry)))) (now (out .exit)) r × (r ≤ 6144) ⌝ }
 {
     let g = row.registry;
     let k = row.controller;
-    let n = row.count;
+    let n = row.issued;
     let a = lines::put_registry(&mut *out, 0, g);
     let b = lines::put_control(&mut *out, a, k);
     let c = put_replicas(&mut *out, b, row);

@@ -15,7 +15,7 @@ logOf store b n = take n (drop (512 * (b - 1)) store)
 
 -- The shown list of document 01: the leader's log, or the receipts while no leader is named.
 abbrev pub visibleOf : List ℕ → List ℕ → ℕ → ℕ → ℕ → List ℕ
-visibleOf store committed leader len count = cond (eqb leader 0) (take count committed) (logOf store leader len)
+visibleOf store committed leader len issued = cond (eqb leader 0) (take issued committed) (logOf store leader len)
 
 -- Where that part begins, a block and an offset in bytes: at the leader's first place of the store, or where the committed list does.
 abbrev pub visibleAt : ℕ × ℕ → ℕ × ℕ → ℕ → ℕ × ℕ

@@ -3,7 +3,7 @@ ghost use Prim.Native.Nat.{_<_, _≤_};
 ghost use lib.Dec.{eqb};
 ghost use denote.Ref.{ptr};
 ghost use lib.ListN.{length, set, getD};
-ghost use Rattle.model.specs.Steps as S;
+ghost use Rattle.model.specs.Steps as T;
 ghost use Rattle.logstore.specs.Log.{place, logOf, visibleOf, visibleAt};
 
 // The log store is a lent slice of 4,096 numbers: replica b owns the 512 places from 512 * (b - 1). Inner layer: callers see to it
@@ -60,7 +60,7 @@ pub fn entry(store: &[u32], b: u8, n: u16) -> u32
 // How many first entries the logs of a and b share, at the lengths m and n. Inner layer: callers see to these four.
 pub fn shared(store: &[u32], a: u8, m: u16, b: u8, n: u16) -> u16
     requires { ⌜ (length (now store) ≡ 4096) × (1 ≤ a) × (a ≤ 8) × (m ≤ 512) × (1 ≤ b) × (b ≤ 8) × (n ≤ 512) ⌝ }
-    ensures { λ r. ⌜ r ≡ length (S.shared eqb (logOf (now (store .entry)) a m) (logOf (now (store .entry)) b n)) ⌝ }
+    ensures { λ r. ⌜ r ≡ length (T.shared eqb (logOf (now (store .entry)) a m) (logOf (now (store .entry)) b n)) ⌝ }
 {
     let mut i: u16 = 0;
     while i < m {
@@ -91,13 +91,13 @@ pub fn visible<'a>(
     committed: &'a [u32],
     leader: u8,
     len: u16,
-    count: u16,
+    issued: u16,
 ) -> &'a [u32]
-    requires { ⌜ (length (now store) ≡ 4096) × (length (now committed) ≡ 512) × (leader ≤ 8) × (len ≤ 512) × (count ≤ 512) ⌝ }
-    ensures { λ r. ⌜ (now r ≡ visibleOf (now (store .entry)) (now (committed .entry)) leader len count) × (ptr r ≡ visibleAt (ptr (store .entry)) (ptr (committed .entry)) leader) ⌝ }
+    requires { ⌜ (length (now store) ≡ 4096) × (length (now committed) ≡ 512) × (leader ≤ 8) × (len ≤ 512) × (issued ≤ 512) ⌝ }
+    ensures { λ r. ⌜ (now r ≡ visibleOf (now (store .entry)) (now (committed .entry)) leader len issued) × (ptr r ≡ visibleAt (ptr (store .entry)) (ptr (committed .entry)) leader) ⌝ }
 {
     if leader == 0 {
-        let all = count as usize;
+        let all = issued as usize;
         return &committed[0..all];
     }
     let start = 512 * ((leader - 1) as usize);

@@ -2,7 +2,7 @@ ghost use mathlib.Core.Path.{_≡_};
 ghost use mathlib.Core.Bool.{true, false};
 ghost use Prim.Native.Nat.{_≤_};
 ghost use Rattle.model.specs.Prelude.{upd};
-ghost use Rattle.model.specs.Members as M;
+ghost use Rattle.model.specs.Members as Q;
 ghost use Rattle.model.specs.Members.{_∩_};
 ghost use Rattle.members.specs.Mask.{bits};
 
@@ -19,7 +19,7 @@ pub fn has(m: u8, b: u8) -> bool
 // b alone. Inner layer: callers see to b.
 pub fn single(b: u8) -> u8
     requires { ⌜ (1 ≤ b) × (b ≤ 8) ⌝ }
-    ensures { λ r. ⌜ bits r ≡ M.only b ⌝ }
+    ensures { λ r. ⌜ bits r ≡ Q.only b ⌝ }
 {
     1u8 << (b - 1)
 }
@@ -50,14 +50,14 @@ pub fn put(m: u8, b: u8, present: bool) -> u8
 
 // How many replicas the set has.
 pub fn size(m: u8) -> u8
-    ensures { λ r. ⌜ r ≡ M.size (bits m) ⌝ }
+    ensures { λ r. ⌜ r ≡ Q.size (bits m) ⌝ }
 {
     u8::count_ones(m) as u8
 }
 
 // How many make a majority of the set.
 pub fn majority(m: u8) -> u8
-    ensures { λ r. ⌜ r ≡ M.quorum (M.size (bits m)) ⌝ }
+    ensures { λ r. ⌜ r ≡ Q.quorum (Q.size (bits m)) ⌝ }
 {
     size(m) / 2 + 1
 }
@@ -71,14 +71,14 @@ pub fn both(m: u8, q: u8) -> u8
 
 // Whether some majority of m lies in q.
 pub fn has_quorum(m: u8, q: u8) -> bool
-    ensures { λ r. ⌜ r ≡ M.hasQuorum (bits m) (bits q) ⌝ }
+    ensures { λ r. ⌜ r ≡ Q.hasQuorum (bits m) (bits q) ⌝ }
 {
     majority(m) <= size(both(m, q))
 }
 
 // The lowest replica of the set, 0 for the empty set.
 pub fn lowest(m: u8) -> u8
-    ensures { λ r. ⌜ r ≡ M.lowest (bits m) ⌝ }
+    ensures { λ r. ⌜ r ≡ Q.lowest (bits m) ⌝ }
 {
     if m == 0 {
         return 0;

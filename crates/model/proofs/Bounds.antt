@@ -150,18 +150,18 @@ module _ (𝓔 : Entries) where
       registry = k .registry;
       controller = k .controller;
       replicas = k .replicas;
-      logs = let full = ltb→lt (length (log b)) 512 (h .1 .1 .0) in record {
+      logs = let full = ltb→lt (length (log b)) 512 (h 13) in record {
         acked = counts-in acked _ 512 b (upd-in (acked b) 512 b _ (omega arith) (k .logs .acked b)) (k .logs .acked);
         log = log-in log b _ (one-more (log b) _ full) (k .logs .log);
       };
     }
     bounds-keep (commit b) h = record { registry = k .registry; controller = k .controller; replicas = k .replicas; logs = k .logs }
-    bounds-keep (add b) h = record { registry = ltb→lt (registry .view .epoch) 4000 (h .1 .1 .1 .0); controller = k .controller; replicas = k .replicas; logs = k .logs }
-    bounds-keep (remove b) h = record { registry = ltb→lt (registry .view .epoch) 4000 (h .1 .1 .1 .1 .0); controller = k .controller; replicas = k .replicas; logs = k .logs }
+    bounds-keep (add b) h = record { registry = ltb→lt (registry .view .epoch) 4000 (h 7); controller = k .controller; replicas = k .replicas; logs = k .logs }
+    bounds-keep (remove b) h = record { registry = ltb→lt (registry .view .epoch) 4000 (h 7); controller = k .controller; replicas = k .replicas; logs = k .logs }
     bounds-keep changeLeader h = record {
       registry =
           let left = upd (registry .view .members) (registry .view .leader) false in
-          let up = ltb→lt (registry .view .epoch) 4000 (h .1 .1 .0) in
+          let up = ltb→lt (registry .view .epoch) 4000 (h 7) in
           by-cond (λ (r : Registry). r .view .epoch ≤ 4000) (eqb (size left) 1) {x = succeeded registry left} {y = vacated registry left} (λ _. up) (λ _. up);
       controller = k .controller;
       replicas = k .replicas;
@@ -191,7 +191,7 @@ module _ (𝓔 : Entries) where
       replicas = k .replicas;
       logs = record {
         acked = k .logs .acked;
-        log = log-in log b _ (one-more (log b) _ (omega (arith, ltb→lt (length (log b)) (length (log (view b .leader))) (h .1 .1 .1 .1 .1 .0), k .logs .log (view b .leader)))) (k .logs .log);
+        log = log-in log b _ (one-more (log b) _ (omega (arith, ltb→lt (length (log b)) (length (log (view b .leader))) (h 12), k .logs .log (view b .leader)))) (k .logs .log);
       };
     }
     bounds-keep (acknowledge a b) h = record {
@@ -226,7 +226,7 @@ module _ (𝓔 : Entries) where
       registry = k .registry;
       replicas = k .replicas;
       logs = k .logs;
-      controller = heard-in _ (controller .view .leader) 0 (omega arith) (λ e. absurd (omega arith)) (λ _. k .controller .reads (eqb→eq (stageNumber (controller .stage)) 1 (h .0)));
+      controller = heard-in _ (controller .view .leader) 0 (omega arith) (λ e. absurd (omega arith)) (λ _. k .controller .reads (eqb→eq (stageNumber (controller .stage)) 1 (h 15)));
     }
     bounds-keep (read b) h = record {
       registry = k .registry;
@@ -235,11 +235,11 @@ module _ (𝓔 : Entries) where
       controller = heard-in _ b 0 (omega arith) (k .controller .reads) (k .controller .readsOn);
     }
     bounds-keep setNormal h = record {
-      registry = ltb→lt (registry .view .epoch) 4000 (h .1 .1 .1 .0);
+      registry = ltb→lt (registry .view .epoch) 4000 (h 7);
       replicas = k .replicas;
       logs = k .logs;
       controller = record {
-        view = record { epoch = omega (arith, ltb→lt (registry .view .epoch) 4000 (h .1 .1 .1 .0)); term = k .controller .view .term; leader = k .controller .view .leader };
+        view = record { epoch = omega (arith, ltb→lt (registry .view .epoch) 4000 (h 7)); term = k .controller .view .term; leader = k .controller .view .leader };
         heard = λ _. omega arith;
         heardJoined = λ _. omega arith;
         reads = λ e. absurd (omega arith);
@@ -250,25 +250,25 @@ module _ (𝓔 : Entries) where
       registry = k .registry;
       replicas = k .replicas;
       logs = k .logs;
-      controller = heard-in _ b (joined b) (joined-in i k b (h .0) .1) (k .controller .reads) (k .controller .readsOn);
+      controller = heard-in _ b (joined b) (joined-in i k b (h 1) .1) (k .controller .reads) (k .controller .readsOn);
     }
     bounds-keep (install b) h = record {
-      registry = ltb→lt (registry .view .epoch) 4000 (h .1 .1 .1 .1 .1 .0);
+      registry = ltb→lt (registry .view .epoch) 4000 (h 7);
       replicas = k .replicas;
       logs = k .logs;
       controller = record {
         view = record {
-          epoch = omega (arith, ltb→lt (registry .view .epoch) 4000 (h .1 .1 .1 .1 .1 .0));
-          term = omega (arith, ltb→lt (registry .view .epoch) 4000 (h .1 .1 .1 .1 .1 .0));
-          leader = replica-range b (h .0) .1;
+          epoch = omega (arith, ltb→lt (registry .view .epoch) 4000 (h 7));
+          term = omega (arith, ltb→lt (registry .view .epoch) 4000 (h 7));
+          leader = replica-range b (h 1) .1;
         };
         heard = λ _. omega arith;
         heardJoined = λ _. omega arith;
-        reads = λ _. replica-ne b (h .0);
+        reads = λ _. replica-ne b (h 1);
         readsOn = λ e. absurd (omega arith);
       };
     }
-    bounds-keep malformed h = absurd (h .0)
+    bounds-keep malformed h = absurd (h 1)
 
     pub step-bounds : (st : Step) → Bounds (step 𝓔 s st)
     step-bounds st = by-cond Bounds (accepted (outline s) st) (λ t. bounds-keep st (facts (checks (outline s) st) t)) (λ _. k)

@@ -1,4 +1,4 @@
--- Change leader (5) keeps the invariant: the registry is settled, so more than half of its members hold every safe list. Assumes nothing.
+-- Change leader (5) keeps the invariant: the registry is steady, so more than half of its members hold every safe list. Assumes nothing.
 use mathlib.Core.Bool.{Bool, true, false, not, cond, _&&_, _||_}
 use mathlib.Core.List.{List}
 use mathlib.Core.Logic.{_⊎_, inl, inr, _≢_}
@@ -14,7 +14,7 @@ use Rattle.model.specs.Steps.{changeLeader, install, checks, next, withR
 use Rattle.model.proofs.Tests.{Holds, split-and, join-and, by-test, by-cond, not-left, not-right, not-both, eqb-same, eq-test, ne-fact, le-or-lt, eq-or-ne, upd-same, upd-other, upd-twice, upd-idle, is-true, is-false}
 use Rattle.model.proofs.Prefix.{begins-refl, begins-trans, begins-length, begins-compare}
 use Rattle.model.proofs.Quorum.{overlap, meet-sub, quorum-half, replica-ne, size-with, size-without, size-some, lowest-in}
-use Rattle.model.proofs.Invariant.{RegistryOk, fits, ControllerOk, reading, Firm, vacant, settled, reads, electors, LeaderOk, HeardOk, holding, Backed, held, read, Ok, Stale, Blocked, passed, stuck, Outvoted, SafeIn, OutvotedIn, Inv}
+use Rattle.model.proofs.Invariant.{RegistryOk, fits, ControllerOk, reading, Firm, vacant, steady, reads, electors, LeaderOk, HeardOk, holding, Backed, held, read, Ok, Stale, Blocked, passed, stuck, Outvoted, SafeIn, OutvotedIn, Inv}
 use Rattle.model.proofs.Static as Static
 use Rattle.model.proofs.Static.{o, _⇒_, chooses, holding-of, Holder, witness, Later, later}
 use Rattle.model.proofs.Raise.{raised-views, raised-logs, raised-controller, raised-heard, not-reading, outvoted-under}
@@ -39,16 +39,16 @@ module _ (𝓔 : Entries) where
       left = upd members (registry .view .leader) false
 
       two : 2 ≤ size members
-      two = leb→le 2 (size members) (h .1 .0)
+      two = leb→le 2 (size members) (h 6)
 
       firm : Firm registry controller
-      firm = settled (h .0) two
+      firm = steady (h 4) two
 
       named : registry .view .leader ≡ o i
-      named = Static.named i (normal-named (registry .status) (h .0))
+      named = Static.named i (normal-named (registry .status) (h 4))
 
       led : T (members (o i))
-      led = i .registry .member (normal-named (registry .status) (h .0))
+      led = i .registry .member (normal-named (registry .status) (h 4))
 
       all : electors registry (o i) ≡ members
       all = upd-idle members (o i) true (is-true (members (o i)) led)
@@ -56,7 +56,7 @@ module _ (𝓔 : Entries) where
       unread : T (reading registry controller) → ⊥
       unread t =
           let z = split-and (eqb (controller .view .epoch) (registry .view .epoch)) (eqb (stageNumber (controller .stage)) 2) t in
-          no-boards (registry .status) (controller .stage) (h .0) (eqb→eq (stageNumber (controller .stage)) 2 (z .1)) (i .controller .stage (eqb→eq (controller .view .epoch) (registry .view .epoch) (z .0)))
+          no-boards (registry .status) (controller .stage) (h 4) (eqb→eq (stageNumber (controller .stage)) 2 (z .1)) (i .controller .stage (eqb→eq (controller .view .epoch) (registry .view .epoch) (z .0)))
         where
           no-boards : (g : Status) (x : Stage) → T (isNormal g) → stageNumber x ≡ 2 → T (fits g x) → ⊥
           no-boards normal idle t e f = omega arith
@@ -132,7 +132,7 @@ module _ (𝓔 : Entries) where
 
           loose : Firm r′ controller → ⊥
           loose (vacant t) = t
-          loose (settled t l) = omega (arith, one)
+          loose (steady t l) = omega (arith, one)
           loose (reads t) = not-reading i r′ refl t
 
           newly : view (o i) .leader ≡ o i → Outvoted (Ok (lowest left) r′ controller joined log) (lowest left) view joined acked log (o i)

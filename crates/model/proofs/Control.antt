@@ -14,7 +14,7 @@ use Rattle.model.specs.Steps.{refreshController, readLeader, read, hear,
 use Rattle.model.proofs.Tests.{Holds, split-and, join-and, by-test, at-or, eqb-same, eq-test, upd-idle, is-true}
 use Rattle.model.proofs.Prefix.{begins-length}
 use Rattle.model.proofs.Invariant as Invariant
-use Rattle.model.proofs.Invariant.{fits, ControllerOk, reading, Firm, vacant, settled, reads, electors, LeaderOk, HeardOk, Backed, held, Ok, SafeIn, Inv}
+use Rattle.model.proofs.Invariant.{fits, ControllerOk, reading, Firm, vacant, steady, reads, electors, LeaderOk, HeardOk, Backed, held, Ok, SafeIn, Inv}
 use Rattle.model.proofs.Static as Static
 use Rattle.model.proofs.Static.{o, _⇒_, still-outvoted}
 
@@ -68,7 +68,7 @@ module _ {E : Type 0} {L : ℕ → ℕ} {s : State E} (i : Inv L s) where
 
     same-firm : Firm registry c′ → Firm registry controller
     same-firm (vacant t) = vacant t
-    same-firm (settled t n) = settled t n
+    same-firm (steady t n) = steady t n
     same-firm (reads t) = reads t
 
     grows : (x : ℕ) → controller .heard x ≤ c′ .heard x
@@ -105,26 +105,26 @@ module _ (𝓔 : Entries) where
 
         firm : Firm registry c′ → Firm registry controller
         firm (vacant t) = vacant t
-        firm (settled t n) = settled t n
+        firm (steady t n) = steady t n
         firm (reads t) = absurd (not-boards (registry .status) (split-and (eqb (r .epoch) (r .epoch)) (eqb (stageNumber (stageFor (registry .status))) 2) t .1))
 
         go : {n : ℕ} → Backed (o i) registry controller joined log n → Backed (o i) registry c′ joined log n
         go (held k) = held k
-        go (Invariant.read t _) = absurd (omega (arith, ltb→lt (c .epoch) (r .epoch) (h .0), eqb→eq (c .epoch) (r .epoch) (split-and (eqb (c .epoch) (r .epoch)) (eqb (stageNumber (controller .stage)) 2) t .0)))
+        go (Invariant.read t _) = absurd (omega (arith, ltb→lt (c .epoch) (r .epoch) (h 12), eqb→eq (c .epoch) (r .epoch) (split-and (eqb (c .epoch) (r .epoch)) (eqb (stageNumber (controller .stage)) 2) t .0)))
 
     pub read-keeps : (b : ℕ) → Holds (checks (outline s) (read b)) → Inv L (next 𝓔 s (read b))
-    read-keeps b h = one-heard i b 0 (ltb→lt (controller .heard b) (suc (length (log b))) (h .1 .1 .1 .1 .1 .0)) (record {
+    read-keeps b h = one-heard i b 0 (ltb→lt (controller .heard b) (suc (length (log b))) (h 12)) (record {
       read = λ e g. at-or b
-          (λ m k. (eqb→eq (joined b) (c .term) (h .1 .1 .1 .1 .0) ∙ ap (λ v. v .term) (i .controller .current e), rw (eqb-same b) (omega arith)))
+          (λ m k. (eqb→eq (joined b) (c .term) (h 11) ∙ ap (λ v. v .term) (i .controller .current e), rw (eqb-same b) (omega arith)))
           (λ x n m. rw (ne-eqb x b n) (i .heard .read e g x m));
-      heard = λ e g. absurd (omega (arith, eqb→eq (stageNumber (controller .stage)) 2 (h .1 .0)));
+      heard = λ e g. absurd (omega (arith, eqb→eq (stageNumber (controller .stage)) 2 (h 15)));
     })
 
     pub hear-keeps : (b : ℕ) → Holds (checks (outline s) (hear b)) → Inv L (next 𝓔 s (hear b))
-    hear-keeps b h = one-heard i b (joined b) (ltb→lt (controller .heard b) (suc (length (log b))) (h .1 .1 .1 .1 .0)) (record {
-      read = λ e g. absurd (g (eqb→eq (stageNumber (controller .stage)) 3 (h .1 .0)));
+    hear-keeps b h = one-heard i b (joined b) (ltb→lt (controller .heard b) (suc (length (log b))) (h 12)) (record {
+      read = λ e g. absurd (g (eqb→eq (stageNumber (controller .stage)) 3 (h 15)));
       heard = λ e g. at-or b
-          (λ m k. (eqb→eq (view b .epoch) (c .epoch) (h .1 .1 .1 .0) ∙ e, rw (eqb-same b), rw (eqb-same b)))
+          (λ m k. (eqb→eq (view b .epoch) (c .epoch) (h 16) ∙ e, rw (eqb-same b), rw (eqb-same b)))
           (λ x n m. rw (ne-eqb x b n) (i .heard .heard e g x m));
     })
 
@@ -137,7 +137,7 @@ module _ (𝓔 : Entries) where
       after = heardOf controller boards lead (length (log lead)) 0
 
       at-leader : stageNumber (controller .stage) ≡ 1
-      at-leader = eqb→eq (stageNumber (controller .stage)) 1 (h .0)
+      at-leader = eqb→eq (stageNumber (controller .stage)) 1 (h 15)
 
       module _ (e : c .epoch ≡ r .epoch) where
         not-choosing : T (not (isChoosing (registry .status)))
@@ -147,7 +147,7 @@ module _ (𝓔 : Entries) where
         is-o = ap (λ v. v .leader) (i .controller .current e) ∙ Static.named i not-choosing
 
         fresh : view (o i) ≡ r
-        fresh = i .views (o i) .current (ap (λ x. view x .epoch) (sym is-o) ∙ eqb→eq (view lead .epoch) (c .epoch) (h .1 .0) ∙ e)
+        fresh = i .views (o i) .current (ap (λ x. view x .epoch) (sym is-o) ∙ eqb→eq (view lead .epoch) (c .epoch) (h 16) ∙ e)
 
         whole : r .members ≡ electors registry (o i)
         whole = sym (upd-idle (r .members) (o i) true (is-true (r .members (o i)) (i .registry .member not-choosing)))
@@ -173,12 +173,12 @@ module _ (𝓔 : Entries) where
         where
           took : Firm registry after → view (o i) .term ≡ r .term
           took (vacant t) = i .leader .took (vacant t)
-          took (settled t n) = i .leader .took (settled t n)
+          took (steady t n) = i .leader .took (steady t n)
           took (reads t) = ap (λ v. v .term) (fresh (up-to-date t))
 
           whole-view : Firm registry after → view (o i) .leader ≡ o i → view (o i) .members ≡ electors registry (o i)
           whole-view (vacant t) = i .leader .whole (vacant t)
-          whole-view (settled t n) = i .leader .whole (settled t n)
+          whole-view (steady t n) = i .leader .whole (steady t n)
           whole-view (reads t) = λ _. ap (λ v. v .members) (fresh (up-to-date t)) ∙ whole (up-to-date t)
 
           new : (x : List Entry) → SafeIn L s x → T (eqb (c .epoch) (r .epoch)) → Backed (o i) registry after joined log (length x)
@@ -194,5 +194,5 @@ module _ (𝓔 : Entries) where
 
               go : Firm registry after → Backed (o i) registry after joined log (length x)
               go (vacant u) = keep (k .backed (vacant u))
-              go (settled u n) = keep (k .backed (settled u n))
+              go (steady u n) = keep (k .backed (steady u n))
               go (reads u) = absurd (T-not (eqb (c .epoch) (r .epoch)) t (eq-test (c .epoch) (r .epoch) (up-to-date u)))

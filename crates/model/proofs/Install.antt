@@ -14,7 +14,7 @@ use Rattle.model.specs.Steps.{changeLeader, install, checks, next, withR
 use Rattle.model.proofs.Tests.{Holds, split-and, join-and, by-test, by-cond, not-left, not-right, not-both, eqb-same, eq-test, ne-fact, le-or-lt, eq-or-ne, upd-same, upd-other, upd-twice, upd-idle, is-true, is-false}
 use Rattle.model.proofs.Prefix.{begins-refl, begins-trans, begins-length, begins-compare}
 use Rattle.model.proofs.Quorum.{overlap, meet-sub, quorum-half, replica-ne, size-with, size-without, size-some, lowest-in}
-use Rattle.model.proofs.Invariant.{RegistryOk, fits, ControllerOk, reading, Firm, vacant, settled, reads, electors, LeaderOk, HeardOk, holding, Backed, held, read, Ok, Stale, Blocked, passed, stuck, Outvoted, SafeIn, OutvotedIn, Inv}
+use Rattle.model.proofs.Invariant.{RegistryOk, fits, ControllerOk, reading, Firm, vacant, steady, reads, electors, LeaderOk, HeardOk, holding, Backed, held, read, Ok, Stale, Blocked, passed, stuck, Outvoted, SafeIn, OutvotedIn, Inv}
 use Rattle.model.proofs.Static as Static
 use Rattle.model.proofs.Static.{o, _⇒_, chooses, holding-of, Holder, witness, Later, later}
 use Rattle.model.proofs.Raise.{raised-views, raised-logs, raised-controller, raised-heard, not-reading, outvoted-under}
@@ -34,10 +34,10 @@ module _ (𝓔 : Entries) where
       behind = rankedNotAbove controller b
 
       at-choosing : stageNumber (controller .stage) ≡ 3
-      at-choosing = eqb→eq (stageNumber (controller .stage)) 3 (h .1 .0)
+      at-choosing = eqb→eq (stageNumber (controller .stage)) 3 (h 15)
 
       now : controller .view .epoch ≡ registry .view .epoch
-      now = eqb→eq (controller .view .epoch) (registry .view .epoch) (h .1 .1 .1 .0)
+      now = eqb→eq (controller .view .epoch) (registry .view .epoch) (h 16)
 
       current : controller .view ≡ registry .view
       current = i .controller .current now
@@ -46,13 +46,13 @@ module _ (𝓔 : Entries) where
       open-office = chooses (registry .status) (controller .stage) at-choosing (i .controller .stage now)
 
       asked : T (leb 1 (controller .heard b)) × T (hasQuorum (controller .view .members) behind)
-      asked = split-and (leb 1 (controller .heard b)) (hasQuorum (controller .view .members) behind) (h .1 .1 .1 .1 .0)
+      asked = split-and (leb 1 (controller .heard b)) (hasQuorum (controller .view .members) behind) (h 14)
 
       quorum : T (hasQuorum m behind)
       quorum = subst (λ (v : View). T (hasQuorum (v .members) behind)) current (asked .1)
 
       member : T (m b)
-      member = subst (λ (v : View). T (v .members b)) current (h .1 .1 .0)
+      member = subst (λ (v : View). T (v .members b)) current (h 5)
 
       -- what was heard of a member still stands
       abbrev Stands : ℕ → Type 0
@@ -108,7 +108,7 @@ module _ (𝓔 : Entries) where
 
       loose : Firm r′ c′ → ⊥
       loose (vacant t) = t
-      loose (settled t l) = t
+      loose (steady t l) = t
       loose (reads t) = split-and (eqb (suc (registry .view .epoch)) (suc (registry .view .epoch))) false t .1
 
       -- Those behind the new leader have its log or less of the term's, and follow nobody until they take the next news.
@@ -132,7 +132,7 @@ module _ (𝓔 : Entries) where
               (λ j. record { begins = above-all x k t (j ∙ i .leader .took firm); backed = λ f. absurd (loose f) })
 
       pub install-keeps : Later L s (next 𝓔 s (install b))
-      install-keeps = renamed b (new-leader i firm b (h .0) m waiting c′ joins holds loose tt member
+      install-keeps = renamed b (new-leader i firm b (h 1) m waiting c′ joins holds loose tt member
           (record {
             epoch = omega arith;
             stage = λ _. tt;

@@ -53,7 +53,7 @@ reading r c = eqb (c .view .epoch) (r .view .epoch) && eqb (stageNumber (c .stag
 -- the leader may be replaced at the next raise, or at the one after set normal
 pub data Firm (r : Registry) (c : Controller) : Type 0 where
   vacant : T (isChoosing (r .status)) → Firm r c
-  settled : T (isNormal (r .status)) → 2 ≤ size (r .view .members) → Firm r c
+  steady : T (isNormal (r .status)) → 2 ≤ size (r .view .members) → Firm r c
   reads : T (reading r c) → Firm r c
 
 -- the members, and the leader o that may have left them

@@ -16,7 +16,7 @@ use Rattle.model.specs.Steps.{add, remove, setNormal, checks, next, with
 use Rattle.model.proofs.Tests.{Holds, split-and, join-and, by-test, by-cond, eq-test, ne-fact, upd-other, upd-idle, is-true}
 use Rattle.model.proofs.Quorum.{meet-sub, quorum-half, replica-ne}
 use Rattle.model.proofs.Invariant as Invariant
-use Rattle.model.proofs.Invariant.{RegistryOk, ViewOk, ControllerOk, reading, Firm, vacant, settled, reads, electors, LeaderOk, LogsOk, HeardOk, holding, Backed, held, Ok, Stale, Blocked, passed, stuck, Outvoted, SafeIn, OutvotedIn, Inv}
+use Rattle.model.proofs.Invariant.{RegistryOk, ViewOk, ControllerOk, reading, Firm, vacant, steady, reads, electors, LeaderOk, LogsOk, HeardOk, holding, Backed, held, Ok, Stale, Blocked, passed, stuck, Outvoted, SafeIn, OutvotedIn, Inv}
 use Rattle.model.proofs.Static as Static
 use Rattle.model.proofs.Static.{o, _⇒_, to-holding, still-outvoted}
 use Rattle.model.proofs.Control.{waits, waits-named}
@@ -105,7 +105,7 @@ module _ {E : Type 0} {L : ℕ → ℕ} {s : State E} (i : Inv L s) where
 
       loose : Firm r′ controller → ⊥
       loose (vacant t) = T-not (isChoosing g) after t
-      loose (settled t n) = few t n
+      loose (steady t n) = few t n
       loose (reads t) = not-reading r′ refl t
 
       safe : SafeIn L s ⇒ Ok (o i) r′ controller joined log
@@ -118,11 +118,11 @@ module _ (𝓔 : Entries) where
     open State s using (registry, controller, view, joined, acked, log, committed)
 
     pub add-keeps : (b : ℕ) → Holds (checks (outline s) (add b)) → Inv L (next 𝓔 s (add b))
-    add-keeps b h = loosened i _ waiting (h .1 .0) tt (by-cond T (eqb (o i) b) (λ _. tt) (λ _. i .registry .member (h .1 .0))) (λ t. absurd t)
+    add-keeps b h = loosened i _ waiting (h 4) tt (by-cond T (eqb (o i) b) (λ _. tt) (λ _. i .registry .member (h 4))) (λ t. absurd t)
 
     pub remove-keeps : (b : ℕ) → Holds (checks (outline s) (remove b)) → Inv L (next 𝓔 s (remove b))
-    remove-keeps b h = loosened i left _ (h .1 .0) (by-cond (λ g. T (not (isChoosing g))) (eqb (size left) 1) (λ _. tt) (λ _. tt))
-        (subst T (sym (upd-other (registry .view .members) b false (o i) (λ e. ne-fact b (registry .view .leader) (h .1 .1 .1 .0) (sym e ∙ sym (Static.named i (h .1 .0)))))) (i .registry .member (h .1 .0)))
+    remove-keeps b h = loosened i left _ (h 4) (by-cond (λ g. T (not (isChoosing g))) (eqb (size left) 1) (λ _. tt) (λ _. tt))
+        (subst T (sym (upd-other (registry .view .members) b false (o i) (λ e. ne-fact b (registry .view .leader) (h 6) (sym e ∙ sym (Static.named i (h 4)))))) (i .registry .member (h 4)))
         (by-cond (λ g. T (isNormal g) → 2 ≤ size left → ⊥) (eqb (size left) 1) (λ t _ two. omega (arith, eqb→eq (size left) 1 t)) (λ _ t. absurd t))
       where
         left : Members
@@ -131,10 +131,10 @@ module _ (𝓔 : Entries) where
     -- Set normal: a quorum of the members holds what the controller read of the leader.
     module _ (h : Holds (checks (outline s) setNormal)) where
       at-boards : stageNumber (controller .stage) ≡ 2
-      at-boards = eqb→eq (stageNumber (controller .stage)) 2 (h .0)
+      at-boards = eqb→eq (stageNumber (controller .stage)) 2 (h 15)
 
       now : controller .view .epoch ≡ registry .view .epoch
-      now = eqb→eq (controller .view .epoch) (registry .view .epoch) (h .1 .0)
+      now = eqb→eq (controller .view .epoch) (registry .view .epoch) (h 16)
 
       current : controller .view ≡ registry .view
       current = i .controller .current now
@@ -143,7 +143,7 @@ module _ (𝓔 : Entries) where
       not-choosing = waits-named (registry .status) (waits (registry .status) (controller .stage) 2 at-boards (omega arith) (omega arith) (i .controller .stage now))
 
       firm : Firm registry controller
-      firm = reads (join-and (eqb (controller .view .epoch) (registry .view .epoch)) (eqb (stageNumber (controller .stage)) 2) (h .1 .0) (h .0))
+      firm = reads (join-and (eqb (controller .view .epoch) (registry .view .epoch)) (eqb (stageNumber (controller .stage)) 2) (h 16) (h 15))
 
       -- whoever is heard at the leader's length or more holds as many entries
       holds : (n x : ℕ) → suc n ≤ controller .heard (o i) → T (registry .view .members x) → T (heardEnough controller x) → T (holding joined log (registry .view .term) n x)
@@ -163,7 +163,7 @@ module _ (𝓔 : Entries) where
           (sym (upd-idle (registry .view .members) (o i) true (is-true (registry .view .members (o i)) (i .registry .member not-choosing))))
           (omega (
             arith,
-            quorum-half (registry .view .members) (heardEnough controller) (subst (λ (v : View). T (hasQuorum (v .members) (heardEnough controller))) current (h .1 .1 .0)),
+            quorum-half (registry .view .members) (heardEnough controller) (subst (λ (v : View). T (hasQuorum (v .members) (heardEnough controller))) current (h 14)),
             meet-sub (registry .view .members) (heardEnough controller) (registry .view .members) (holding joined log (registry .view .term) n) (λ x _ m t. (m, holds n x l m t)),
           ))
 
@@ -185,7 +185,7 @@ module _ (𝓔 : Entries) where
       }
         where
           r′ : Registry
-          r′ = Steps.settled registry
+          r′ = Steps.madeNormal registry
 
           safe : SafeIn L s ⇒ SafeIn L (next 𝓔 s setNormal)
           safe x k = record { begins = k .begins; backed = λ _. go (k .backed firm) }

@@ -29,7 +29,7 @@ pub record InRange (m : Outline) : Type 0 where
   pub heardJoined : (b : ℕ) → T (isReplica b) → m .controller .heardJoined b ≤ 4000
   pub acked : (a b : ℕ) → T (isReplica a) → T (isReplica b) → m .acked a b ≤ 512
   pub logs : (b : ℕ) → T (isReplica b) → m .len b ≤ 512
-  pub committed : m .count ≤ 512
+  pub committed : m .issued ≤ 512
   pub named : T (not (isChoosing (m .registry .status))) → m .registry .view .leader ≢ 0
   pub reads : stageNumber (m .controller .stage) ≡ 1 → m .controller .view .leader ≢ 0
   pub readsOn : stageNumber (m .controller .stage) ≡ 2 → m .controller .view .leader ≢ 0
@@ -95,7 +95,7 @@ to-read boards b f g = g refl
 to-read Stage.choosing b f g = tt
 
 module _ (m : Outline) where
-  open Outline m using (registry, controller, view, joined, acked, len, count)
+  open Outline m using (registry, controller, view, joined, acked, len, issued)
 
   pub to-ranges : T (inRange m) → InRange m
   to-ranges t =
@@ -112,7 +112,7 @@ module _ (m : Outline) where
         heard = λ b k. leb→le (controller .heard b) 513 (r b k .1 .1 .1 .0);
         heardJoined = λ b k. leb→le (controller .heardJoined b) 4000 (r b k .1 .1 .1 .1 .0);
         acked = λ a b k j. leb→le (acked a b) 512 (of-eight (λ x. leb (acked a x) 512) (r a k .1 .1 .1 .1 .1 .0) b j);
-        committed = leb→le count 512 (h .1 .1 .1 .1 .0);
+        committed = leb→le issued 512 (h .1 .1 .1 .1 .0);
         named = λ n. ne-fact (registry .view .leader) 0 (named-of (isChoosing (registry .status)) (not (eqb (registry .view .leader) 0)) (h .1 .1 .0) n);
         reads = λ e. read (λ z. omega arith) (λ z. omega arith);
         readsOn = λ e. read (λ z. omega arith) (λ z. omega arith);
@@ -130,7 +130,7 @@ module _ (m : Outline) where
             (
               to-read (controller .stage) (not (eqb c 0)) (λ e. nonzero c (r .reads e)) (λ e. nonzero c (r .readsOn e)),
               (
-                le→leb count 512 (r .committed),
+                le→leb issued 512 (r .committed),
                 (
                   to-eight (λ b. every (replicaRanges m b)) (λ b k. to-every (replicaRanges m b) (
                     to-view (view b) (r .views b k),

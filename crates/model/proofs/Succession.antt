@@ -15,7 +15,7 @@ use Rattle.model.specs.Steps.{changeLeader, install, checks, next, withR
 use Rattle.model.proofs.Tests.{Holds, split-and, join-and, by-test, by-cond, not-left, not-right, not-both, eqb-same, eq-test, ne-fact, le-or-lt, eq-or-ne, upd-same, upd-other, upd-twice, upd-idle, is-true, is-false}
 use Rattle.model.proofs.Prefix.{begins-refl, begins-trans, begins-length, begins-compare}
 use Rattle.model.proofs.Quorum.{overlap, meet-sub, quorum-half, replica-ne, size-with, size-without, size-some, lowest-in}
-use Rattle.model.proofs.Invariant.{RegistryOk, fits, ControllerOk, reading, Firm, vacant, settled, reads, electors, LeaderOk, HeardOk, holding, Backed, held, read, Ok, Stale, Blocked, passed, stuck, Outvoted, SafeIn, OutvotedIn, Inv}
+use Rattle.model.proofs.Invariant.{RegistryOk, fits, ControllerOk, reading, Firm, vacant, steady, reads, electors, LeaderOk, HeardOk, holding, Backed, held, read, Ok, Stale, Blocked, passed, stuck, Outvoted, SafeIn, OutvotedIn, Inv}
 use Rattle.model.proofs.Static as Static
 use Rattle.model.proofs.Static.{o, _⇒_, chooses, holding-of, Holder, witness, Later, later}
 use Rattle.model.proofs.Raise.{raised-views, raised-logs, raised-controller, raised-heard, not-reading, outvoted-under}

@@ -102,11 +102,15 @@ upd-idle f b v e = fun-ext (at-or b (rw (eqb-same b) (sym e)) (λ x n. rw (ne-eq
 
 -- Checks
 
--- What passed checks tell, in their order.
+-- The test of the check with refusal n, true where no check has it. (No step has two checks with one refusal.)
+abbrev pub asks : ℕ → List Check → Bool
+asks n [] = true
+asks n ((c else m) ∷ cs) = cond (eqb n m) c (asks n cs)
+
+-- What passed checks tell, by refusal: with h : Holds cs, the fact of the check that refuses with 11 is `h 11`.
 abbrev pub Holds : List Check → Type 0
-Holds [] = Unit {0}
-Holds ((c else n) ∷ cs) = T c × Holds cs
+Holds cs = (n : ℕ) → T (asks n cs)
 
 pub facts : (cs : List Check) → T (passes cs) → Holds cs
-facts [] t = tt
-facts ((c else n) ∷ cs) t = let h = split-and c (passes cs) t in (h .0, facts cs (h .1))
+facts [] t n = tt
+facts ((c else m) ∷ cs) t n = let h = split-and c (passes cs) t in by-cond T (eqb n m) (λ _. h .0) (λ _. facts cs (h .1) n)

@@ -19,7 +19,7 @@ use Rattle.model.specs.Claim.{LeadsUnder, after, receipts, Safe, Safety}
 use Rattle.model.proofs.Tests.{Holds, facts, by-test, by-cond, is-true, is-false, upd-idle, eqb-same}
 use Rattle.model.proofs.Prefix.{begins-refl, begins-nil, begins-more}
 use Rattle.model.proofs.Quorum.{by-replica, replica-ne}
-use Rattle.model.proofs.Invariant.{ViewOk, Firm, vacant, settled, reads, Stale, Inv}
+use Rattle.model.proofs.Invariant.{ViewOk, Firm, vacant, steady, reads, Stale, Inv}
 use Rattle.model.proofs.Static.{acting, named-only, Later, later}
 use Rattle.model.proofs.Replicas.{append-keeps, refresh-keeps, join-keeps, receive-keeps, acknowledge-keeps}
 use Rattle.model.proofs.Commit.{commit-keeps}
@@ -68,7 +68,7 @@ opened-inv {E} b k = record {
 
     loose : Firm (opened {E = E} b .registry) (opened {E = E} b .controller) → ⊥
     loose (vacant t) = t
-    loose (settled t n) = omega (arith, alone)
+    loose (steady t n) = omega (arith, alone)
     loose (reads t) = t
 
     fresh : (a : ℕ) → Stale 1 (cond (isReplica a) (firstView b) noView) a → ⊥
@@ -96,7 +96,7 @@ module _ (𝓔 : Entries) where
   keeps i setNormal h = later (set-normal-keeps 𝓔 i h) (omega arith)
   keeps i (hear b) h = later (hear-keeps 𝓔 i b h) (omega arith)
   keeps i (install b) h = install-keeps 𝓔 i b h
-  keeps i malformed h = absurd (h .0)
+  keeps i malformed h = absurd (h 1)
 
   -- and so does every record, and every list of records.
   pub step-keeps : {L : ℕ → ℕ} {s : State Entry} → Inv L s → (st : Step) → Later L s (step 𝓔 s st)

@@ -26,7 +26,7 @@ abbrev pub viewRanges : View → List Bool
 viewRanges v = isEpoch (v .epoch) ∷ isEpoch (v .term) ∷ leb (v .leader) 8 ∷ []
 
 module _ (m : Outline) where
-  open Outline m using (registry, controller, view, joined, acked, len, count)
+  open Outline m using (registry, controller, view, joined, acked, len, issued)
 
   -- What is held by and heard of the replica b. A heard length is none, or 0 to 512: see Controller.
   abbrev pub replicaRanges : ℕ → List Bool
@@ -44,7 +44,7 @@ module _ (m : Outline) where
 
   abbrev pub ranges : List Bool
   ranges =
-      every (viewRanges (registry .view)) ∷ every (viewRanges (controller .view)) ∷ leaderNamed ∷ controllerLeaderNamed ∷ leb count 512
+      every (viewRanges (registry .view)) ∷ every (viewRanges (controller .view)) ∷ leaderNamed ∷ controllerLeaderNamed ∷ leb issued 512
       ∷ every (eight (λ b. every (replicaRanges b))) ∷ []
 
   -- A row that refusal 1 lets through.

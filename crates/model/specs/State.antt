@@ -68,7 +68,7 @@ pub record Outline : Type 0 where
   pub joined : ℕ → ℕ
   pub acked : ℕ → ℕ → ℕ
   pub len : ℕ → ℕ
-  pub count : ℕ
+  pub issued : ℕ
 
 abbrev pub outline : {E : Type 0} → State E → Outline
 outline s = record {
@@ -78,7 +78,7 @@ outline s = record {
   joined = s .joined;
   acked = s .acked;
   len = λ b. length (s .log b);
-  count = length (s .committed);
+  issued = length (s .committed);
 }
 
 abbrev pub isNormal : Status → Bool

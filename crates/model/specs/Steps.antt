@@ -86,8 +86,8 @@ vacated r left = record {
 }
 
 -- Step 13.
-abbrev pub settled : Registry → Registry
-settled r = record {
+abbrev pub madeNormal : Registry → Registry
+madeNormal r = record {
   view = record { epoch = suc (r .view .epoch); term = r .view .term; leader = r .view .leader; members = r .view .members };
   status = normal;
 }
@@ -122,7 +122,7 @@ shared same (x ∷ xs) (y ∷ ys) = cond (same x y) (x ∷ shared same xs ys) []
 
 -- The checks of a step, in the order written, each with its refusal. "1 before a step's own checks."
 module _ (m : Outline) where
-  open Outline m using (registry, controller, view, joined, acked, len, count)
+  open Outline m using (registry, controller, view, joined, acked, len, issued)
 
   -- "b's leader is b".
   abbrev leads : ℕ → Bool
@@ -156,8 +156,8 @@ module _ (m : Outline) where
       ∷ (ltb (len b) 512 else 13) ∷ []
   checks (commit b) = (isReplica b else 1)
       ∷ (leads b else 8)
-      ∷ (ltb count (len b) else 12)
-      ∷ (hasQuorum (view b .members) (countedAbove (acked b) count) else 14) ∷ []
+      ∷ (ltb issued (len b) else 12)
+      ∷ (hasQuorum (view b .members) (countedAbove (acked b) issued) else 14) ∷ []
   checks (add b) = (isReplica b else 1)
       ∷ (not (isChoosing (registry .status)) else 4)
       ∷ (not (registry .view .members b) else 5)
@@ -284,7 +284,7 @@ module _ (𝓔 : Entries) where
     next (read b) = withController s (heardOf controller (controller .stage) b (length (log b)) 0)
     next setNormal =
         let v = controller .view in
-        withController (withRegistry s (settled registry))
+        withController (withRegistry s (madeNormal registry))
         (deaf (record { epoch = suc (registry .view .epoch); term = v .term; leader = v .leader; members = v .members }) idle)
     next (hear b) = withController s (heardOf controller (controller .stage) b (length (log b)) (joined b))
     next (install b) =

@@ -60,16 +60,16 @@ module _ (s : Text) (e : isSheet s ≡ true) (row : Cluster) (store list ns : Li
   some = omega (arith, room (length s) (sheet-whole s e))
 
   -- The list holds the receipts given.
-  kept : take (row .count) list ≡ receipts values (recordAt s .board) (following s k)
+  kept : take (row .issued) list ≡ receipts values (recordAt s .board) (following s k)
   kept = ap (λ x. x .committed) (h .state) ∙ safe values (recordAt s .board) (sheet-real s e) (following s k) .kept
 
-  pub listed : lines s ns (length s / 8) ++ ending (outlineOf row) (take (row .count) list) ≡ listing s
+  pub listed : lines s ns (length s / 8) ++ ending (outlineOf row) (take (row .issued) list) ≡ listing s
   unfolding listing listingOf
   listed =
       ap₂ (λ x y. x ++ y) (ap (lines s ns) (sym some) ∙ lines-are s k row store list ns e h) (ap₂ ending (h .outlined) kept)
       ∙ append-assoc (answerLine 1 0 0) (answerLines 2 (following s k) (answers values (opened (recordAt s .board)) (following s k))) (ending (outline (stateAt s k)) (receipts values (recordAt s .board) (following s k)))
 
-  pub delivered : {text out out′ : Text} {r : ℕ} → text ≡ ending (outlineOf row) (take (row .count) list) → Delivered (lines s ns (length s / 8) ++ text) out out′ r → (r ≡ result s out) × (out′ ≡ left s out)
+  pub delivered : {text out out′ : Text} {r : ℕ} → text ≡ ending (outlineOf row) (take (row .issued) list) → Delivered (lines s ns (length s / 8) ++ text) out out′ r → (r ≡ result s out) × (out′ ≡ left s out)
   unfolding result left
   delivered {text} {out} {out′} {r} t d =
       let l : lines s ns (length s / 8) ++ text ≡ listing s = ap (λ x. lines s ns (length s / 8) ++ x) t ∙ listed in (

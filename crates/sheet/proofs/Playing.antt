@@ -23,8 +23,8 @@ use Rattle.model.proofs.Theorem.{run-append}
 use Rattle.cluster.specs.declared.Cluster.{Cluster}
 use Rattle.cluster.specs.declared.Outcome.{Outcome}
 use Rattle.cluster.specs.Layout.{outlineOf}
-use Rattle.memory.specs.Memory.{abs, Shape, Ready, Turns}
-use Rattle.control.specs.Opening.{Opens, OpenedWith}
+use Rattle.refinement.specs.Memory.{abs, Shape, Ready, Turns}
+use Rattle.steps_central.specs.Opening.{Opens, OpenedWith}
 use Rattle.steps.specs.Call.{Did}
 use Rattle.steps.proofs.Calling.{ready, all-tests, did-step, did-lengths}
 use Rattle.text.specs.Text.{Text}
@@ -91,8 +91,8 @@ module _ (s : Text) (sheet : isSheet s ≡ true) (k : ℕ) (row : Cluster) (stor
   pub ran-fits : inRange (outlineOf row) ≡ true
   ran-fits = ap inRange (h .outlined) ∙ is-true (inRange (outline (stateAt s k))) (in-range values b (sheet-real s sheet) (following s k))
 
-  pub ran-count : row .count ≤ length list
-  ran-count = omega (arith, h .long, to-ranges (outlineOf row) (of-true ran-fits) .committed)
+  pub ran-issued : row .issued ≤ length list
+  ran-issued = omega (arith, h .long, to-ranges (outlineOf row) (of-true ran-fits) .committed)
 
   -- An answer has two digits at most.
   pub ran-small : (i : ℕ) → i ≤ k → getD ns i 0 < 100

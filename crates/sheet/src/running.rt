@@ -4,8 +4,8 @@ ghost use mathlib.Core.Path.{_≡_};
 ghost use mathlib.Core.Bool.{true};
 ghost use Prim.Native.Nat.{_-_, _/_};
 ghost use lib.ListN.{length};
-ghost use Rattle.memory.specs.Memory.{rowOf, Shape};
-ghost use Rattle.control.specs.Opening.{OpenedWith};
+ghost use Rattle.refinement.specs.Memory.{rowOf, Shape};
+ghost use Rattle.steps_central.specs.Opening.{OpenedWith};
 ghost use Rattle.records.specs.Bytes.{recordAt, isSheet};
 ghost use Rattle.sheet.specs.Running.{Ran};
 use cluster::Cluster;
@@ -29,7 +29,7 @@ struct Centre {
     registry: Registry,
     controller: Controller,
     views: [View; 8],
-    count: u16,
+    issued: u16,
 }
 
 // The records after the opening, from the opened row: `o` and the lent places. Callers see to it that these are the opening's.
@@ -43,14 +43,14 @@ fn walk(
     list: &mut [u32],
     answers: &mut [u8],
 ) -> Centre
-    requires { ⌜ (isSheet (now sheet) ≡ true) × Shape (rowOf (o .registry) (o .controller) (o .views) (now joined) (now acked) (now len) (o .count)) × Ran (now sheet) 0 (rowOf (o .registry) (o .controller) (o .views) (now joined) (now acked) (now len) (o .count)) (now store) (now list) (now answers) ⌝ }
-    ensures { λ r. ⌜ Ran (now (sheet .entry)) (length (now (sheet .entry)) / 8 - 1) (rowOf (r .registry) (r .controller) (r .views) (now (joined .exit)) (now (acked .exit)) (now (len .exit)) (r .count)) (now (store .exit)) (now (list .exit)) (now (answers .exit)) ⌝ }
+    requires { ⌜ (isSheet (now sheet) ≡ true) × Shape (rowOf (o .registry) (o .controller) (o .views) (now joined) (now acked) (now len) (o .issued)) × Ran (now sheet) 0 (rowOf (o .registry) (o .controller) (o .views) (now joined) (now acked) (now len) (o .issued)) (now store) (now list) (now answers) ⌝ }
+    ensures { λ r. ⌜ Ran (now (sheet .entry)) (length (now (sheet .entry)) / 8 - 1) (rowOf (r .registry) (r .controller) (r .views) (now (joined .exit)) (now (acked .exit)) (now (len .exit)) (r .issued)) (now (store .exit)) (now (list .exit)) (now (answers .exit)) ⌝ }
 {
     let n = sheet.len() / 8 - 1;
     let mut g = o.registry;
     let mut c = o.controller;
     let mut views = o.views;
-    let mut count = o.count;
+    let mut issued = o.issued;
     let mut k: usize = 0;
     while k < n {
         let r = decode(sheet, 8 * k + 8);
@@ -58,7 +58,7 @@ fn walk(
             g,
             c,
             views,
-            count,
+            issued,
             &mut *joined,
             &mut *acked,
             &mut *len,
@@ -66,9 +66,9 @@ fn walk(
             &mut *list,
             r,
         );
-        let s = x.settled;
+        let s = x.central;
         answers[k + 1] = s.answer;
-        count = x.count;
+        issued = x.issued;
         let i = x.place;
         let v = x.view;
         views[i] = v; // By its place, which is faster than the eight as a whole (docs/MEASURES.md).
@@ -82,7 +82,7 @@ fn walk(
         registry: g,
         controller: c,
         views: views,
-        count: count,
+        issued: issued,
     }
 }
 
@@ -103,7 +103,7 @@ pub fn play(sheet: &[u8], store: &mut [u32], list: &mut [u32], answers: &mut [u8
         registry: g,
         controller: c,
         views: views,
-        count: row.count,
+        issued: row.issued,
     };
     let x = walk(
         sheet,
@@ -125,6 +125,6 @@ pub fn play(sheet: &[u8], store: &mut [u32], list: &mut [u32], answers: &mut [u8
         joined: joined,
         acked: acked,
         len: len,
-        count: x.count,
+        issued: x.issued,
     }
 }

@@ -22,8 +22,8 @@ use Rattle.cluster.specs.declared.Outcome.{Outcome}
 use Rattle.cluster.specs.Layout.{at, noView, outlineOf}
 use Rattle.cluster.proofs.Laws.{at-index}
 use Rattle.logstore.specs.Log.{logOf, visibleOf}
-use Rattle.memory.specs.Memory.{abs, Shape, Ready, storeAfter, listAfter, Turns}
-use Rattle.memory.proofs.Turning.{at-none, outline-abs}
+use Rattle.refinement.specs.Memory.{abs, Shape, Ready, storeAfter, listAfter, Turns}
+use Rattle.refinement.proofs.Turning.{at-none, outline-abs}
 use Rattle.steps.specs.Call.{valid, shown, Did}
 
 -- Ranges of the replicas are bounds for every number.
@@ -41,7 +41,7 @@ ready row s e =
     record {
       shape = s;
       len = bounded 0 (row .len) (λ x. x) 512 (s .len) (omega arith) (r .logs);
-      count = r .committed;
+      issued = r .committed;
       leaders = bounded noView (row .views) (λ v. v .leader) 8 (s .views) (omega arith) (λ b k. r .views b k .leader);
       reads = λ g. let n = r .reads g in replica (row .controller .view .leader) (omega (arith, n)) (r .controller .leader);
     }
@@ -115,7 +115,7 @@ module _ (st : Step) (row : Cluster) (store list : List ℕ) where
       record {
         answer = t .answer ∙ ap (λ u. cond u (answerOf (outlineOf row) st) 1) (sym v);
         state = t .state ∙ ap (λ u. cond u (step values (abs row store list) st) (abs row store list)) (sym v);
-        outlined = sym (outline-abs (x .row) (t .eight) (t .len) (t .count) store′ list′ f l) ∙ ap outline (t .state) ∙ ap (λ u. cond u (outline (step values (abs row store list) st)) (outlineOf row)) (sym v);
+        outlined = sym (outline-abs (x .row) (t .eight) (t .len) (t .issued) store′ list′ f l) ∙ ap outline (t .state) ∙ ap (λ u. cond u (outline (step values (abs row store list) st)) (outlineOf row)) (sym v);
         stored = t .stored ∙ ap (λ u. cond (u && accepted (outlineOf row) st) (storeAfter st row store) store) (sym v);
         listed = t .listed ∙ ap (λ u. cond (u && accepted (outlineOf row) st) (listAfter st row store list) list) (sym v);
         refused = t .refused;
@@ -141,13 +141,13 @@ shown-log row store l small hl n =
 
 pub shown-is : (row : Cluster) (store list : List ℕ) (l : ℕ) → valid row store list ≡ true → row .registry .view .leader ≤ 8
     → (isReplica (row .registry .view .leader) ≡ true → l ≡ row .registry .view .leader)
-    → visibleOf store list (row .registry .view .leader) (getD (row .len) (l - 1) 0) (row .count) ≡ shown row store list
+    → visibleOf store list (row .registry .view .leader) (getD (row .len) (l - 1) 0) (row .issued) ≡ shown row store list
 shown-is row store list l v small hl =
     go (eqb (row .registry .view .leader) 0) (λ t. shown-log row store l small hl (ne-fact (row .registry .view .leader) 0 t))
     ∙ ap (λ t. cond t (cond (eqb (row .registry .view .leader) 0) (abs row store list .committed) (abs row store list .log (row .registry .view .leader))) []) (sym v)
   where
     go : (t : Bool) → (T (not t) → logOf store (row .registry .view .leader) (getD (row .len) (l - 1) 0) ≡ logOf store (row .registry .view .leader) (at 0 (row .len) (row .registry .view .leader)))
-        → cond t (take (row .count) list) (logOf store (row .registry .view .leader) (getD (row .len) (l - 1) 0)) ≡ cond t (take (row .count) list) (logOf store (row .registry .view .leader) (at 0 (row .len) (row .registry .view .leader)))
+        → cond t (take (row .issued) list) (logOf store (row .registry .view .leader) (getD (row .len) (l - 1) 0)) ≡ cond t (take (row .issued) list) (logOf store (row .registry .view .leader) (at 0 (row .len) (row .registry .view .leader)))
     go true h = refl
     go false h = h tt
 

@@ -19,7 +19,7 @@ use Rattle.model.proofs.Range.{from-ranges}
 use Rattle.model.proofs.Theorem.{opened-inv, step-keeps, run-append, safe}
 use Rattle.model.proofs.Bounds.{Bounds, opened-bounds, step-bounds, all-in}
 use Rattle.cluster.specs.Layout.{outlineOf}
-use Rattle.memory.specs.Memory.{abs}
+use Rattle.refinement.specs.Memory.{abs}
 use Rattle.steps.specs.Call.{valid, Did}
 use Rattle.steps.specs.Calls.{Held, stateOf, Calls, stop, call, Begins, Follows, CallsSafe}
 use Rattle.steps.proofs.Calling.{all-tests, did-lengths}

@@ -14,7 +14,7 @@ use Rattle.logstore.specs.Log.{visibleAt}
 use Rattle.cluster.specs.declared.Cluster.{Cluster}
 use Rattle.cluster.specs.declared.Outcome.{Outcome}
 use Rattle.cluster.specs.Layout.{outlineOf}
-use Rattle.memory.specs.Memory.{abs, storeAfter, listAfter}
+use Rattle.refinement.specs.Memory.{abs, storeAfter, listAfter}
 
 -- Refusal 1, apart from a step's fields: "a store not 4,096 or receipts not 512 long, a row with a number outside the ranges", leaders.
 abbrev pub valid : Cluster → List ℕ → List ℕ → Bool

@@ -16,8 +16,8 @@ use Rattle.model.specs.Claim.{LeadsUnder, after, receipts}
 use Rattle.cluster.specs.declared.Cluster.{Cluster}
 use Rattle.cluster.specs.declared.Outcome.{Outcome}
 use Rattle.cluster.specs.Layout.{outlineOf}
-use Rattle.memory.specs.Memory.{abs}
-use Rattle.control.specs.Opening.{Opens}
+use Rattle.refinement.specs.Memory.{abs}
+use Rattle.steps_central.specs.Opening.{Opens}
 use Rattle.steps.specs.Call.{valid, Did}
 
 -- What a caller holds: a row, the log store, the committed list.

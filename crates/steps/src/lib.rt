@@ -6,8 +6,8 @@ ghost use lib.ListN.{length};
 ghost use denote.Ref.{ptr};
 ghost use Rattle.model.specs.Steps as T;
 ghost use Rattle.model.specs.Records as R;
-ghost use Rattle.memory.specs.Memory.{Ready, Turns};
-ghost use Rattle.control.specs.Opening.{Opens};
+ghost use Rattle.refinement.specs.Memory.{Ready, Turns};
+ghost use Rattle.steps_central.specs.Opening.{Opens};
 ghost use Rattle.steps.specs.Calls.{CallsSafe};
 ghost use Rattle.records.specs.Record.{recordOf};
 ghost use Rattle.steps.specs.Call.{Did, shown, shownAt};
@@ -40,7 +40,7 @@ fn turn(row: Cluster, store: &mut [u32], list: &mut [u32], r: Record) -> Outcome
         g,
         c,
         views,
-        row.count,
+        row.issued,
         &mut joined,
         &mut acked,
         &mut len,
@@ -51,7 +51,7 @@ fn turn(row: Cluster, store: &mut [u32], list: &mut [u32], r: Record) -> Outcome
     let i = x.place;
     let v = x.view;
     views[i] = v;
-    let s = x.settled;
+    let s = x.central;
     let h = s.registry;
     let d = s.controller;
     Outcome {
@@ -63,7 +63,7 @@ fn turn(row: Cluster, store: &mut [u32], list: &mut [u32], r: Record) -> Outcome
             joined: joined,
             acked: acked,
             len: len,
-            count: x.count,
+            issued: x.issued,
         },
     }
 }
@@ -88,7 +88,7 @@ pub fn step(row: Cluster, store: &mut [u32], list: &mut [u32], r: Record) -> Out
 pub fn opening(b: u8) -> Outcome
     ensures { λ x. ⌜ Opens b x ⌝ }
 {
-    control::opening(b)
+    steps_central::opening(b)
 }
 
 // The fifteen steps, each as the record that stands for it.
@@ -382,7 +382,7 @@ pub fn visible<'a>(row: Cluster, store: &'a [u32], list: &'a [u32]) -> &'a [u32]
     let l = cluster::seat(v.leader);
     let i = (l - 1) as usize;
     let n = row.len[i];
-    logstore::visible(store, list, v.leader, n, row.count)
+    logstore::visible(store, list, v.leader, n, row.issued)
 }
 
 // Demand 3 about the calls: for every opening and every list of records, whatever the lent places held before. Nothing to

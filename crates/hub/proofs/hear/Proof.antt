@@ -1,7 +1,7 @@
 -- `hub::hear` meets its contract: the walk of `Walk`, at its names. Assumes nothing.
 use Rattle.hub.specs.Lent.{Hears}
-use Rattle.hub.proofs.Report as G
-use Rattle.hub.proofs.Report.Laws as G′
+use Rattle.hub.proofs.Report as Rep
+use Rattle.hub.proofs.Report.Laws as Rep′
 use Rattle.hub.proofs.Walk.{met}
 use Rattle.hub.proofs.copied.hear.Symbol as called
 use Rattle.hub.proofs.copied.hear.Met as thm
@@ -12,4 +12,4 @@ use Rattle.hub.proofs.hear.Code as code
 pub hear-spec : {M : Type 1} → statement M
 unfolding code.routine
 hear-spec 𝓤 H 𝓜 𝓖 𝓡 =
-    met G.the-type G′.the-laws G′.the-plain G′.the-copy Hears 𝓤 H 𝓜 𝓖 𝓡 code.env key.name called.name (code.unfolded 𝓤 H 𝓜 𝓡) called.routine code.calls-hub·copied·hear (thm.met 𝓤 H 𝓜 𝓖 𝓡)
+    met Rep.the-type Rep′.the-laws Rep′.the-plain Rep′.the-copy Hears 𝓤 H 𝓜 𝓖 𝓡 code.env key.name called.name (code.unfolded 𝓤 H 𝓜 𝓡) called.routine code.calls-hub·copied·hear (thm.met 𝓤 H 𝓜 𝓖 𝓡)

@@ -1,7 +1,7 @@
 -- `hub::read_leader` meets its contract: the walk of `Walk`, at its names. Assumes nothing.
 use Rattle.hub.specs.Lent.{ReadsLeader}
-use Rattle.hub.proofs.Report as G
-use Rattle.hub.proofs.Report.Laws as G′
+use Rattle.hub.proofs.Report as Rep
+use Rattle.hub.proofs.Report.Laws as Rep′
 use Rattle.hub.proofs.Walk.{met}
 use Rattle.hub.proofs.copied.read_leader.Symbol as called
 use Rattle.hub.proofs.copied.read_leader.Met as thm
@@ -12,4 +12,4 @@ use Rattle.hub.proofs.read_leader.Code as code
 pub read-leader-spec : {M : Type 1} → statement M
 unfolding code.routine
 read-leader-spec 𝓤 H 𝓜 𝓖 𝓡 =
-    met G.the-type G′.the-laws G′.the-plain G′.the-copy ReadsLeader 𝓤 H 𝓜 𝓖 𝓡 code.env key.name called.name (code.unfolded 𝓤 H 𝓜 𝓡) called.routine code.calls-hub·copied·read-leader (thm.met 𝓤 H 𝓜 𝓖 𝓡)
+    met Rep.the-type Rep′.the-laws Rep′.the-plain Rep′.the-copy ReadsLeader 𝓤 H 𝓜 𝓖 𝓡 code.env key.name called.name (code.unfolded 𝓤 H 𝓜 𝓡) called.routine code.calls-hub·copied·read-leader (thm.met 𝓤 H 𝓜 𝓖 𝓡)

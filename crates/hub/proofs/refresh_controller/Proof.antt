@@ -1,7 +1,7 @@
 -- `hub::refresh_controller` meets its contract: the walk of `Walk`, at its names. Assumes nothing.
 use Rattle.hub.specs.Lent.{TakesNews}
-use Rattle.cluster.proofs.Registry as G
-use Rattle.cluster.proofs.Registry.Laws as G′
+use Rattle.cluster.proofs.Registry as Reg
+use Rattle.cluster.proofs.Registry.Laws as Reg′
 use Rattle.hub.proofs.Walk.{met}
 use Rattle.hub.proofs.copied.refresh_controller.Symbol as called
 use Rattle.hub.proofs.copied.refresh_controller.Met as thm
@@ -12,4 +12,4 @@ use Rattle.hub.proofs.refresh_controller.Code as code
 pub refresh-controller-spec : {M : Type 1} → statement M
 unfolding code.routine
 refresh-controller-spec 𝓤 H 𝓜 𝓖 𝓡 =
-    met G.the-type G′.the-laws G′.the-plain G′.the-copy TakesNews 𝓤 H 𝓜 𝓖 𝓡 code.env key.name called.name (code.unfolded 𝓤 H 𝓜 𝓡) called.routine code.calls-hub·copied·refresh-controller (thm.met 𝓤 H 𝓜 𝓖 𝓡)
+    met Reg.the-type Reg′.the-laws Reg′.the-plain Reg′.the-copy TakesNews 𝓤 H 𝓜 𝓖 𝓡 code.env key.name called.name (code.unfolded 𝓤 H 𝓜 𝓡) called.routine code.calls-hub·copied·refresh-controller (thm.met 𝓤 H 𝓜 𝓖 𝓡)

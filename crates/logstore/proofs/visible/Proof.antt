@@ -19,7 +19,7 @@ part-result-end c = search needs
 returns : tie.Need-returns
 returns c =
     let a = c .before .before .args in
-    let e : a .count - 0 ≡ a .count = omega arith in
+    let e : a .issued - 0 ≡ a .issued = omega arith in
     let p = a .committed .ptr in
     let o : 0 * 4 + p .1 ≡ p .1 = omega arith in
     (rw (e, eq-eqb _ _ (c .before .if1 .taken)), rw (eq-eqb _ _ (c .before .if1 .taken)) (ap (λ i. (p .0, i)) o))

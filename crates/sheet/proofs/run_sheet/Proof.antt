@@ -7,7 +7,7 @@ use lib.Seq.{length-take-le}
 use denote.Ref.{now}
 use borrow.Author.Tests.{not-true, not-false}
 use Rattle.text.proofs.Laws.{wrote-length}
-use Rattle.sheet.proofs.Playing.{sheet-most, ran-fits, ran-count, ran-small}
+use Rattle.sheet.proofs.Playing.{sheet-most, ran-fits, ran-issued, ran-small}
 use Rattle.sheet.proofs.Listings.{read-back, no-sheet, delivered}
 use borrow.Author.Needs.{needs}
 use Rattle.sheet.proofs.run_sheet.Statement.{statement}
@@ -44,7 +44,7 @@ put-ending-requires c κs =
     let s = now (c .before .before .before .before .before .before .before .before .before .before .before .before .before .args .sheet) in
     let e = sym (c .before .before .before .before .before .before .before .before .before .before .is-sheet .ensures) ∙ not-false _ (c .before .before .before .before .before .before .before .before .before .if1 .left) in
     let h = c .before .before .before .before .before .play .ensures in
-    (ran-fits s e _ _ _ _ _ h, ran-count s e _ _ _ _ _ h, omega arith)
+    (ran-fits s e _ _ _ _ _ h, ran-issued s e _ _ _ _ _ h, omega arith)
 
 slice-aggregate-deliver : tie.Need-slice-aggregate-deliver
 slice-aggregate-deliver c = search needs

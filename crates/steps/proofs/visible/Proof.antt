@@ -5,7 +5,7 @@ use native.Mathlib.Omega.{arith}
 use lib.ListN.{length-map}
 use denote.Ref.{now}
 use borrow.Author.Tests.{not-true, not-false}
-use Rattle.memory.proofs.Turning.{short-at}
+use Rattle.refinement.proofs.Turning.{short-at}
 use Rattle.steps.proofs.Calling.{ready, short-store, short-list, all-tests, shown-is, leader-small}
 use borrow.Author.Needs.{needs}
 use Rattle.steps.proofs.visible.Statement.{statement}
@@ -93,7 +93,7 @@ visible-requires c κs =
       acked = sym (length-map (a .t1 .acked) _) ∙ c .before .before .before .before .before .before .before .before .before .before .good .0 .1 .1 .1 .1 .1 .1 .0 .1 .0 .1;
       len = sym (length-map (a .t1 .len) _) ∙ c .before .before .before .before .before .before .before .before .before .before .good .0 .1 .1 .1 .1 .1 .1 .1 .0 .1 .0 .1;
     }) t in
-    (c .before .before .before .before .before .before .before .if1 .left, c .before .before .before .before .before .before .if2 .left, leader-small (a .t1) t, short-at (a .t1 .len) (c .before .seat .result) (r .len) (c .before .seat .ensures .0), r .count)
+    (c .before .before .before .before .before .before .before .if1 .left, c .before .before .before .before .before .before .if2 .left, leader-small (a .t1) t, short-at (a .t1 .len) (c .before .seat .result) (r .len) (c .before .seat .ensures .0), r .issued)
 
 returns-4 : tie.Need-returns-4
 returns-4 c =

@@ -15,14 +15,14 @@ use Rattle.listing.proofs.ending.put_ending.Statement.{statement}
 use Rattle.listing.proofs.ending.put_ending.Tie as tie
 
 -- The ending is short, as the list's values are words of 32 bits.
-most : (k : tie.After-shared-slice-known) → length (ending (outlineOf (k .before .before .args .row)) (take (k .before .before .args .row .count) (now (k .before .before .args .list)))) ≤ 6144
+most : (k : tie.After-shared-slice-known) → length (ending (outlineOf (k .before .before .args .row)) (take (k .before .before .args .row .issued) (now (k .before .before .args .list)))) ≤ 6144
 most k =
     let e = k .before .before in
     ending-most (outlineOf (e .args .row)) (now (e .args .list)) (e .pre .0) (λ i. omega (arith, k .shared-slice-known .given i))
 
 -- What is still to be written after the call j.
 abbrev text3 : tie.Start → Text
-text3 e = receiptsLine (take (e .args .row .count) (now (e .args .list)))
+text3 e = receiptsLine (take (e .args .row .issued) (now (e .args .list)))
 
 abbrev text2 : tie.Start → Text
 text2 e = boardLines (outlineOf (e .args .row)) ++ text3 e

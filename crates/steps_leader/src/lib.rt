@@ -1,0 +1,182 @@
+ghost use mathlib.Core.Path.{_≡_};
+ghost use mathlib.Core.Bool.{not, _&&_};
+ghost use mathlib.Core.List.{List};
+ghost use Prim.Native.Nat.{ℕ, _+_, _-_, _*_, _≤_};
+ghost use lib.Dec.{eqb};
+ghost use lib.ListN.{length};
+ghost use Rattle.model.specs.Prelude.{firstFailed};
+ghost use Rattle.model.specs.Members as Q;
+ghost use Rattle.model.specs.Steps as T;
+ghost use Rattle.members.specs.Mask.{bits, under};
+ghost use Rattle.cluster.specs.declared.Registry.{Registry};
+ghost use Rattle.cluster.specs.declared.Controller.{Controller};
+ghost use Rattle.cluster.specs.Layout.{atPair};
+ghost use Rattle.refinement.specs.Memory.{rowOf, Short, Leaves};
+ghost use Rattle.steps_leader.specs.Checks.{appendChecks, commitChecks, acknowledgeChecks};
+use cluster::View;
+use cluster::check;
+use cluster::replica;
+use cluster::seat;
+use refinement::lookup;
+use refinement::view;
+
+// The steps of a leader: append (1), commit (2), acknowledge (9), over the parts of a row that they use: the replicas' views by
+// value; their joined epochs, counts and lengths, the store and the list lent. Each promise is for every row with these parts, at
+// most 512 receipts and lent places of their lengths.
+// Inner layer: callers see to it that the lent places have their lengths and that no log is longer than 512.
+
+// What step 2 answers, and the number of receipts it leaves.
+pub struct Given {
+    pub answer: u8,
+    pub issued: u16,
+}
+
+// Step 1: what b is answered: its view v, the length n of its log.
+fn may_append(v: View, n: u16, b: u8) -> u8
+    ensures { λ x. ⌜ x ≡ firstFailed (appendChecks v n b) ⌝ }
+{
+    let n13 = check(n < 512, 0, 13);
+    let n8 = check(v.leader == b, n13, 8);
+    check(replica(b), n8, 1)
+}
+
+// Step 1, b appends the value. Inner layer: callers see to the lengths.
+pub fn append(
+    views: [View; 8],
+    acked: &mut [u16],
+    len: &mut [u16],
+    store: &mut [u32],
+    b: u8,
+    value: u32,
+) -> u8
+    requires { ⌜ (length (now acked) ≡ 64) × Short (now len) × (length (now store) ≡ 4096) ⌝ }
+    ensures { λ x. ⌜ ((g : Registry) (c : Controller) (joined : List ℕ) (issued : ℕ) (list : List ℕ) → issued ≤ 512 → length list ≡ 512 → Leaves (T.Step.append b value) (rowOf g c views joined (now (acked .entry)) (now (len .entry)) issued) (now (store .entry)) list x (rowOf g c views joined (now (acked .exit)) (now (len .exit)) issued) (now (store .exit)) list) ⌝ }
+{
+    let k = seat(b);
+    let i = (k - 1) as usize;
+    let v = view(views, k);
+    let n = len[i];
+    let r = may_append(v, n, b);
+    if r != 0 {
+        return r;
+    }
+    logstore::append_entry(&mut *store, k, n, value);
+    let m = n + 1;
+    len[i] = m;
+    acked[9 * i] = m; // b's count of itself.
+    0
+}
+
+// The place of the count that the replica at h has of the one at k.
+fn pair(h: u8, k: u8) -> usize
+    requires { ⌜ (1 ≤ h) × (h ≤ 8) × (1 ≤ k) × (k ≤ 8) ⌝ }
+    ensures { λ x. ⌜ x ≡ 8 * (h - 1) + (k - 1) ⌝ }
+{
+    8 * ((h - 1) as usize) + ((k - 1) as usize)
+}
+
+// The replicas that b has counted above n, members or not, among the counts acked.
+fn counted(acked: &[u16], b: u8, n: u16) -> u8
+    requires { ⌜ (1 ≤ b) × (b ≤ 8) × (length (now acked) ≡ 64) ⌝ }
+    ensures { λ x. ⌜ bits x ≡ under 9 (T.countedAbove (atPair (now (acked .entry)) b) n) ⌝ }
+{
+    let mut q: u8 = 0;
+    let mut x: u8 = 1;
+    while x <= 8 {
+        let i = pair(b, x);
+        q = members::put(q, x, n < acked[i]);
+        x += 1;
+    }
+    q
+}
+
+// Step 2: what b is answered: its view v, the length n of its log, the replicas q that it has counted above `issued`.
+fn may_commit(v: View, n: u16, issued: u16, q: u8, b: u8) -> u8
+    ensures { λ x. ⌜ x ≡ firstFailed (commitChecks v n issued q b) ⌝ }
+{
+    let n14 = check(members::has_quorum(v.members, q), 0, 14);
+    let n12 = check(issued < n, n14, 12);
+    let n8 = check(v.leader == b, n12, 8);
+    check(replica(b), n8, 1)
+}
+
+// Step 2, a receipt by b, after `issued` others. Inner layer: callers see to the lengths.
+pub fn commit(
+    views: [View; 8],
+    issued: u16,
+    acked: &[u16],
+    len: &[u16],
+    store: &[u32],
+    list: &mut [u32],
+    b: u8,
+) -> Given
+    requires { ⌜ (issued ≤ 512) × (length (now acked) ≡ 64) × Short (now len) × (length (now store) ≡ 4096) × (length (now list) ≡ 512) ⌝ }
+    ensures { λ x. ⌜ ((g : Registry) (c : Controller) (joined : List ℕ) → Leaves (T.Step.commit b) (rowOf g c views joined (now (acked .entry)) (now (len .entry)) issued) (now (store .entry)) (now (list .entry)) (x .answer) (rowOf g c views joined (now (acked .entry)) (now (len .entry)) (x .issued)) (now (store .entry)) (now (list .exit))) ⌝ }
+{
+    let k = seat(b);
+    let v = view(views, k);
+    let n = lookup(len, k);
+    let q = counted(acked, k, issued);
+    let r = may_commit(v, n, issued, q, b);
+    if r != 0 {
+        return Given {
+            answer: r,
+            issued: issued,
+        };
+    }
+    let e = logstore::entry(store, k, issued);
+    logstore::commit(&mut *list, issued, e);
+    Given {
+        answer: 0,
+        issued: issued + 1,
+    }
+}
+
+// Whether a and b are two replicas.
+fn two(a: u8, b: u8) -> bool
+    ensures { λ x. ⌜ x ≡ (Q.isReplica a && Q.isReplica b && not (eqb a b)) ⌝ }
+{
+    replica(a) & replica(b) & (a != b)
+}
+
+// Step 9: what a is answered about b, whose seat is k: their views v and w, b's joined epoch t, the count c that a has of b, the
+// length n of b's log.
+fn may_acknowledge(v: View, w: View, t: u16, c: u16, n: u16, k: u8, a: u8, b: u8) -> u8
+    requires { ⌜ (1 ≤ k) × (k ≤ 8) ⌝ }
+    ensures { λ x. ⌜ x ≡ firstFailed (acknowledgeChecks v w t c n k a b) ⌝ }
+{
+    let n12 = check(c < n, 0, 12);
+    let n11 = check(t == w.term, n12, 11);
+    let n10 = check(v.term == w.term, n11, 10);
+    let n5 = check(members::has(w.members, k), n10, 5);
+    let n8 = check(v.leader == a, n5, 8);
+    check(two(a, b), n8, 1)
+}
+
+// Step 9, a acknowledges b. Inner layer: callers see to the lengths.
+pub fn acknowledge(
+    views: [View; 8],
+    joined: &[u16],
+    acked: &mut [u16],
+    len: &[u16],
+    a: u8,
+    b: u8,
+) -> u8
+    requires { ⌜ (length (now joined) ≡ 8) × (length (now acked) ≡ 64) × Short (now len) ⌝ }
+    ensures { λ x. ⌜ ((g : Registry) (c : Controller) (issued : ℕ) (store list : List ℕ) → issued ≤ 512 → length store ≡ 4096 → length list ≡ 512 → Leaves (T.Step.acknowledge a b) (rowOf g c views (now (joined .entry)) (now (acked .entry)) (now (len .entry)) issued) store list x (rowOf g c views (now (joined .entry)) (now (acked .exit)) (now (len .entry)) issued) store list) ⌝ }
+{
+    let h = seat(a);
+    let k = seat(b);
+    let p = pair(h, k);
+    let v = view(views, h);
+    let w = view(views, k);
+    let t = lookup(joined, k);
+    let c = acked[p];
+    let n = lookup(len, k);
+    let r = may_acknowledge(v, w, t, c, n, k, a, b);
+    if r != 0 {
+        return r;
+    }
+    acked[p] = n;
+    0
+}
