@@ -32,6 +32,30 @@ pub data Step : Type 0 where
   -- no step: a record that refusal 1 turns away
   malformed : Step
 
+-- Three steps write an entry: 1 and 8 into b's log, 2 into the receipts. No other writes one.
+pub data Writes : Type 0 where
+  appends : (b value : ℕ) → Writes
+  commits receives : (b : ℕ) → Writes
+  nothing : Writes
+
+abbrev pub writes : Step → Writes
+writes (append b value) = appends b value
+writes (commit b) = commits b
+writes (add b) = nothing
+writes (remove b) = nothing
+writes changeLeader = nothing
+writes (refresh b) = nothing
+writes (join b) = nothing
+writes (receive b) = receives b
+writes (acknowledge a b) = nothing
+writes refreshController = nothing
+writes readLeader = nothing
+writes (read b) = nothing
+writes setNormal = nothing
+writes (hear b) = nothing
+writes (install b) = nothing
+writes malformed = nothing
+
 -- "Raise adds 1 to the registry epoch, refused [7] at 4,000 as the last check."
 abbrev pub raise : Registry → Check
 raise r = ltb (r .view .epoch) 4000 else 7

@@ -5,10 +5,10 @@ use mathlib.Core.Path.{_≡_}
 use Prim.Native.Nat.{ℕ, zero, suc}
 use lib.Dec.{T, eqb}
 use lib.ListN.{length, replicate}
-use Rattle.model.specs.Members.{isReplica, size, quorum}
-use Rattle.model.specs.State.{values, State, opened, openAnswer, isNormal}
+use Rattle.model.specs.Members.{size, quorum}
+use Rattle.model.specs.State.{entries, RowState, openingWith, canOpen, opened, openAnswer, isNormal}
 use Rattle.model.specs.Records.{Record}
-use Rattle.model.specs.Runs.{run, answers}
+use Rattle.model.specs.Runs.{stepsOf, run, answers}
 
 -- Records, by the number of their step: of no board, of a board, of two boards, of a board and a value.
 abbrev pub step : ℕ → Record
@@ -36,13 +36,15 @@ pub data Trial : Type 0 where
   -- the opening call's answer
   opening : (b answer : ℕ) → Trial
   -- opened with b: the records, their answers, and what is seen of the state then
-  running : (b : ℕ) → List Record → List ℕ → (State ℕ → Bool) → Trial
+  running : (b : ℕ) → List Record → List ℕ → (RowState → Bool) → Trial
 
 unfoldable pub holds : Trial → Bool
 unfolding run answers
 holds (majority n is) = eqb (quorum n) is
-holds (opening b answer) = eqb (openAnswer b) answer
-holds (running b rs ns seen) = isReplica b && sameList (answers values (opened b) rs) ns && seen (run values (opened b) rs)
+holds (opening b answer) = eqb (openAnswer (openingWith b)) answer
+holds (running b rs ns seen) =
+    let o = openingWith b in
+    canOpen o && sameList (answers entries (opened o) (stepsOf rs)) ns && seen (run entries (opened o) (stepsOf rs))
 
 unfoldable pub allHold : List Trial → Bool
 unfolding holds
@@ -50,7 +52,7 @@ allHold [] = true
 allHold (t ∷ ts) = holds t && allHold ts
 
 -- Nothing is said of the state.
-abbrev unseen : State ℕ → Bool
+abbrev unseen : RowState → Bool
 unseen s = true
 
 -- P7's records, which P8 and P9 go on from: add 2; change; read leader; controller news; read leader; board 1 news; read leader.
@@ -68,7 +70,7 @@ abbrev p8answers : List ℕ
 p8answers = p7answers ++ (14 ∷ 0 ∷ 0 ∷ [])
 
 -- "leader 2, members 2, epoch and leader epoch 4, normal"
-abbrev p9seen : State ℕ → Bool
+abbrev p9seen : RowState → Bool
 p9seen s =
     eqb (s .registry .view .leader) 2 && eqb (size (s .registry .view .members)) 1 && s .registry .view .members 2
     && eqb (s .registry .view .epoch) 4 && eqb (s .registry .view .term) 4 && isNormal (s .registry .status)
@@ -114,7 +116,7 @@ fourReady =
     of 3 2 ∷ of 3 3 ∷ of 3 4 ∷ step 10 ∷ of 6 1 ∷ step 11 ∷ of 12 2 ∷ of 12 3 ∷ step 13
     ∷ of 6 1 ∷ of 6 2 ∷ of 6 3 ∷ of 6 4 ∷ []
 
-abbrev inFour : State ℕ → Bool
+abbrev inFour : RowState → Bool
 inFour s =
     news 1 && news 2 && news 3 && news 4 && eqb (s .registry .view .leader) 1 && isNormal (s .registry .status)
     && eqb (size (s .registry .view .members)) 4 && s .registry .view .members 1 && s .registry .view .members 2 && s .registry .view .members 3 && s .registry .view .members 4
