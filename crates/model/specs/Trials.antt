@@ -11,8 +11,8 @@ use Rattle.model.specs.Records.{Record}
 use Rattle.model.specs.Runs.{stepsOf, run, answers}
 
 -- Records, by the number of their step: of no board, of a board, of two boards, of a board and a value.
-abbrev pub step : ℕ → Record
-step n = record { step = n; board = 0; other = 0; spare = 0; value = 0 }
+abbrev pub bare : ℕ → Record
+bare n = record { step = n; board = 0; other = 0; spare = 0; value = 0 }
 
 abbrev pub of : ℕ → ℕ → Record
 of n b = record { step = n; board = b; other = 0; spare = 0; value = 0 }
@@ -57,14 +57,14 @@ unseen s = true
 
 -- P7's records, which P8 and P9 go on from: add 2; change; read leader; controller news; read leader; board 1 news; read leader.
 abbrev p7 : List Record
-p7 = of 3 2 ∷ step 5 ∷ step 11 ∷ step 10 ∷ step 11 ∷ of 6 1 ∷ step 11 ∷ []
+p7 = of 3 2 ∷ bare 5 ∷ bare 11 ∷ bare 10 ∷ bare 11 ∷ of 6 1 ∷ bare 11 ∷ []
 
 abbrev p7answers : List ℕ
 p7answers = 0 ∷ 4 ∷ 15 ∷ 0 ∷ 16 ∷ 0 ∷ 0 ∷ []
 
 -- P8: set normal; read 2; set normal.
 abbrev p8 : List Record
-p8 = p7 ++ (step 13 ∷ of 12 2 ∷ step 13 ∷ [])
+p8 = p7 ++ (bare 13 ∷ of 12 2 ∷ bare 13 ∷ [])
 
 abbrev p8answers : List ℕ
 p8answers = p7answers ++ (14 ∷ 0 ∷ 0 ∷ [])
@@ -86,7 +86,7 @@ table =
     -- P4: append on 2
     ∷ running 1 (ofValue 1 2 41 ∷ []) (8 ∷ []) unseen
     -- P5: change; remove 1; remove 2
-    ∷ running 1 (step 5 ∷ of 4 1 ∷ of 4 2 ∷ []) (6 ∷ 6 ∷ 5 ∷ []) unseen
+    ∷ running 1 (bare 5 ∷ of 4 1 ∷ of 4 2 ∷ []) (6 ∷ 6 ∷ 5 ∷ []) unseen
     -- P6: add 2 twice
     ∷ running 1 (of 3 2 ∷ of 3 2 ∷ []) (0 ∷ 5 ∷ []) unseen
     -- P7
@@ -94,7 +94,7 @@ table =
     -- P8: "epoch 3"
     ∷ running 1 p8 p8answers (λ s. eqb (s .registry .view .epoch) 3)
     -- P9: change
-    ∷ running 1 (p8 ++ (step 5 ∷ [])) (p8answers ++ (0 ∷ [])) p9seen
+    ∷ running 1 (p8 ++ (bare 5 ∷ [])) (p8answers ++ (0 ∷ [])) p9seen
     ∷ []
 
 -- "Append 512 accepted, 513 gives 13."
@@ -113,7 +113,7 @@ worn = running 1 (inTurn 2000 (of 3 2) (of 4 2)) (replicate 3999 0 ++ (7 ∷ [])
 -- "Members 1 to 4, leader 1, normal, news taken, logs empty."
 abbrev fourReady : List Record
 fourReady =
-    of 3 2 ∷ of 3 3 ∷ of 3 4 ∷ step 10 ∷ of 6 1 ∷ step 11 ∷ of 12 2 ∷ of 12 3 ∷ step 13
+    of 3 2 ∷ of 3 3 ∷ of 3 4 ∷ bare 10 ∷ of 6 1 ∷ bare 11 ∷ of 12 2 ∷ of 12 3 ∷ bare 13
     ∷ of 6 1 ∷ of 6 2 ∷ of 6 3 ∷ of 6 4 ∷ []
 
 abbrev inFour : RowState → Bool
@@ -128,7 +128,7 @@ inFour s =
 -- appends 42. Board 4 takes news; 2 counting 4 gives 11; 4 joins and its log is empty."
 abbrev four : Trial
 four = running 1
-    (fourReady ++ (ofValue 1 1 41 ∷ of 8 4 ∷ step 5 ∷ of 6 2 ∷ of 6 3 ∷ step 10 ∷ of 14 2 ∷ of 14 3 ∷ of 15 2 ∷ of 6 2 ∷ ofValue 1 2 42
+    (fourReady ++ (ofValue 1 1 41 ∷ of 8 4 ∷ bare 5 ∷ of 6 2 ∷ of 6 3 ∷ bare 10 ∷ of 14 2 ∷ of 14 3 ∷ of 15 2 ∷ of 6 2 ∷ ofValue 1 2 42
     ∷ of 6 4 ∷ ofBoth 9 2 4 ∷ of 7 4 ∷ []))
     (replicate 25 0 ++ (11 ∷ 0 ∷ []))
     (λ s. eqb (length (s .log 4)) 0)
