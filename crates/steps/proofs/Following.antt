@@ -59,12 +59,12 @@ goes {s} {st} {h} {h′} k m d =
     }
 
 -- After calls of sts from s: the model's answers, and the model's state.
-record Ends (s : RowState) (sts : List Step) (h : Held) (ns : List ℕ) : Type 0 where
-  answered : ns ≡ answers entries s sts
-  reached : Reached (run entries s sts)
-  holds : Holds (run entries s sts) h
+pub record Ends (s : RowState) (sts : List Step) (h : Held) (ns : List ℕ) : Type 0 where
+  pub answered : ns ≡ answers entries s sts
+  pub reached : Reached (run entries s sts)
+  pub holds : Holds (run entries s sts) h
 
-follow : {h h′ : Held} {sts : List Step} {ns : List ℕ} → Calls h sts h′ ns → (s : RowState) → Reached s → Holds s h → Ends s sts h′ ns
+pub follow : {h h′ : Held} {sts : List Step} {ns : List ℕ} → Calls h sts h′ ns → (s : RowState) → Reached s → Holds s h → Ends s sts h′ ns
 unfolding run answers
 follow stop s k m = record { answered = refl; reached = k; holds = m }
 follow (call {st = st} d cs) s k m =
