@@ -1,6 +1,7 @@
 pub mod Tests
 pub mod Prefix
 pub mod Quorum
+pub mod Majority
 pub mod Invariant
 pub mod Static
 pub mod Replicas

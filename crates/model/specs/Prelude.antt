@@ -24,6 +24,11 @@ abbrev pub passes : List Check → Bool
 passes [] = true
 passes ((c else n) ∷ cs) = c && passes cs
 
+-- The test of the check with refusal n, true where no check has it. (No step has two checks with one refusal.)
+abbrev pub asks : ℕ → List Check → Bool
+asks n [] = true
+asks n ((c else m) ∷ cs) = cond (eqb n m) c (asks n cs)
+
 -- xs is a beginning of ys.
 infix 40 _⊑_
 pub record _⊑_ {E : Type 0} (xs ys : List E) : Type 0 where

@@ -1,10 +1,16 @@
 ghost use Rattle.model.specs.Claim.{DemandThree};
+ghost use Rattle.model.specs.Majority.{Majorities};
 ghost use Rattle.model.specs.Ranges.{RunsInRange};
 ghost use Rattle.model.specs.Trials.{TrialsHold, OthersHold};
 
 // Demand 3, for every opening and every list of records. Nothing to run: the promise is the statement.
 pub fn claim()
     ensures { λ r. ⌜ DemandThree ⌝ }
+{}
+
+// Steps 2, 13 and 15 ask for "some majority" as document 01 says it: none answers "no majority" where one exists.
+pub fn majorities()
+    ensures { λ r. ⌜ Majorities ⌝ }
 {}
 
 // No state of a run is one that refusal 1 would turn away.
