@@ -1,6 +1,7 @@
 pub mod Tests
 pub mod Prefix
 pub mod Quorum
+pub mod Refusals
 pub mod Majority
 pub mod Invariant
 pub mod Static

@@ -5,12 +5,14 @@ use mathlib.Core.Path.{_≡_, refl}
 use Prim.Native.Nat.{ℕ, zero, suc, _≤_, _<_}
 use native.Mathlib.Omega.{arith}
 use lib.Dec.{T, leb, ltb, eqb, leb→le, le→leb, ltb→lt, lt→ltb, eqb→eq, T-not, not-T}
+use Rattle.model.specs.Prelude.{asks}
 use Rattle.model.specs.Members.{Members, isReplica, _∩_, size, quorum, hasQuorum}
 use Rattle.model.specs.State.{Controller, Outline}
-use Rattle.model.specs.Steps.{above, countedAbove, heardEnough, rankedNotAbove}
-use Rattle.model.specs.Majority.{MajorityOf, SomeMajority, Heard, RanksAbove, Asked, Majorities}
+use Rattle.model.specs.Steps.{Step, commit, setNormal, install, checks, above, countedAbove, heardEnough, rankedNotAbove}
+use Rattle.model.specs.Majority.{MajorityOf, SomeMajority, Heard, RanksAbove, Asks, Asked, Majorities}
 use Rattle.model.proofs.Tests.{split-and, join-and, eq-test}
 use Rattle.model.proofs.Quorum.{size-sub}
+use Rattle.model.proofs.Refusals.{once, once-fails}
 
 -- Those that qualify, by a test q that says P.
 module _ (m q : Members) (P : ℕ → Type 0) (says : (x : ℕ) → T (q x) ↔ P x) where
@@ -101,11 +103,15 @@ module _ (m : Outline) where
     finds real f = join-and (leb 1 (heard b)) (hasQuorum members fit)
         (some-says (heard b) .1 (f .0 .each b real (f .1) .0)) (enough members fit Fit not-above (f .0))
 
+  asking : (st : Step) (Q : Type 0) → T (once 14 (checks m st)) → T (asks 14 (checks m st)) ↔ Q → Asks m st Q
+  asking st Q one test = record { test = test; refused = λ e q. once-fails 14 (λ z. omega arith) (checks m st) one e (test .1 q) }
+
   asked : Asked m
   asked = record {
-    receipt = λ b. just (view b .members) (countedAbove (acked b) issued) (λ x. issued < acked b x) (λ x. lt-says issued (acked b x));
-    normal = just members (heardEnough controller) (λ x. Heard m x × (heard lead ≤ heard x)) heard-enough;
-    installing = λ b real member. (found b member, finds b real);
+    receipt = λ b. asking (commit b) (SomeMajority (view b .members) (λ x. issued < acked b x)) tt
+        (just (view b .members) (countedAbove (acked b) issued) (λ x. issued < acked b x) (λ x. lt-says issued (acked b x)));
+    normal = asking setNormal _ tt (just members (heardEnough controller) (λ x. Heard m x × (heard lead ≤ heard x)) heard-enough);
+    installing = λ b real member. asking (install b) _ tt (found b member, finds b real);
   }
 
 pub majorities : Majorities

@@ -1,5 +1,5 @@
--- "Some majority" as document 01 says it, by sets, and that steps 2, 13 and 15 ask for just that: none answers "no majority" where one exists.
--- Cited by the promise of `majorities`. Assumes nothing.
+-- "Some majority" as document 01 says it, by sets, and that steps 2, 13 and 15 ask for just that: none answers "no
+-- majority" where one exists. Cited by the promise of `majorities`. Assumes nothing.
 use mathlib.Core.Logic.{_⊎_, _≢_, _↔_}
 use mathlib.Core.Path.{_≡_}
 use Prim.Native.Nat.{ℕ, _≤_, _<_}
@@ -7,7 +7,7 @@ use lib.Dec.{T}
 use Rattle.model.specs.Prelude.{asks}
 use Rattle.model.specs.Members.{Members, isReplica, size, quorum, hasQuorum}
 use Rattle.model.specs.State.{Controller, Outline}
-use Rattle.model.specs.Steps.{commit, setNormal, install, checks}
+use Rattle.model.specs.Steps.{Step, commit, setNormal, install, checks, answerOf}
 
 -- q is a majority of m: a set of its members, at least so many as "a majority of n boards" is.
 pub record MajorityOf (m q : Members) : Type 0 where
@@ -32,17 +32,22 @@ module _ (m : Outline) where
   abbrev pub RanksAbove : ℕ → ℕ → Type 0
   RanksAbove b x = (heardJoined b < heardJoined x) ⊎ ((heardJoined b ≡ heardJoined x) × (heard b < heard x))
 
+  -- The question that the step st asks with refusal 14 is Q: the test says Q, and where the answer is 14 there is no Q.
+  pub record Asks (st : Step) (Q : Type 0) : Type 0 where
+    pub test : T (asks 14 (checks m st)) ↔ Q
+    pub refused : answerOf m st ≡ 14 → ¬ Q
+
   pub record Asked : Type 0 where
     -- Step 2: "a majority of b's members have counts in b above the receipts' length [14]".
-    pub receipt : (b : ℕ) → T (asks 14 (checks m (commit b)))
-        ↔ SomeMajority (view b .members) (λ x. issued < acked b x)
-    -- Step 13: "some majority of the controller's members are each heard, at a length not below the leader's heard one [14]".
-    pub normal : T (asks 14 (checks m setNormal))
-        ↔ SomeMajority (controller .view .members) (λ x. Heard x × (heard (controller .view .leader) ≤ heard x))
-    -- Step 15: "b is in the controller's members [5]; some majority of the controller's members contains b, all heard, none ranked
-    -- above b [14]".
-    pub installing : (b : ℕ) → T (isReplica b) → T (controller .view .members b) → T (asks 14 (checks m (install b)))
-        ↔ ((q : SomeMajority (controller .view .members) (λ x. Heard x × ¬ RanksAbove b x)) × T (q .set b))
+    pub receipt : (b : ℕ) → Asks (commit b) (SomeMajority (view b .members) (λ x. issued < acked b x))
+    -- Step 13: "some majority of the controller's members are each heard,
+    -- at a length not below the leader's heard one [14]".
+    pub normal : Asks setNormal
+        (SomeMajority (controller .view .members) (λ x. Heard x × (heard (controller .view .leader) ≤ heard x)))
+    -- Step 15, b in the controller's members [5]: "some majority of the controller's members contains b,
+    -- all heard, none ranked above b [14]".
+    pub installing : (b : ℕ) → T (isReplica b) → T (controller .view .members b) → Asks (install b)
+        ((q : SomeMajority (controller .view .members) (λ x. Heard x × ¬ RanksAbove b x)) × T (q .set b))
 
 pub record Majorities : Type 0 where
   -- So many members qualify as a majority is just where some majority of the members qualifies.
