@@ -16,3 +16,4 @@ pub mod Theorem
 pub mod Range
 pub mod Bounds
 pub mod Answer
+pub mod Forms

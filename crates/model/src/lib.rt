@@ -1,6 +1,7 @@
 ghost use Rattle.model.specs.Claim.{DemandThree};
 ghost use Rattle.model.specs.Majority.{Majorities};
 ghost use Rattle.model.specs.Ranges.{RunsInRange};
+ghost use Rattle.model.specs.Records.{Forms};
 ghost use Rattle.model.specs.Trials.{TrialsHold, OthersHold};
 
 // Demand 3, for every opening and every list of records. Nothing to run: the promise is the statement.
@@ -16,6 +17,11 @@ pub fn majorities()
 // No state of a run is one that refusal 1 would turn away.
 pub fn ranges()
     ensures { λ r. ⌜ RunsInRange ⌝ }
+{}
+
+// A record is well formed just where no row answers 1 to it; an opening, where it is a valid one.
+pub fn records()
+    ensures { λ r. ⌜ Forms ⌝ }
 {}
 
 // The trials of document 01 hold of the definitions: P1 to P9, and the three longer ones.
