@@ -19,8 +19,8 @@ use Rattle.model.proofs.Refusals.{absent, absent-not}
 use Rattle.model.proofs.Theorem.{All}
 
 -- The element at a place, past the end too.
-at : {A : Type 0} (P : ℕ → A → Type 0) (d : A) (xs : List A) (k n : ℕ) → ((m : ℕ) → k + length xs ≤ m → P m d) → All P k xs
-    → P (k + n) (getD xs n d)
+at : {A : Type 0} (P : ℕ → A → Type 0) (d : A) (xs : List A) (k n : ℕ)
+    → ((m : ℕ) → k + length xs ≤ m → P m d) → All P k xs → P (k + n) (getD xs n d)
 at P d [] k n out a = out (k + n) (omega arith)
 at P d (x ∷ xs) k zero out a = subst (λ m. P m x) (omega arith) (a .0)
 at P d (x ∷ xs) k (suc n) out a =
@@ -66,7 +66,8 @@ absent-asks ((c else n) ∷ cs) t =
 -- Then the answer is 1 just where that check fails.
 one-asks : (cs : List Check) → T (leading cs) → not (eqb (firstFailed cs) 1) ≡ asks 1 cs
 one-asks [] t = refl
-one-asks ((true else n) ∷ cs) t = not-one cs t ∙ sym (by-cond (λ x. x ≡ true) (eqb 1 n) (λ _. refl) (λ _. absent-asks cs t))
+one-asks ((true else n) ∷ cs) t =
+    not-one cs t ∙ sym (by-cond (λ x. x ≡ true) (eqb 1 n) (λ _. refl) (λ _. absent-asks cs t))
 one-asks ((false else n) ∷ cs) t = go (eq-or-ne n 1)
   where
     go : (n ≡ 1) ⊎ (n ≢ 1) → not (eqb n 1) ≡ cond (eqb 1 n) false (asks 1 cs)
@@ -88,7 +89,8 @@ module _ (m : Outline) where
       go false e = refl
 
   -- A rule: unused fields zero, and the first check.
-  rule : (ns : List ℕ) (st : Step) → T (leading (checks m st)) → (zeros ns && asks 1 (checks m st)) ≡ fine (unused ns st)
+  rule : (ns : List ℕ) (st : Step) → T (leading (checks m st))
+      → (zeros ns && asks 1 (checks m st)) ≡ fine (unused ns st)
   rule ns st t = sym (fine-unused ns st ∙ ap (λ x. zeros ns && x) (one-asks (checks m st) t))
 
   module _ (r : Record) where
@@ -98,22 +100,23 @@ module _ (m : Outline) where
     abbrev Formed : ℕ → Step → Type 0
     Formed n st = n ≢ 0 → wellFormed (at-step r n) ≡ fine st
 
-    abbrev ofBoard : Bool
-    ofBoard = isReplica board && eqb other 0 && eqb spare 0 && eqb value 0
+    abbrev rest : List ℕ
+    rest = other ∷ spare ∷ value ∷ []
 
     with-board : (st : Step) → T (leading (checks m st)) → asks 1 (checks m st) ≡ isReplica board
-        → ofBoard ≡ fine (unused (other ∷ spare ∷ value ∷ []) st)
+        → (isReplica board && eqb other 0 && eqb spare 0 && eqb value 0) ≡ fine (unused rest st)
     with-board st t e = turn (isReplica board) (eqb other 0) (eqb spare 0) (eqb value 0)
-        ∙ ap (λ x. zeros (other ∷ spare ∷ value ∷ []) && x) (sym e) ∙ rule (other ∷ spare ∷ value ∷ []) st t
+        ∙ ap (λ x. zeros rest && x) (sym e) ∙ rule rest st t
 
     with-none : (st : Step) → T (leading (checks m st)) → asks 1 (checks m st) ≡ true
-        → (eqb board 0 && eqb other 0 && eqb spare 0 && eqb value 0) ≡ fine (unused (board ∷ other ∷ spare ∷ value ∷ []) st)
-    with-none st t e = same (eqb board 0) (eqb other 0) (eqb spare 0) (eqb value 0) ∙ ap (λ x. zeros (board ∷ other ∷ spare ∷ value ∷ []) && x) (sym e)
-        ∙ rule (board ∷ other ∷ spare ∷ value ∷ []) st t
+        → (eqb board 0 && eqb other 0 && eqb spare 0 && eqb value 0) ≡ fine (unused (board ∷ rest) st)
+    with-none st t e = same (eqb board 0) (eqb other 0) (eqb spare 0) (eqb value 0)
+        ∙ ap (λ x. zeros (board ∷ rest) && x) (sym e) ∙ rule (board ∷ rest) st t
 
     rules-formed : All Formed 0 (rules r)
     rules-formed = (λ n. absurd (n refl))
-        then (λ _. turn (isReplica board) (eqb other 0) (eqb spare 0) true ∙ rule (other ∷ spare ∷ []) (append board value) tt)
+        then (λ _. turn (isReplica board) (eqb other 0) (eqb spare 0) true
+        ∙ rule (other ∷ spare ∷ []) (append board value) tt)
         then (λ _. with-board (commit board) tt refl)
         then (λ _. with-board (add board) tt refl)
         then (λ _. with-board (remove board) tt refl)
@@ -132,7 +135,8 @@ module _ (m : Outline) where
         then tt
 
     formed : r .step ≢ 0 → wellFormed r ≡ fine (stepOf r)
-    formed n = subst (λ k. Formed k (stepOf r)) (zero-add (r .step)) (at Formed malformed (rules r) 0 (r .step) above rules-formed) n
+    formed n = subst (λ k. Formed k (stepOf r)) (zero-add (r .step))
+        (at Formed malformed (rules r) 0 (r .step) above rules-formed) n
       where
         above : (k : ℕ) → 16 ≤ k → Formed k malformed
         above k h n = rw (lt-leb k 15 h)

@@ -33,24 +33,24 @@ module _ (m : Outline) where
   RanksAbove b x = (heardJoined b < heardJoined x) ⊎ ((heardJoined b ≡ heardJoined x) × (heard b < heard x))
 
   -- The question that the step st asks with refusal 14 is Q: the test says Q, and where the answer is 14 there is no Q.
-  pub record Asks (st : Step) (Q : Type 0) : Type 0 where
+  pub record Question (st : Step) (Q : Type 0) : Type 0 where
     pub test : T (asks 14 (checks m st)) ↔ Q
     pub refused : answerOf m st ≡ 14 → ¬ Q
 
-  pub record Asked : Type 0 where
+  pub record Questions : Type 0 where
     -- Step 2: "a majority of b's members have counts in b above the receipts' length [14]".
-    pub receipt : (b : ℕ) → Asks (commit b) (SomeMajority (view b .members) (λ x. issued < acked b x))
+    pub receipt : (b : ℕ) → Question (commit b) (SomeMajority (view b .members) (λ x. issued < acked b x))
     -- Step 13: "some majority of the controller's members are each heard,
     -- at a length not below the leader's heard one [14]".
-    pub normal : Asks setNormal
+    pub normal : Question setNormal
         (SomeMajority (controller .view .members) (λ x. Heard x × (heard (controller .view .leader) ≤ heard x)))
     -- Step 15, b in the controller's members [5]: "some majority of the controller's members contains b,
     -- all heard, none ranked above b [14]".
-    pub installing : (b : ℕ) → T (isReplica b) → T (controller .view .members b) → Asks (install b)
+    pub installing : (b : ℕ) → T (isReplica b) → T (controller .view .members b) → Question (install b)
         ((q : SomeMajority (controller .view .members) (λ x. Heard x × ¬ RanksAbove b x)) × T (q .set b))
 
 pub record Majorities : Type 0 where
   -- So many members qualify as a majority is just where some majority of the members qualifies.
   pub counted : (m q : Members) → T (hasQuorum m q) ↔ SomeMajority m (λ x. T (q x))
   -- The checks with refusal 14 are the questions of document 01.
-  pub asked : (m : Outline) → Asked m
+  pub questions : (m : Outline) → Questions m

@@ -24,8 +24,8 @@ pub record Record : Type 0 where
 abbrev pub boardless : ℕ → Bool
 boardless n = eqb n 5 || eqb n 10 || eqb n 11 || eqb n 13
 
--- A well-formed record, an opening too: no "field outside its values", no "a equal to b in step 9", and "unused fields are
--- zero". (A value has 32 bits by its type.)
+-- A well-formed record, an opening too: no "field outside its values", no "a equal to b in step 9", and "unused fields
+-- are zero". (That a value has 32 bits is the type of the calls.)
 abbrev pub wellFormed : Record → Bool
 wellFormed r =
     leb (r .step) 15
