@@ -45,9 +45,9 @@ abbrev at-step : Record → ℕ → Record
 at-step r n = record { step = n; board = r .board; other = r .other; spare = r .spare; value = r .value }
 
 -- All fields that a step does not use are zero.
-abbrev zeros : List ℕ → Bool
-zeros [] = true
-zeros (n ∷ ns) = eqb n 0 && zeros ns
+abbrev allZero : List ℕ → Bool
+allZero [] = true
+allZero (n ∷ ns) = eqb n 0 && allZero ns
 
 -- The first check alone may have refusal 1.
 abbrev leading : List Check → Bool
@@ -79,19 +79,19 @@ module _ (m : Outline) where
   abbrev fine : Step → Bool
   fine st = not (eqb (answerOf m st) 1)
 
-  fine-unused : (ns : List ℕ) (st : Step) → fine (unused ns st) ≡ (zeros ns && fine st)
+  fine-unused : (ns : List ℕ) (st : Step) → fine (unused ns st) ≡ (allZero ns && fine st)
   fine-unused [] st = refl
   fine-unused (n ∷ ns) st = go (eqb n 0) (fine-unused ns st)
     where
-      go : (t : Bool) → fine (unused ns st) ≡ (zeros ns && fine st)
-          → fine (cond t (unused ns st) malformed) ≡ (t && zeros ns && fine st)
+      go : (t : Bool) → fine (unused ns st) ≡ (allZero ns && fine st)
+          → fine (cond t (unused ns st) malformed) ≡ (t && allZero ns && fine st)
       go true e = e
       go false e = refl
 
   -- A rule: unused fields zero, and the first check.
   rule : (ns : List ℕ) (st : Step) → T (leading (checks m st))
-      → (zeros ns && asks 1 (checks m st)) ≡ fine (unused ns st)
-  rule ns st t = sym (fine-unused ns st ∙ ap (λ x. zeros ns && x) (one-asks (checks m st) t))
+      → (allZero ns && asks 1 (checks m st)) ≡ fine (unused ns st)
+  rule ns st t = sym (fine-unused ns st ∙ ap (λ x. allZero ns && x) (one-asks (checks m st) t))
 
   module _ (r : Record) where
     open Record r using (board, other, spare, value)
@@ -106,12 +106,12 @@ module _ (m : Outline) where
     with-board : (st : Step) → T (leading (checks m st)) → asks 1 (checks m st) ≡ isReplica board
         → (isReplica board && eqb other 0 && eqb spare 0 && eqb value 0) ≡ fine (unused rest st)
     with-board st t e = turn (isReplica board) (eqb other 0) (eqb spare 0) (eqb value 0)
-        ∙ ap (λ x. zeros rest && x) (sym e) ∙ rule rest st t
+        ∙ ap (λ x. allZero rest && x) (sym e) ∙ rule rest st t
 
     with-none : (st : Step) → T (leading (checks m st)) → asks 1 (checks m st) ≡ true
         → (eqb board 0 && eqb other 0 && eqb spare 0 && eqb value 0) ≡ fine (unused (board ∷ rest) st)
     with-none st t e = same (eqb board 0) (eqb other 0) (eqb spare 0) (eqb value 0)
-        ∙ ap (λ x. zeros (board ∷ rest) && x) (sym e) ∙ rule (board ∷ rest) st t
+        ∙ ap (λ x. allZero (board ∷ rest) && x) (sym e) ∙ rule (board ∷ rest) st t
 
     rules-formed : All Formed 0 (rules r)
     rules-formed = (λ n. absurd (n refl))
@@ -143,6 +143,6 @@ module _ (m : Outline) where
 
 pub forms : Forms
 forms = record {
-  step = formed;
-  opening = λ r e. subst (λ n. wellFormed (at-step r n) ≡ isOpening (at-step r n)) (sym e) refl;
+  steps = formed;
+  openings = λ r e. subst (λ n. wellFormed (at-step r n) ≡ isOpening (at-step r n)) (sym e) refl;
 }

@@ -122,10 +122,10 @@ module _ (m : Outline) where
 
   questions : Questions m
   questions = record {
-    receipt = λ b. asking (commit b) _ tt
+    stepTwo = λ b. asking (commit b) _ tt
         (just (view b .members) (countedAbove (acked b) issued) _ (λ x. lt-says issued (acked b x)));
-    normal = asking setNormal _ tt (just members (heardEnough controller) _ heard-enough);
-    installing = λ b real member. asking (install b) _ tt (found b member, finds b real);
+    stepThirteen = asking setNormal _ tt (just members (heardEnough controller) _ heard-enough);
+    stepFifteen = λ b real member. asking (install b) _ tt (found b member, finds b real);
   }
 
 pub majorities : Majorities

@@ -24,7 +24,7 @@ module _ (m : Outline) where
   open Outline m using (controller, view, acked, issued)
   open Controller controller using (heard, heardJoined)
 
-  -- A length is heard of x: it is not none.
+  -- A length is heard of x: it is not none, which is kept as 0.
   abbrev pub Heard : ℕ → Type 0
   Heard x = heard x ≢ 0
 
@@ -38,15 +38,15 @@ module _ (m : Outline) where
     pub refused : answerOf m st ≡ 14 → ¬ Q
 
   pub record Questions : Type 0 where
-    -- Step 2: "a majority of b's members have counts in b above the receipts' length [14]".
-    pub receipt : (b : ℕ) → Question (commit b) (SomeMajority (view b .members) (λ x. issued < acked b x))
-    -- Step 13: "some majority of the controller's members are each heard,
+    -- "a majority of b's members have counts in b above the receipts' length [14]".
+    pub stepTwo : (b : ℕ) → Question (commit b) (SomeMajority (view b .members) (λ x. issued < acked b x))
+    -- "some majority of the controller's members are each heard,
     -- at a length not below the leader's heard one [14]".
-    pub normal : Question setNormal
+    pub stepThirteen : Question setNormal
         (SomeMajority (controller .view .members) (λ x. Heard x × (heard (controller .view .leader) ≤ heard x)))
-    -- Step 15, b in the controller's members [5]: "some majority of the controller's members contains b,
+    -- b in the controller's members [5]: "some majority of the controller's members contains b,
     -- all heard, none ranked above b [14]".
-    pub installing : (b : ℕ) → T (isReplica b) → T (controller .view .members b) → Question (install b)
+    pub stepFifteen : (b : ℕ) → T (isReplica b) → T (controller .view .members b) → Question (install b)
         ((q : SomeMajority (controller .view .members) (λ x. Heard x × ¬ RanksAbove b x)) × T (q .set b))
 
 pub record Majorities : Type 0 where

@@ -85,5 +85,5 @@ stepOf r = getD (rules r) (r .step) malformed
 -- Refusal 1 of a record's fields is just that: no other check of a step has it, on any row.
 -- Step 0 stands for no step; it is well formed where it is a valid opening.
 pub record Forms : Type 0 where
-  pub step : (m : Outline) (r : Record) → r .step ≢ 0 → wellFormed r ≡ not (eqb (answerOf m (stepOf r)) 1)
-  pub opening : (r : Record) → r .step ≡ 0 → wellFormed r ≡ isOpening r
+  pub steps : (m : Outline) (r : Record) → r .step ≢ 0 → wellFormed r ≡ not (eqb (answerOf m (stepOf r)) 1)
+  pub openings : (r : Record) → r .step ≡ 0 → wellFormed r ≡ isOpening r

@@ -1,4 +1,5 @@
--- Runs: lists of records, malformed and refused ones too, each on what the one before left. Cited by Claim, Trials and the contracts of steps and sheet. Assumes nothing.
+-- Runs: lists of records, malformed and refused ones too, each on what the one before left.
+-- Cited by Claim, Trials and the contracts of steps and sheet. Assumes nothing.
 use mathlib.Core.Bool.{Bool, true, false, cond, _&&_}
 use mathlib.Core.List.{List, [], _∷_, _++_}
 use Prim.Native.Nat.{ℕ}
@@ -23,7 +24,8 @@ module _ (𝓔 : Entries) where
 
   -- What one record gives out: the entry that an accepted step 2 takes from b's log.
   abbrev pub gives : State Entry → Record → List Entry
-  gives s r = cond (eqb (r .step) 2 && accepted (outline s) (stepOf r)) (entryAt 𝓔 s (r .board) (length (s .committed)) ∷ []) []
+  gives s r = cond (eqb (r .step) 2 && accepted (outline s) (stepOf r))
+      (entryAt 𝓔 s (r .board) (length (s .committed)) ∷ []) []
 
   -- "The receipts given are one for each accepted step 2, in that order, each the entry that step took from b's log."
   unfoldable pub given : State Entry → List Record → List Entry
