@@ -133,8 +133,30 @@ four = running 1
     (replicate 25 0 ++ (11 ∷ 0 ∷ []))
     (λ s. eqb (length (s .log 4)) 0)
 
+-- No trial of document 01, but its rules worked out by hand: every answer of steps 7 and 8.
+abbrev follower : Trial
+follower = running 1
+    -- 1 leads: 9; 2 is not in its own members: 5
+    (of 7 1 ∷ of 8 1 ∷ of 7 2 ∷ of 8 2
+    -- add 2; news for 2: not in its leader's members, 5, and joined already, 11; news for 1: nothing to receive, 12
+    ∷ of 3 2 ∷ of 6 2 ∷ of 8 2 ∷ of 7 2 ∷ of 6 1 ∷ of 8 2
+    -- 1 appends, 2 receives; the row is set normal; 2 succeeds 1
+    ∷ ofValue 1 1 41 ∷ of 8 2 ∷ bare 10 ∷ bare 11 ∷ of 12 2 ∷ bare 13 ∷ bare 5
+    -- add 1; news for 1: its leader is behind, 10; news for 2: not joined yet, 11; joins; joined already, 11;
+    -- nothing to receive, 12
+    ∷ of 3 1 ∷ of 6 1 ∷ of 7 1 ∷ of 8 1 ∷ of 6 2 ∷ of 8 1 ∷ of 7 1 ∷ of 7 1 ∷ of 8 1 ∷ [])
+    (9 ∷ 9 ∷ 5 ∷ 5
+    ∷ 0 ∷ 0 ∷ 5 ∷ 11 ∷ 0 ∷ 12
+    ∷ 0 ∷ 0 ∷ 0 ∷ 0 ∷ 0 ∷ 0 ∷ 0
+    ∷ 0 ∷ 0 ∷ 10 ∷ 10 ∷ 0 ∷ 11 ∷ 0 ∷ 11 ∷ 12 ∷ [])
+    (λ s. eqb (s .joined 1) 4 && eqb (length (s .log 1)) 1)
+
+-- While no leader is named there is none to follow: change; 2 takes news, joins, receives.
+abbrev leaderless : Trial
+leaderless = running 1 (fourReady ++ (bare 5 ∷ of 6 2 ∷ of 7 2 ∷ of 8 2 ∷ [])) (replicate 15 0 ++ (9 ∷ 9 ∷ [])) unseen
+
 abbrev pub others : List Trial
-others = full ∷ worn ∷ running 1 fourReady (replicate 13 0) inFour ∷ four ∷ []
+others = full ∷ worn ∷ running 1 fourReady (replicate 13 0) inFour ∷ four ∷ follower ∷ leaderless ∷ []
 
 -- The P trials: one table, one statement.
 unfoldable pub TrialsHold : Type 0
