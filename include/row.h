@@ -47,22 +47,22 @@ extern "C" {
 
 /* The steps, and the fields that each uses. */
 enum row_step {
-    ROW_STEP_OPENING = 0,          /* board         opens the row, as its leader and only member */
-    ROW_STEP_APPEND = 1,           /* board, value  the value is added to the board's log */
-    ROW_STEP_RECEIPT = 2,          /* board         the next entry of its log joins the receipts */
-    ROW_STEP_ADD = 3,              /* board         the board joins the members */
-    ROW_STEP_REMOVE = 4,           /* board         the board leaves the members */
-    ROW_STEP_CHANGE_LEADER = 5,    /* none          the leader leaves the members */
-    ROW_STEP_TAKE_NEWS = 6,        /* board         the board copies the registry */
-    ROW_STEP_JOIN = 7,             /* board         its log is cut to what its leader's shares with it */
-    ROW_STEP_RECEIVE = 8,          /* board         it takes the next entry of its leader's log */
-    ROW_STEP_COUNT = 9,            /* board, second the first, a leader, counts the second's log */
-    ROW_STEP_CONTROLLER_NEWS = 10, /* none          the controller copies the registry */
-    ROW_STEP_READ_LEADER = 11,     /* none          the controller hears its leader's length */
-    ROW_STEP_READ = 12,            /* board         the controller hears the board's length */
-    ROW_STEP_SET_NORMAL = 13,      /* none          the registry's status becomes normal */
-    ROW_STEP_HEAR = 14,            /* board         the controller hears its length and joined epoch */
-    ROW_STEP_INSTALL = 15          /* board         the board becomes the registry's leader */
+    ROW_STEP_OPENING = 0,          /* board          opens the row, as its leader and only member */
+    ROW_STEP_APPEND = 1,           /* board, value   the value is added to the board's log */
+    ROW_STEP_RECEIPT = 2,          /* board          the next entry of its log joins the receipts */
+    ROW_STEP_ADD = 3,              /* board          the board joins the members */
+    ROW_STEP_REMOVE = 4,           /* board          the board leaves the members */
+    ROW_STEP_CHANGE_LEADER = 5,    /* none           the leader leaves the members */
+    ROW_STEP_TAKE_NEWS = 6,        /* board          the board copies the registry */
+    ROW_STEP_JOIN = 7,             /* board          its log is cut to what its leader's shares with it */
+    ROW_STEP_RECEIVE = 8,          /* board          it takes the next entry of its leader's log */
+    ROW_STEP_COUNT = 9,            /* board, second  the first, a leader, counts the second's log */
+    ROW_STEP_CONTROLLER_NEWS = 10, /* none           the controller copies the registry */
+    ROW_STEP_READ_LEADER = 11,     /* none           the controller hears its leader's length */
+    ROW_STEP_READ = 12,            /* board          the controller hears the board's length */
+    ROW_STEP_SET_NORMAL = 13,      /* none           the registry's status becomes normal */
+    ROW_STEP_HEAR = 14,            /* board          the controller hears its length and joined epoch */
+    ROW_STEP_INSTALL = 15          /* board          the board becomes the registry's leader */
 };
 
 /*
