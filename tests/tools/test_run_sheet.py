@@ -347,7 +347,8 @@ class Formats(unittest.TestCase):
             # Two names of the header are longer than the words: opening, take_news.
             for word in [word for word in form if word.islower()]:
                 self.assertIn(word, name.lower())
-            used = [{"board": "BOARD", "second": "BOARD", "value": "VALUE"}[f] for f in fields.split(", ") if f != "none"]
+            kinds = {"none": [], "board": ["BOARD"], "second": ["BOARD"], "value": ["VALUE"]}
+            used = [kind for field in fields.split(", ") for kind in kinds[field]]
             self.assertEqual(used, [word for word in form if word.isupper()])
 
 
@@ -441,7 +442,8 @@ class Asking(InFolder):
     def test_a_sheet_to_begin_with(self):
         self.assertEqual(self.ask(["add 2"], self.file("story", WORDS)), ["refused 5: the board is a member already"])
         done = run("--ask", self.file("late", WORDS[7:]), given=b"open 1\n")
-        self.assertEqual((done.stdout, done.returncode), (b"refused 2: no opening first: line 1 is 'append 1 41'\n", REFUSED))
+        self.assertEqual(done.stdout, b"refused 2: no opening first: line 1 is 'append 1 41'\n")
+        self.assertEqual(done.returncode, REFUSED)
 
     def test_a_prompt_at_a_terminal(self):
         leader, follower = pty.openpty()

@@ -103,7 +103,9 @@ fn compare(sheets: u64, seed: u64, program: &Path) -> io::Result<u8> {
         println!("{fault}");
     }
     if !faults.is_empty() && sheets < SHEETS_ENOUGH {
-        println!("too few sheets: with {SHEETS_ENOUGH} random ones or more all should be met, and {sheets} were asked for");
+        println!(
+            "too few sheets: {sheets} random ones, and with {SHEETS_ENOUGH} all should be met"
+        );
     }
     Ok(if faults.is_empty() { 0 } else { 3 })
 }
