@@ -7,7 +7,7 @@
  * Platform. The archive is for x86-64 with the System V calling convention:
  * ELF, position-independent, some 9 KiB of code and constants, no data that is
  * written. It asks for no instruction set beyond SSE2, which every x86-64 has.
- * (Its one tzcnt runs as bsf on older processors, and both agree wherever the
+ * (A tzcnt in it runs as bsf on older processors, and both agree wherever the
  * result is used.) It allocates nothing, makes no system call, and calls two
  * functions of the C library: memcpy and memset. There are no unwind tables,
  * and nothing in it throws or jumps out.

@@ -8,7 +8,8 @@ import listing
 import sheet
 from phrases import phrase
 
-HELLO = "A step a line; help lists them. The row begins with an opening, such as: open 1"
+HELLO = "A step a line; help lists them."
+FIRST = " The row begins with an opening, such as: open 1"
 HELP = """\
 A step in words adds a record and shows its answer. A refused step stays too, as in any sheet.
 
@@ -33,12 +34,12 @@ def say(*lines):
 class Session:
     """The steps so far, and the listing that the proved program gives of them."""
 
-    def __init__(self, run, steps, now, opened):
-        """`run` gives the listing of steps, or None and why they are refused; `opened` is the file they are from."""
+    def __init__(self, run, steps, now):
+        """`run` gives the listing of steps, or None and why they are refused; `now` is that of the first ones."""
         self.run = run
         self.steps = steps
         self.now = now
-        self.files = {opened}
+        self.saved = set()
 
     def turn(self, steps, said):
         """Goes over to these steps, unless the program refuses them, and says what it is and what changed."""
@@ -77,34 +78,40 @@ class Session:
     def show(self):
         say(listing.in_words(self.steps, self.now).rstrip("\n") if self.steps else "no step so far")
 
+    def help(self):
+        say(HELP.format(steps=steps_help()).rstrip("\n"))
+
     def save(self, name):
+        if not name:
+            say("save takes the name of a file")
+            return
         try:
             path = Path(name).expanduser().resolve()
-            # A file that this session neither read nor wrote is somebody's.
-            with path.open("w" if path in self.files else "x", encoding="utf-8") as file:
+            # A file that this session did not write may hold more than steps.
+            with path.open("w" if path in self.saved else "x", encoding="utf-8") as file:
                 file.writelines(step.words + "\n" for step in self.steps)
-            self.files.add(path)
-            say(f"{len(self.steps)} steps saved as {name}")
+            self.saved.add(path)
+            done = f"{len(self.steps)} steps saved as {name}"
         except FileExistsError:
-            say(f"{name} is there already: choose another name")
-        except (OSError, RuntimeError) as error:
-            say(f"{name} is not saved: {getattr(error, 'strerror', None) or error}")
+            done = f"{name} is there already: choose another name"
+        except (OSError, RuntimeError, ValueError) as error:
+            done = f"{name} is not saved: {getattr(error, 'strerror', None) or error}"
+        say(done)
 
     def obey(self, line):
         """One line of input. Returns whether to go on."""
         word, _, rest = line.strip().partition(" ")
-        if line.strip() in ("quit", "exit"):
-            return False
-        if line.strip() == "undo":
-            self.undo()
-        elif line.strip() == "show":
-            self.show()
-        elif line.strip() == "help":
-            say(HELP.format(steps=steps_help()).rstrip("\n"))
-        elif word == "save":
-            self.save(rest.strip()) if rest.strip() else say("save takes the name of a file")
-        else:
+        alone = {"undo": self.undo, "show": self.show, "help": self.help, "quit": None}
+        if word == "save":
+            self.save(rest.strip())
+        elif word not in alone:
             self.step(line)
+        elif rest:
+            say(f"{word} stands alone on its line")
+        elif word == "quit":
+            return False
+        else:
+            alone[word]()
         return True
 
 
@@ -119,7 +126,7 @@ def ask(session):
         except ImportError:
             pass
     sys.stdin.reconfigure(errors="replace")
-    say(HELLO)
+    say(HELLO if session.steps else HELLO + FIRST)
     while True:
         try:
             if not session.obey(input("row> " if terminal else "")):

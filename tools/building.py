@@ -5,7 +5,6 @@ import shutil
 import subprocess
 import sys
 import time
-from pathlib import Path
 
 PROGRAM = "runsheet"
 TICK = 0.5

@@ -45,7 +45,7 @@ def table(rows):
     """Rows of equal columns under their names: numbers to the right, words and sets to the left."""
     columns = list(zip(*rows))
     widths = [max(map(len, column)) for column in columns]
-    right = [name != "members" and all(cell.isdigit() for cell in cells) for name, *cells in columns]
+    right = [name != "members" and "".join(cells).isdigit() for name, *cells in columns]
     for row in rows:
         cells = zip(row, widths, right)
         yield "  ".join(cell.rjust(width) if far else cell.ljust(width) for cell, width, far in cells).rstrip()
@@ -53,12 +53,11 @@ def table(rows):
 
 def in_words(steps, listing):
     """The listing for people."""
-    # Records have no lines.
-    numbered = any(step.line for step in steps)
     rows = [["record", "line", "step", "answer"]]
     for n, (step, answer) in enumerate(zip(steps, listing.answers, strict=True), 1):
-        rows.append([str(n), str(step.line), step.words, phrase(step.record[0], answer)])
-    if not numbered:
+        rows.append([str(n), str(step.line or ""), step.words, phrase(step.record[0], answer)])
+    # Records have no lines, nor has what is typed.
+    if not any(step.line for step in steps):
         rows = [[row[0], *row[2:]] for row in rows]
     views = [["", *VIEW, "status or stage"]]
     views.append(["registry", *listing.registry.values()])

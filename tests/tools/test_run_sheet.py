@@ -422,25 +422,32 @@ class Asking(InFolder):
         self.listed(run(path))
 
     def test_saving_spares_files_of_others(self):
-        theirs, ours = self.file("theirs", b"mine"), self.file("ours", WORDS)
-        said = self.ask(["undo", f"save {theirs}", f"save {ours}", "save", f"save {self.folder}/no/where"], ours)
-        self.assertEqual(theirs.read_bytes(), b"mine")
+        theirs, ours = self.file("theirs", b"# A story.\n" + WORDS), self.folder / "ours"
+        lines = [f"save {ours}", "undo", f"save {ours}", f"save {theirs}", "save", f"save {self.folder}/no/where"]
+        said = self.ask([*lines, "save \0"], theirs)
+        self.assertEqual(theirs.read_bytes(), b"# A story.\n" + WORDS)
         self.assertEqual(ours.read_bytes(), WORDS.replace(b"add 2\n", b""))
         self.assertIn(f"{theirs} is there already: choose another name", said)
         self.assertIn("save takes the name of a file", said)
-        self.assertIn("is not saved: No such file", said[-1])
+        self.assertIn("is not saved: No such file", said[-2])
+        self.assertIn("is not saved: ", said[-1])
 
     def test_help_quit_and_wrong_lines(self):
-        said = self.ask(["help", "", "# nothing", "read the leader", "\xff", "quit", "open 1"])
+        said = self.ask(["help", "", "# nothing", "undo 3", "read the leader", "\xff", "quit", "open 1"])
         for form in sheet.FORMS:
             self.assertTrue(any(line.startswith("  " + " ".join(form)) for line in said), form)
         for command in ["show", "undo", "save FILE", "help", "quit"]:
             self.assertTrue(any(line.startswith("  " + command) for line in said), command)
+        self.assertEqual(said[-3], "undo stands alone on its line")
         self.assertIn("did you mean 'read leader'? (help has every step)", said[-2])
         self.assertIn("unknown step", said[-1])
 
     def test_a_sheet_to_begin_with(self):
-        self.assertEqual(self.ask(["add 2"], self.file("story", WORDS)), ["refused 5: the board is a member already"])
+        story = self.file("story", b"\n" + WORDS)
+        said = self.ask(["add 2", "show"], story)
+        self.assertEqual(said[0], "refused 5: the board is a member already")
+        self.assertEqual(said[5].split(), ["4", "5", "add", "2", "accepted"])
+        self.assertEqual(said[6].split()[:5], ["5", "add", "2", "refused", "5:"])
         done = run("--ask", self.file("late", WORDS[7:]), given=b"open 1\n")
         self.assertEqual(done.stdout, b"refused 2: no opening first: line 1 is 'append 1 41'\n")
         self.assertEqual(done.returncode, REFUSED)
