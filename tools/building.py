@@ -1,7 +1,7 @@
 """Proves and builds the program, with one line of progress where somebody looks on."""
 
+import os
 import re
-import shutil
 import subprocess
 import sys
 import time
@@ -15,22 +15,21 @@ class BuildError(Exception):
 
 
 def order(root):
-    """The crates that the program needs, those that others need first."""
+    """The crates that the program needs and the program itself, as rt takes them: by their depth."""
     needs = {}
     for line in (root / "crates.txt").read_text().splitlines():
         name, colon, others = line.split("#")[0].partition(":")
         if colon:
             needs[name.strip()] = others.split()
-    found = []
+    depths = {}
 
-    def visit(name):
-        if name in needs and name not in found:
-            for other in needs[name]:
-                visit(other)
-            found.append(name)
+    def depth(name):
+        if name not in depths:
+            depths[name] = 1 + max([depth(other) for other in needs.get(name, []) if other in needs], default=0)
+        return depths[name]
 
-    visit(PROGRAM)
-    return found
+    depth(PROGRAM)
+    return sorted(depths, key=depths.get)
 
 
 def purpose(root, crate):
@@ -57,12 +56,13 @@ class Progress:
 
     def tell(self, log):
         """Looks at what rt has said so far."""
-        done = re.findall(r"^rt: (\w+) (?:proved|NOT PROVED)(?! \(unchanged)", log, re.M)
         ended = re.findall(r"^rt: (\w+) (?:proved|NOT PROVED)", log, re.M)
+        unchanged = re.findall(r"^rt: \w+ proved \(unchanged", log, re.M)
         left = [crate for crate in self.crates if crate not in ended]
         # rt takes a crate's stamp away before it proves the crate anew.
         stamps = self.root / "target" / "stamp"
-        if not (self.first or done or any(not (stamps / crate).exists() for crate in left)):
+        proving = [crate for crate in left if not (stamps / crate).exists()]
+        if not (self.first or proving or len(ended) > len(unchanged)):
             return
         if not self.shown:
             self.shown = True
@@ -70,10 +70,11 @@ class Progress:
             print(f"run-sheet: proving and building the program{time_needed}", file=sys.stderr)
         if self.terminal and left:
             k, n, seconds = len(ended) + 1, len(self.crates), time.monotonic() - self.began
-            line = f"{seconds:4.0f} s  crate {k} of {n}: {left[0]}"
-            about = purpose(self.root, left[0])
-            line += f", {about}" if about else ""
-            width = shutil.get_terminal_size().columns - 1
+            crate = (proving or left)[0]
+            about = purpose(self.root, crate)
+            line = f"{seconds:4.0f} s  crate {k} of {n}: {crate}" + (f", {about}" if about else "")
+            # Standard output may be a file. A terminal that does not know its width says 0.
+            width = (os.get_terminal_size(sys.stderr.fileno()).columns or 80) - 1
             print(f"\r\033[K{line[:width]}", end="", file=sys.stderr, flush=True)
 
     def end(self):
