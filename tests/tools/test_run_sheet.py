@@ -475,7 +475,7 @@ for crate in rules runsheet; do
         echo "rt: $crate NOT PROVED"
         exit 1
     else
-        sleep 0.8
+        sleep 1.5
         echo "fn $crate::claim: proved"
         echo "rt: $crate proved (1 s)"
         touch target/stamp/$crate
