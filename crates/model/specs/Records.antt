@@ -8,7 +8,7 @@ use Prim.Native.Nat.{ℕ}
 use lib.Dec.{leb, eqb}
 use lib.ListN.{getD}
 use Rattle.model.specs.Members.{isReplica}
-use Rattle.model.specs.State.{Outline}
+use Rattle.model.specs.State.{Outline, Opening, openingWith}
 use Rattle.model.specs.Steps.{Step, append, commit, add, remove, changeLeader, refresh, join, receive, acknowledge, refreshController, readLeader, read, setNormal, hear, install, malformed, answerOf}
 
 -- "Byte 0 is the step, 0 to 15; byte 1 the board (a in step 9); byte 2 is b in step 9; byte 3 zero;
@@ -19,6 +19,19 @@ pub record Record : Type 0 where
   pub other : ℕ
   pub spare : ℕ
   pub value : ℕ
+
+-- Records, by the number of their step: of no board, of a board, of two boards, of a board and a value.
+abbrev pub bare : ℕ → Record
+bare n = record { step = n; board = 0; other = 0; spare = 0; value = 0 }
+
+abbrev pub of : ℕ → ℕ → Record
+of n b = record { step = n; board = b; other = 0; spare = 0; value = 0 }
+
+abbrev pub ofBoth : ℕ → ℕ → ℕ → Record
+ofBoth n a b = record { step = n; board = a; other = b; spare = 0; value = 0 }
+
+abbrev pub ofValue : ℕ → ℕ → ℕ → Record
+ofValue n b v = record { step = n; board = b; other = 0; spare = 0; value = v }
 
 -- The steps that name no board: change leader, the controller's news, read leader, set normal.
 abbrev pub boardless : ℕ → Bool
@@ -37,6 +50,9 @@ wellFormed r =
 -- A valid opening: "step 0, opening, stands first", with its unused fields zero.
 abbrev pub isOpening : Record → Bool
 isOpening r = eqb (r .step) 0 && isReplica (r .board) && eqb (r .other) 0 && eqb (r .spare) 0 && eqb (r .value) 0
+
+abbrev pub openingOf : Record → Opening
+openingOf r = openingWith (r .board)
 
 -- "Unused fields are zero": the step st, or what is no step.
 abbrev pub unused : List ℕ → Step → Step

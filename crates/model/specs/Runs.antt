@@ -4,13 +4,9 @@ use mathlib.Core.Bool.{cond}
 use mathlib.Core.List.{List, [], _∷_, _++_}
 use Prim.Native.Nat.{ℕ}
 use lib.ListN.{length}
-use Rattle.model.specs.State.{outline, Entries, State, Opening, openingWith}
+use Rattle.model.specs.State.{outline, Entries, State}
 use Rattle.model.specs.Steps.{Step, Writes, appends, commits, receives, nothing, writes, answerOf, accepted, step, entryAt}
 use Rattle.model.specs.Records.{Record, stepOf}
-
--- The opening that a record stands for, if it is one.
-abbrev pub openingOf : Record → Opening
-openingOf r = openingWith (r .board)
 
 -- The steps that records stand for.
 abbrev pub stepsOf : List Record → List Step

@@ -1,4 +1,4 @@
--- The trials of document 01 marked P as one table, and the other three. What P2 says of a sheet stands in the crate `sheet`. Cited by the promise of `trials`. Assumes nothing.
+-- The trials of document 01 marked P as one table, and the others. What P2 says of a sheet stands in the crate `sheet`. Cited by the promise of `trials`. Assumes nothing.
 use mathlib.Core.Bool.{Bool, true, false, cond, _&&_}
 use mathlib.Core.List.{List, [], _∷_, _++_}
 use mathlib.Core.Path.{_≡_}
@@ -7,21 +7,8 @@ use lib.Dec.{T, eqb}
 use lib.ListN.{length, replicate}
 use Rattle.model.specs.Members.{size, quorum}
 use Rattle.model.specs.State.{entries, RowState, openingWith, canOpen, opened, openAnswer, isNormal}
-use Rattle.model.specs.Records.{Record}
+use Rattle.model.specs.Records.{Record, bare, of, ofBoth, ofValue}
 use Rattle.model.specs.Runs.{stepsOf, run, answers}
-
--- Records, by the number of their step: of no board, of a board, of two boards, of a board and a value.
-abbrev pub bare : ℕ → Record
-bare n = record { step = n; board = 0; other = 0; spare = 0; value = 0 }
-
-abbrev pub of : ℕ → ℕ → Record
-of n b = record { step = n; board = b; other = 0; spare = 0; value = 0 }
-
-abbrev pub ofBoth : ℕ → ℕ → ℕ → Record
-ofBoth n a b = record { step = n; board = a; other = b; spare = 0; value = 0 }
-
-abbrev pub ofValue : ℕ → ℕ → ℕ → Record
-ofValue n b v = record { step = n; board = b; other = 0; spare = 0; value = v }
 
 abbrev pub sameList : List ℕ → List ℕ → Bool
 sameList [] [] = true

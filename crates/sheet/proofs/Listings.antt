@@ -8,7 +8,8 @@ use lib.Dec.{leb}
 use lib.ListN.{length, take, length-append}
 use borrow.Author.Tests.{leb-true}
 use Rattle.model.specs.State.{entries, outline, Opening, opened}
-use Rattle.model.specs.Runs.{openingOf, stepsOf, answers}
+use Rattle.model.specs.Records.{openingOf}
+use Rattle.model.specs.Runs.{stepsOf, answers}
 use Rattle.model.specs.Steps.{Step}
 use Rattle.model.specs.Claim.{receipts}
 use Rattle.model.proofs.Theorem.{safe}

@@ -11,8 +11,8 @@ use lib.Seq.{take-suc-set, drop-drop, getD-take}
 use Rattle.model.specs.Members.{isReplica}
 use Rattle.model.specs.State.{RowState, entries, outline, Opening, openingWith, canOpen, opened}
 use Rattle.model.specs.Steps.{Step, answerOf, step}
-use Rattle.model.specs.Records.{Record, stepOf}
-use Rattle.model.specs.Runs.{openingOf, stepsOf, run, answers}
+use Rattle.model.specs.Records.{openingOf, Record, stepOf}
+use Rattle.model.specs.Runs.{stepsOf, run, answers}
 use Rattle.model.specs.Ranges.{inRange}
 use Rattle.model.specs.Claim.{after}
 use Rattle.model.proofs.Tests.{split-and, is-true, of-true}

@@ -4,8 +4,8 @@ use mathlib.Core.Path.{_≡_}
 use Prim.Native.Nat.{ℕ, suc}
 use lib.ListN.{length, take, drop}
 use Rattle.model.specs.State.{RowState, entries, outline, opened}
-use Rattle.model.specs.Records.{Record}
-use Rattle.model.specs.Runs.{openingOf, stepsOf, answers}
+use Rattle.model.specs.Records.{openingOf, Record}
+use Rattle.model.specs.Runs.{stepsOf, answers}
 use Rattle.model.specs.Claim.{after}
 use Rattle.cluster.specs.declared.Cluster.{Cluster}
 use Rattle.cluster.specs.Layout.{outlineOf}

@@ -7,8 +7,8 @@ use Prim.Native.Nat.{ℕ, _-_, _/_, _%_, _≤_}
 use lib.Dec.{eqb, leb}
 use lib.ListN.{length, drop, replicate}
 use Rattle.model.specs.State.{entries, outline, Opening, opened}
-use Rattle.model.specs.Records.{Record}
-use Rattle.model.specs.Runs.{openingOf, stepsOf, answers}
+use Rattle.model.specs.Records.{openingOf, Record}
+use Rattle.model.specs.Runs.{stepsOf, answers}
 use Rattle.model.specs.Claim.{after, receipts}
 use Rattle.text.specs.Text.{Text, over}
 use Rattle.records.specs.Bytes.{recordAt, records, isSheet}

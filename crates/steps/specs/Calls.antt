@@ -12,7 +12,7 @@ use Rattle.model.specs.State.{RowState, entries, outline, Opening, canOpen, ope
 use Rattle.model.specs.Steps.{Step, append, commit, add, remove, changeLeader, refresh, join, receive, acknowledge, refreshController, readLeader, read, setNormal, hear, install}
 use Rattle.model.specs.Runs.{stepsOf, answers}
 use Rattle.model.specs.Claim.{LeadsUnder, after, receipts}
-use Rattle.model.specs.Trials.{bare, of, ofBoth, ofValue}
+use Rattle.model.specs.Records.{bare, of, ofBoth, ofValue}
 use Rattle.cluster.specs.declared.Cluster.{Cluster}
 use Rattle.cluster.specs.Layout.{outlineOf}
 use Rattle.refinement.specs.Memory.{Places, Full, abs}

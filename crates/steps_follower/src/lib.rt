@@ -97,7 +97,7 @@ pub fn refresh(
         → Leaves (T.Step.refresh b)
         (rowOf (record { view = w; status = s }) c views (now (joined .entry)) (now (acked .entry)) (now (len .entry)) issued) p
         (x .answer) (rowOf (record { view = w; status = s }) c (set views (x .place) (x .view)) (now (joined .exit)) (now (acked .exit)) (now (len .entry)) issued) p
-    ) ⌝ }
+        ) ⌝ }
 {
     let k = seat(b);
     let i = (k - 1) as usize;
@@ -149,7 +149,7 @@ pub fn join(views: [View; 8], joined: &mut [u16], len: &mut [u16], store: &[u32]
         → Leaves (T.Step.join b)
         (rowOf g c views (now (joined .entry)) acked (now (len .entry)) issued) (lent (now (store .entry)) list)
         x (rowOf g c views (now (joined .exit)) acked (now (len .exit)) issued) (lent (now (store .entry)) list)
-    ) ⌝ }
+        ) ⌝ }
 {
     let k = seat(b);
     let i = (k - 1) as usize;
@@ -200,7 +200,7 @@ pub fn receive(views: [View; 8], joined: &[u16], len: &mut [u16], store: &mut [u
         → Leaves (T.Step.receive b)
         (rowOf g c views (now (joined .entry)) acked (now (len .entry)) issued) (lent (now (store .entry)) list)
         x (rowOf g c views (now (joined .entry)) acked (now (len .exit)) issued) (lent (now (store .exit)) list)
-    ) ⌝ }
+        ) ⌝ }
 {
     let k = seat(b);
     let i = (k - 1) as usize;

@@ -83,9 +83,10 @@ returns-2 c =
     let d = c .before .before .before .before .before in
     let s = start d in
     let row = s .args .t1 in
-    let seat = c .before .before .seat in
-    (c .visible .ensures .0 ∙ shown-is row (places s) (seat .result) (passed d) (leader-small row (valid-range row (places s) (passed d))) (seat .ensures .2),
-    rw (passed d) (c .visible .ensures .1))
+    let seat = c .before .before .seat in (
+      c .visible .ensures .0 ∙ shown-is row (places s) (seat .result) (passed d) (leader-small row (valid-range row (places s) (passed d))) (seat .ensures .2),
+      rw (passed d) (c .visible .ensures .1),
+    )
 
 pub visible-spec : {M : Type 1} → statement M
 visible-spec =
