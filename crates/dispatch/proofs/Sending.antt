@@ -1,17 +1,14 @@
 -- From the call of a step to the record that stands for it: unused fields and numbers that are no step. Assumes nothing.
 use mathlib.Core.Bool.{Bool, true, false, cond, _&&_, false≢true}
 use mathlib.Core.List.{List, [], _∷_}
-use mathlib.Core.Logic.{_≢_}
 use mathlib.Core.Path.{_≡_, refl, sym, subst, ap, _∙_}
-use Prim.Native.Nat.{ℕ}
-use native.Mathlib.Nat.{zero-add}
+use Prim.Native.Nat.{ℕ, _≤_}
 use native.Mathlib.Omega.{arith}
 use lib.Dec.{eqb}
-use lib.ListN.{length, getD, set}
+use lib.ListN.{getD, List·getD-eq-default}
 use Rattle.model.specs.State.{Outline, outline, entries}
 use Rattle.model.specs.Steps.{Step, malformed, accepted, answerOf, next}
 use Rattle.model.specs.Records.{Record, unused, rules}
-use Rattle.model.proofs.Theorem.{nth}
 use Rattle.cluster.specs.declared.View.{View}
 use Rattle.cluster.specs.declared.Registry.{Registry}
 use Rattle.cluster.specs.declared.Controller.{Controller}
@@ -87,50 +84,6 @@ module _ (row : Cluster) (p : Places) (x : Outcome) (p′ : Places) where
         go true false r u _ = k
         go false q r u _ = k
 
--- A number that is none of the steps.
-abbrev pub Other : ℕ → Type 0
-Other n = (((((((((((((((Unit {0} × (n ≡ 0 → ⊥)) × (n ≡ 1 → ⊥)) × (n ≡ 2 → ⊥)) × (n ≡ 3 → ⊥)) × (n ≡ 4 → ⊥)) × (n ≡ 5 → ⊥)) × (n ≡ 6 → ⊥)) × (n ≡ 7 → ⊥))
-    × (n ≡ 8 → ⊥)) × (n ≡ 9 → ⊥)) × (n ≡ 10 → ⊥)) × (n ≡ 11 → ⊥)) × (n ≡ 12 → ⊥)) × (n ≡ 13 → ⊥)) × (n ≡ 14 → ⊥)) × (n ≡ 15 → ⊥)
-
-pub no-step : (r : Record) (n : ℕ) → Other n → getD (rules r) n malformed ≡ malformed
-no-step r n h = nth (λ m st. Other m → st ≡ malformed) malformed (λ _ _. refl) (rules r) 0 n (
-  (λ _. refl),
-  (
-    (λ o. absurd (o .0 .0 .0 .0 .0 .0 .0 .0 .0 .0 .0 .0 .0 .0 .1 refl)),
-    (
-      (λ o. absurd (o .0 .0 .0 .0 .0 .0 .0 .0 .0 .0 .0 .0 .0 .1 refl)),
-      (
-        (λ o. absurd (o .0 .0 .0 .0 .0 .0 .0 .0 .0 .0 .0 .0 .1 refl)),
-        (
-          (λ o. absurd (o .0 .0 .0 .0 .0 .0 .0 .0 .0 .0 .0 .1 refl)),
-          (
-            (λ o. absurd (o .0 .0 .0 .0 .0 .0 .0 .0 .0 .0 .1 refl)),
-            (
-              (λ o. absurd (o .0 .0 .0 .0 .0 .0 .0 .0 .0 .1 refl)),
-              (
-                (λ o. absurd (o .0 .0 .0 .0 .0 .0 .0 .0 .1 refl)),
-                (
-                  (λ o. absurd (o .0 .0 .0 .0 .0 .0 .0 .1 refl)),
-                  (
-                    (λ o. absurd (o .0 .0 .0 .0 .0 .0 .1 refl)),
-                    (
-                      (λ o. absurd (o .0 .0 .0 .0 .0 .1 refl)),
-                      (
-                        (λ o. absurd (o .0 .0 .0 .0 .1 refl)),
-                        (
-                          (λ o. absurd (o .0 .0 .0 .1 refl)),
-                          ((λ o. absurd (o .0 .0 .1 refl)), ((λ o. absurd (o .0 .1 refl)), ((λ o. absurd (o .1 refl)), tt))),
-                        ),
-                      ),
-                    ),
-                  ),
-                ),
-              ),
-            ),
-          ),
-        ),
-      ),
-    ),
-  ),
-)
-    (subst Other (sym (zero-add n)) h) ∙ refl
+-- A number above 15 is no step.
+pub no-step : (r : Record) (n : ℕ) → 16 ≤ n → getD (rules r) n malformed ≡ malformed
+no-step r n h = List·getD-eq-default (rules r) malformed {n = n} h

@@ -41,8 +41,6 @@ pub fn send(
         g c views issued (now (joined .entry)) (now (acked .entry)) (now (len .entry)) (lent (now (store .entry)) (now (list .entry)))
         x (now (joined .exit)) (now (acked .exit)) (now (len .exit)) (lent (now (store .exit)) (now (list .exit))) ⌝ }
 {
-    let b = board(r.board, r.other, r.spare, r.value);
-    let none = bare(r.board, r.other, r.spare, r.value);
     // What is no step: answer 1, and all as it was.
     let mut s = Settled {
         answer: 1,
@@ -56,65 +54,69 @@ pub fn send(
     match step {
         0 => {}
         1 => {
-            let a = board(r.board, r.other, r.spare, 0);
-            s.answer = steps_leader::append(views, &mut *acked, &mut *len, &mut *store, a, r.value);
+            let b = board(r.board, r.other, r.spare, 0);
+            s.answer = steps_leader::append(views, &mut *acked, &mut *len, &mut *store, b, r.value);
         }
-        2 => {
-            let x = steps_leader::commit(views, issued, &*acked, &*len, &*store, &mut *list, b);
-            s.answer = x.answer;
-            n = x.issued;
-        }
-        3 => {
-            s = steps_central::add(g, c, b);
-        }
-        4 => {
-            s = steps_central::remove(g, c, b);
+        2..=4 => {
+            let b = board(r.board, r.other, r.spare, r.value);
+            if step == 2 {
+                let x = steps_leader::commit(views, issued, &*acked, &*len, &*store, &mut *list, b);
+                s.answer = x.answer;
+                n = x.issued;
+            } else if step == 3 {
+                s = steps_central::add(g, c, b);
+            } else {
+                s = steps_central::remove(g, c, b);
+            }
         }
         5 => {
-            if none {
+            if bare(r.board, r.other, r.spare, r.value) {
                 s = steps_central::change(g, c);
             }
         }
-        6 => {
-            let w = g.view;
-            let x = steps_follower::refresh(w, views, &mut *joined, &mut *acked, &*len, b);
-            s.answer = x.answer;
-            i = x.place;
-            v = x.view;
-        }
-        7 => {
-            s.answer = steps_follower::join(views, &mut *joined, &mut *len, &*store, b);
-        }
-        8 => {
-            s.answer = steps_follower::receive(views, &*joined, &mut *len, &mut *store, b);
+        6..=8 => {
+            let b = board(r.board, r.other, r.spare, r.value);
+            if step == 6 {
+                let w = g.view;
+                let x = steps_follower::refresh(w, views, &mut *joined, &mut *acked, &*len, b);
+                s.answer = x.answer;
+                i = x.place;
+                v = x.view;
+            } else if step == 7 {
+                s.answer = steps_follower::join(views, &mut *joined, &mut *len, &*store, b);
+            } else {
+                s.answer = steps_follower::receive(views, &*joined, &mut *len, &mut *store, b);
+            }
         }
         9 => {
             let a = board(r.board, 0, r.spare, r.value);
             s.answer = steps_leader::acknowledge(views, &*joined, &mut *acked, &*len, a, r.other);
         }
-        10 => {
-            if none {
-                s = steps_central::refresh_controller(g, c);
-            }
-        }
-        11 => {
-            if none {
-                s = steps_central::read_leader(g, c, views, &*len);
+        10..=11 => {
+            if bare(r.board, r.other, r.spare, r.value) {
+                if step == 10 {
+                    s = steps_central::refresh_controller(g, c);
+                } else {
+                    s = steps_central::read_leader(g, c, views, &*len);
+                }
             }
         }
         12 => {
+            let b = board(r.board, r.other, r.spare, r.value);
             s = steps_central::read(g, c, &*joined, &*len, b);
         }
         13 => {
-            if none {
+            if bare(r.board, r.other, r.spare, r.value) {
                 s = steps_central::set_normal(g, c);
             }
         }
-        14 => {
-            s = steps_central::hear(g, c, views, &*joined, &*len, b);
-        }
-        15 => {
-            s = steps_central::install(g, c, b);
+        14..=15 => {
+            let b = board(r.board, r.other, r.spare, r.value);
+            if step == 14 {
+                s = steps_central::hear(g, c, views, &*joined, &*len, b);
+            } else {
+                s = steps_central::install(g, c, b);
+            }
         }
         16..=255 => {}
     }
