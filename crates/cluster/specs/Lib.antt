@@ -1,2 +1,3 @@
 pub mod Layout
+pub mod Leading
 pub mod Parts
