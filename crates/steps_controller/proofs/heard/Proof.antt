@@ -1,5 +1,5 @@
 -- `steps_controller::heard` meets its contract: the writes at the place of k are the model's point updates. Assumes nothing.
-use Rattle.steps_controller.proofs.Tellings.{heard-left}
+use Rattle.steps_controller.proofs.Afters.{heard-left}
 use borrow.Author.Needs.{needs}
 use Rattle.steps_controller.proofs.heard.Statement.{statement}
 use Rattle.steps_controller.proofs.heard.Tie as tie
