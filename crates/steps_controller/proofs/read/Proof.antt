@@ -1,6 +1,6 @@
 -- `steps_controller::read` meets its contract. Assumes nothing.
 use mathlib.Core.List.{List}
-use mathlib.Core.Path.{refl, sym, _∙_}
+use mathlib.Core.Path.{refl, sym}
 use Prim.Native.Nat.{_-_}
 use lib.ListN.{getD}
 use Rattle.model.specs.Prelude.{Check}
@@ -53,7 +53,7 @@ returns c =
     let seat = own d .seat .ensures in
     tells (read (a .b)) (made d) tt (ReadKnown (a .b) (a .j) (a .n)) (a .t1)
     (read-answer (a .t1) (a .b) _ (a .n) (seat .0) (seat .2) (a .j)) _
-    (d .may-read .ensures) (λ _. refl) (λ z. absurd (c .if1 .taken z))
+    (d .may-read .ensures) refl (λ _. refl) (λ z. absurd (c .if1 .taken z))
 
 heard-requires : tie.Need-heard-requires
 heard-requires c κs = search needs
@@ -65,7 +65,7 @@ returns-2 c =
     let seat = own d .seat .ensures in
     tells (read (a .b)) (made d) tt (ReadKnown (a .b) (a .j) (a .n)) (a .t1)
     (read-answer (a .t1) (a .b) _ (a .n) (seat .0) (seat .2) (a .j)) _
-    (sym (c .before .if1 .left) ∙ d .may-read .ensures) (λ h. absurd (h refl))
+    (d .may-read .ensures) (sym (c .before .if1 .left)) (λ h. absurd (h refl))
     (λ _. read-after (a .t1) (c .heard .result) _ (a .n) (a .b) (seat .2) _ (a .j) (c .heard .ensures))
 
 pub read-spec : {M : Type 1} → statement M

@@ -1,5 +1,5 @@
 -- `steps_registry::add` meets its contract. Assumes nothing.
-use mathlib.Core.Path.{refl, sym, _∙_}
+use mathlib.Core.Path.{refl, sym}
 use Rattle.model.specs.Steps.{add}
 use Rattle.cluster.proofs.Steps.{rules}
 use Rattle.steps_registry.specs.Checks.{addChecks}
@@ -28,7 +28,7 @@ returns c =
     let a = entry d .args in
     let seat = own d .seat .ensures .2 in
     rules (add (a .b)) (addChecks (a .r) _ (a .b)) tt (a .r) (add-answer (a .r) (a .b) _ seat) _
-    (d .may-add .ensures) (λ _. refl) (λ z. absurd (c .if1 .taken z))
+    (d .may-add .ensures) refl (λ _. refl) (λ z. absurd (c .if1 .taken z))
 
 raised-requires : tie.Need-raised-requires
 raised-requires c κs = search needs
@@ -42,7 +42,7 @@ returns-2 c =
     let a = entry d .args in
     let seat = own d .seat .ensures .2 in
     rules (add (a .b)) (addChecks (a .r) _ (a .b)) tt (a .r) (add-answer (a .r) (a .b) _ seat) _
-    (sym (c .before .before .if1 .left) ∙ d .may-add .ensures) (λ h. absurd (h refl))
+    (d .may-add .ensures) (sym (c .before .before .if1 .left)) (λ h. absurd (h refl))
     (λ _ h s. add-after (a .r) _ (c .before .raised .ensures) (a .b) _ _ seat (c .insert .ensures) h)
 
 pub add-spec : {M : Type 1} → statement M

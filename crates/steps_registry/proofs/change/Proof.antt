@@ -1,5 +1,5 @@
 -- `steps_registry::change` meets its contract. Assumes nothing.
-use mathlib.Core.Path.{refl, sym, _∙_}
+use mathlib.Core.Path.{refl, sym}
 use Rattle.model.specs.Steps.{changeLeader}
 use Rattle.cluster.proofs.Steps.{rules}
 use Rattle.steps_registry.specs.Checks.{changeChecks}
@@ -20,7 +20,7 @@ returns : tie.Need-returns
 returns c =
     let r = entry (c .before) .args .r in
     rules changeLeader (changeChecks r) tt r (change-answer r) _
-    (c .before .may-change .ensures) (λ _. refl) (λ z. absurd (c .if1 .taken z))
+    (c .before .may-change .ensures) refl (λ _. refl) (λ z. absurd (c .if1 .taken z))
 
 raised-requires : tie.Need-raised-requires
 raised-requires c κs = search needs
@@ -36,7 +36,7 @@ returns-2 c =
     let d = c .before .before .before .before in
     let r = entry d .args .r in
     rules changeLeader (changeChecks r) tt r (change-answer r) _
-    (sym (c .before .before .before .if1 .left) ∙ d .may-change .ensures) (λ h. absurd (h refl))
+    (d .may-change .ensures) (sym (c .before .before .before .if1 .left)) (λ h. absurd (h refl))
     (λ _. change-after r _ (c .before .before .raised .ensures) _ (c .succession .result)
     (c .before .without .ensures) (c .succession .ensures))
 

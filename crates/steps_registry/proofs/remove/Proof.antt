@@ -1,5 +1,5 @@
 -- `steps_registry::remove` meets its contract. Assumes nothing.
-use mathlib.Core.Path.{refl, sym, _∙_}
+use mathlib.Core.Path.{refl, sym}
 use Rattle.model.specs.Steps.{remove}
 use Rattle.cluster.proofs.Steps.{rules}
 use Rattle.steps_registry.specs.Checks.{removeChecks}
@@ -28,7 +28,7 @@ returns c =
     let a = entry d .args in
     let seat = own d .seat .ensures .2 in
     rules (remove (a .b)) (removeChecks (a .r) _ (a .b)) tt (a .r) (remove-answer (a .r) (a .b) _ seat) _
-    (d .may-remove .ensures) (λ _. refl) (λ z. absurd (c .if1 .taken z))
+    (d .may-remove .ensures) refl (λ _. refl) (λ z. absurd (c .if1 .taken z))
 
 raised-requires : tie.Need-raised-requires
 raised-requires c κs = search needs
@@ -48,7 +48,7 @@ returns-2 c =
     let a = entry d .args in
     let seat = own d .seat .ensures .2 in
     rules (remove (a .b)) (removeChecks (a .r) _ (a .b)) tt (a .r) (remove-answer (a .r) (a .b) _ seat) _
-    (sym (c .before .before .before .before .if1 .left) ∙ d .may-remove .ensures) (λ h. absurd (h refl))
+    (d .may-remove .ensures) (sym (c .before .before .before .before .if1 .left)) (λ h. absurd (h refl))
     (λ _ h s. remove-after (a .r) _ (c .before .before .before .raised .ensures) (a .b) _ _ seat _
     (c .status-left .result) (c .before .before .remove .ensures) (c .before .size .ensures) (c .status-left .ensures) h)
 
