@@ -1,20 +1,21 @@
 -- The checks of steps 13 and 15 are the model's: those gathered in a mask are those that qualify, and a board that is one is
 -- found at its seat. Assumes nothing.
 use mathlib.Core.Bool.{true}
-use mathlib.Core.Path.{_≡_, sym, ap, _∙_}
-use Prim.Native.Nat.{ℕ, _-_, _≤_}
 use mathlib.Core.List.{List}
+use mathlib.Core.Path.{_≡_}
+use Prim.Native.Nat.{ℕ, _-_}
 use lib.ListN.{getD}
 use Rattle.model.specs.Prelude.{firstFailed}
 use Rattle.model.specs.Members.{isReplica, hasQuorum}
 use Rattle.model.specs.State.{State, outline}
 use Rattle.model.specs.Steps.{Step, setNormal, install, answerOf, withRegistry, withController, heardEnough, rankedNotAbove}
+use Rattle.model.proofs.Tests.{of-true}
 use Rattle.members.specs.Mask.{bits, under}
 use Rattle.members.proofs.Laws.{under-quorum}
 use Rattle.cluster.specs.declared.Registry.{Registry}
 use Rattle.cluster.specs.declared.Controller.{Controller}
 use Rattle.cluster.specs.Layout.{registryOf, controllerOf, at}
-use Rattle.cluster.proofs.Laws.{guarded, at-index}
+use Rattle.cluster.proofs.Laws.{guarded, at-seat}
 use Rattle.steps_both.specs.Checks.{setNormalChecks, installChecks}
 use Rattle.steps_both.specs.Heard.{longEnough, notAbove}
 
@@ -34,12 +35,12 @@ module _ (r : Registry) (c : Controller) where
       rw enough
 
   -- b's seat is k.
-  module _ (b k q : ℕ) (low : 1 ≤ k) (seat : isReplica b ≡ true → k ≡ b) where
+  module _ (b k q : ℕ) (seat : isReplica b ≡ true → k ≡ b) where
     abbrev heardAt : List ℕ → ℕ
     heardAt heard = getD heard (k - 1) 0
 
     found : isReplica b ≡ true → (heard : List ℕ) → heardAt heard ≡ at 0 heard b
-    found t heard = sym (at-index 0 heard k low) ∙ ap (at 0 heard) (seat t)
+    found t heard = at-seat 0 heard b k seat (of-true t)
 
     pub install-answer : bits q ≡ under 9 (notAbove (c .heard) (c .joined) (heardAt (c .heard)) (heardAt (c .joined)))
         → (s : State ℕ) → firstFailed (installChecks r (c .view) (c .stage) (heardAt (c .heard)) q k b) ≡ answer r c s (install b)

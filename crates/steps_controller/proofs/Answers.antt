@@ -1,8 +1,8 @@
 -- The checks of steps 10, 11, 12 and 14 are the model's: a board that is one is found at its seat, and what the step was told
 -- of it is so. Assumes nothing.
 use mathlib.Core.Bool.{true}
-use mathlib.Core.Path.{_≡_, sym, ap, _∙_}
-use Prim.Native.Nat.{ℕ, _-_, _≤_}
+use mathlib.Core.Path.{_≡_}
+use Prim.Native.Nat.{ℕ, _-_}
 use lib.Dec.{eqb}
 use lib.ListN.{getD}
 use borrow.Author.Tests.{eqb-true}
@@ -10,10 +10,11 @@ use Rattle.model.specs.Prelude.{firstFailed}
 use Rattle.model.specs.Members.{isReplica}
 use Rattle.model.specs.State.{State, outline, stageNumber}
 use Rattle.model.specs.Steps.{Step, refreshController, readLeader, read, hear, answerOf, withController}
+use Rattle.model.proofs.Tests.{of-true}
 use Rattle.cluster.specs.declared.Registry.{Registry}
 use Rattle.cluster.specs.declared.Controller.{Controller}
 use Rattle.cluster.specs.Layout.{stageOf, at, controllerOf}
-use Rattle.cluster.proofs.Laws.{guarded, at-index}
+use Rattle.cluster.proofs.Laws.{guarded, at-seat}
 use Rattle.steps_controller.specs.Checks.{refreshControllerChecks, readLeaderChecks, readChecks, hearChecks}
 use Rattle.steps_controller.specs.Known.{RegistryKnown, LeaderKnown, ReadKnown, HearKnown}
 
@@ -33,12 +34,12 @@ module _ (c : Controller) where
       guarded (eqb stage 1) _ _ 15 (λ t. rw (known (eqb-true stage 1 t) .0))
 
   -- The board b, whose seat is k, and what is heard of it.
-  module _ (b k n : ℕ) (low : 1 ≤ k) (seat : isReplica b ≡ true → k ≡ b) where
+  module _ (b k n : ℕ) (seat : isReplica b ≡ true → k ≡ b) where
     abbrev heard : ℕ
     heard = getD (c .heard) (k - 1) 0
 
     found : isReplica b ≡ true → heard ≡ at 0 (c .heard) b
-    found t = sym (at-index 0 (c .heard) k low) ∙ ap (at 0 (c .heard)) (seat t)
+    found t = at-seat 0 (c .heard) b k seat (of-true t)
 
     pub read-answer : (j : ℕ) (s : State ℕ) → ReadKnown b j n s
         → firstFailed (readChecks (c .view) (c .stage) heard j n k b) ≡ answer c s (read b)

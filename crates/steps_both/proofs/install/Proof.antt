@@ -63,9 +63,9 @@ returns : tie.Need-returns
 returns c =
     let d = c .before in
     let a = entry d .args in
-    let seat = own d .seat .ensures in
+    let seat = own d .seat .ensures .2 in
     settles (install (a .b)) (made d) tt (a .r) (a .c)
-    (install-answer (a .r) (a .c) (a .b) _ _ (seat .0) (seat .2) (those d .ranked-not-above .ensures)) _
+    (install-answer (a .r) (a .c) (a .b) _ _ seat (those d .ranked-not-above .ensures)) _
     (d .may-install .ensures) refl (λ _. (refl, refl)) (λ z. absurd (c .if1 .taken z))
 
 raised-requires : tie.Need-raised-requires
@@ -75,9 +75,9 @@ returns-2 : tie.Need-returns-2
 returns-2 c =
     let d = c .before .before in
     let a = entry d .args in
-    let seat = own d .seat .ensures in
+    let seat = own d .seat .ensures .2 in
     settles (install (a .b)) (made d) tt (a .r) (a .c)
-    (install-answer (a .r) (a .c) (a .b) _ _ (seat .0) (seat .2) (those d .ranked-not-above .ensures)) _
+    (install-answer (a .r) (a .c) (a .b) _ _ seat (those d .ranked-not-above .ensures)) _
     (d .may-install .ensures) (sym (c .before .if1 .left)) (λ h. absurd (h refl))
     (λ _ h s. both-after (a .r) (a .c) _ (c .raised .ensures) (installedView (a .b)) Waiting Leader (h 7))
 

@@ -50,9 +50,9 @@ returns : tie.Need-returns
 returns c =
     let d = c .before in
     let a = entry d .args in
-    let seat = own d .seat .ensures in
+    let seat = own d .seat .ensures .2 in
     tells (hear (a .b)) (made d) tt (HearKnown (a .b) (a .e) (a .j) (a .n)) (a .t1)
-    (hear-answer (a .t1) (a .b) _ (a .n) (seat .0) (seat .2) (a .e) (a .j)) _
+    (hear-answer (a .t1) (a .b) _ (a .n) seat (a .e) (a .j)) _
     (d .may-hear .ensures) refl (λ _. refl) (λ z. absurd (c .if1 .taken z))
 
 heard-requires : tie.Need-heard-requires
@@ -62,11 +62,11 @@ returns-2 : tie.Need-returns-2
 returns-2 c =
     let d = c .before .before in
     let a = entry d .args in
-    let seat = own d .seat .ensures in
+    let seat = own d .seat .ensures .2 in
     tells (hear (a .b)) (made d) tt (HearKnown (a .b) (a .e) (a .j) (a .n)) (a .t1)
-    (hear-answer (a .t1) (a .b) _ (a .n) (seat .0) (seat .2) (a .e) (a .j)) _
+    (hear-answer (a .t1) (a .b) _ (a .n) seat (a .e) (a .j)) _
     (d .may-hear .ensures) (sym (c .before .if1 .left)) (λ h. absurd (h refl))
-    (λ _. hear-after (a .t1) (c .heard .result) _ (a .n) (a .b) (seat .2) _ (a .e) (a .j) (c .heard .ensures))
+    (λ _. hear-after (a .t1) (c .heard .result) _ (a .n) (a .b) seat _ (a .e) (a .j) (c .heard .ensures))
 
 pub hear-spec : {M : Type 1} → statement M
 hear-spec =
