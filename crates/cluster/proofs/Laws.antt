@@ -35,7 +35,8 @@ getD-same d (suc n) (suc i) = getD-same d n i
 
 -- A controller with nothing heard.
 pub deaf-of : (v : View) (g : Stage)
-    → controllerOf (record { view = v; stage = g; heard = replicate 8 0; joined = replicate 8 0 }) ≡ deaf (viewOf v) (stageOf g)
+    → controllerOf (record { view = v; stage = g; heard = replicate 8 0; joined = replicate 8 0 })
+    ≡ deaf (viewOf v) (stageOf g)
 deaf-of v g =
     let none : at 0 (replicate 8 0) ≡ zeros = fun-ext (getD-same 0 9) in
     λ i. record { view = viewOf v; stage = stageOf g; heard = none i; heardJoined = none i }

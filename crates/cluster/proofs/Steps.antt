@@ -1,5 +1,5 @@
--- A step of the registry, of the controller or of both, by the checks that it made: if they answer as the model's do, its answer, the
--- part or parts that it leaves, and that refused it leaves them as they were. Assumes nothing.
+-- A step of the registry, of the controller or of both, by the checks that it made: if they answer as the model's do,
+-- its answer, the part or parts that it leaves, and that refused it leaves them as they were. Assumes nothing.
 use mathlib.Core.List.{List}
 use mathlib.Core.Logic.{_≢_}
 use mathlib.Core.Path.{_≡_, ap, _∙_}
@@ -18,47 +18,64 @@ use Rattle.cluster.specs.declared.Settled.{Settled}
 use Rattle.cluster.specs.Layout.{registryOf, controllerOf}
 use Rattle.cluster.specs.Parts.{Rules, Tells, Settles}
 
--- The checks cs, of any state that has the parts.
+-- The state s with these parts in it.
+abbrev pub registryIn : Registry → State ℕ → State ℕ
+registryIn r s = withRegistry s (registryOf r)
+
+abbrev pub controllerIn : Controller → State ℕ → State ℕ
+controllerIn c s = withController s (controllerOf c)
+
+abbrev pub bothIn : Registry → Controller → State ℕ → State ℕ
+bothIn r c s = controllerIn c (registryIn r s)
+
+-- The step st made the checks cs, which answered n. Refused it leaves what it was given, accepted what the model
+-- leaves.
 module _ (st : Step) (cs : List Check) (own : T (numbered cs)) where
-  -- The registry.
-  module _ (r : Registry) (same : (s : State ℕ) → firstFailed cs ≡ answerOf (outline (withRegistry s (registryOf r))) st) where
+  -- A step of the registry.
+  module _ (r : Registry) (same : (s : State ℕ) → firstFailed cs ≡ answerOf (outline (registryIn r s)) st) where
     pub rules : (x : Ruled) {n : ℕ} → n ≡ firstFailed cs → x .answer ≡ n → (x .answer ≢ 0 → x .registry ≡ r)
-        → (x .answer ≡ 0 → Holds cs → (s : State ℕ) → registryOf (x .registry) ≡ next values (withRegistry s (registryOf r)) st .registry)
+        → (x .answer ≡ 0 → Holds cs → (s : State ℕ) → registryOf (x .registry) ≡ next values (registryIn r s) st .registry)
         → Rules st r x
-    rules x e n refused taken = let e′ = n ∙ e in record {
-      answer = λ s. e′ ∙ same s;
-      after = λ s. part-left values (withRegistry s (registryOf r)) st cs own (same s) (x .answer) e′ (λ y. y .registry) _
-          (λ h. ap registryOf (refused h)) (λ z h. taken z h s);
-      refused = refused;
-    }
+    rules x e n refused taken =
+        let answers = n ∙ e in
+        record {
+          answer = λ s. answers ∙ same s;
+          after = λ s. part-left values (registryIn r s) st cs own (same s) (x .answer) answers (λ y. y .registry) _
+              (λ h. ap registryOf (refused h)) (λ z h. taken z h s);
+          refused = refused;
+        }
 
-  -- The controller, and what the call was told.
+  -- A step of the controller, and what it was told.
   module _ (Known : State ℕ → Type 0) (c : Controller)
-      (same : (s : State ℕ) → Known s → firstFailed cs ≡ answerOf (outline (withController s (controllerOf c))) st) where
+      (same : (s : State ℕ) → Known s → firstFailed cs ≡ answerOf (outline (controllerIn c s)) st) where
     pub tells : (x : Told) {n : ℕ} → n ≡ firstFailed cs → x .answer ≡ n → (x .answer ≢ 0 → x .controller ≡ c)
-        → (x .answer ≡ 0 → Holds cs → (s : State ℕ) → Known s → controllerOf (x .controller) ≡ next values (withController s (controllerOf c)) st .controller)
+        → (x .answer ≡ 0 → Holds cs
+        → (s : State ℕ) → Known s → controllerOf (x .controller) ≡ next values (controllerIn c s) st .controller)
         → Tells Known st c x
-    tells x e n refused taken = let e′ = n ∙ e in record {
-      answer = λ s k. e′ ∙ same s k;
-      after = λ s k. part-left values (withController s (controllerOf c)) st cs own (same s k) (x .answer) e′ (λ y. y .controller) _
-          (λ h. ap controllerOf (refused h)) (λ z h. taken z h s k);
-      refused = refused;
-    }
+    tells x e n refused taken =
+        let answers = n ∙ e in
+        record {
+          answer = λ s k. answers ∙ same s k;
+          after = λ s k. part-left values (controllerIn c s) st cs own (same s k) (x .answer) answers (λ y. y .controller) _
+              (λ h. ap controllerOf (refused h)) (λ z h. taken z h s k);
+          refused = refused;
+        }
 
-  -- Both.
+  -- A step of both.
   module _ (r : Registry) (c : Controller)
-      (same : (s : State ℕ) → firstFailed cs ≡ answerOf (outline (withController (withRegistry s (registryOf r)) (controllerOf c))) st) where
-    abbrev of : State ℕ → State ℕ
-    of s = withController (withRegistry s (registryOf r)) (controllerOf c)
-
-    pub settles : (x : Settled) {n : ℕ} → n ≡ firstFailed cs → x .answer ≡ n → (x .answer ≢ 0 → (x .registry ≡ r) × (x .controller ≡ c))
-        → (x .answer ≡ 0 → Holds cs → (s : State ℕ) → (registryOf (x .registry) ≡ next values (of s) st .registry) × (controllerOf (x .controller) ≡ next values (of s) st .controller))
+      (same : (s : State ℕ) → firstFailed cs ≡ answerOf (outline (bothIn r c s)) st) where
+    pub settles : (x : Settled) {n : ℕ} → n ≡ firstFailed cs → x .answer ≡ n
+        → (x .answer ≢ 0 → (x .registry ≡ r) × (x .controller ≡ c))
+        → (x .answer ≡ 0 → Holds cs → (s : State ℕ) → (registryOf (x .registry) ≡ next values (bothIn r c s) st .registry)
+        × (controllerOf (x .controller) ≡ next values (bothIn r c s) st .controller))
         → Settles st r c x
-    settles x e n refused taken = let e′ = n ∙ e in record {
-      answer = λ s. e′ ∙ same s;
-      registry = λ s. part-left values (of s) st cs own (same s) (x .answer) e′ (λ y. y .registry) _
-          (λ h. ap registryOf (refused h .0)) (λ z h. taken z h s .0);
-      controller = λ s. part-left values (of s) st cs own (same s) (x .answer) e′ (λ y. y .controller) _
-          (λ h. ap controllerOf (refused h .1)) (λ z h. taken z h s .1);
-      refused = refused;
-    }
+    settles x e n refused taken =
+        let answers = n ∙ e in
+        record {
+          answer = λ s. answers ∙ same s;
+          registry = λ s. part-left values (bothIn r c s) st cs own (same s) (x .answer) answers (λ y. y .registry) _
+              (λ h. ap registryOf (refused h .0)) (λ z h. taken z h s .0);
+          controller = λ s. part-left values (bothIn r c s) st cs own (same s) (x .answer) answers (λ y. y .controller) _
+              (λ h. ap controllerOf (refused h .1)) (λ z h. taken z h s .1);
+          refused = refused;
+        }

@@ -1,4 +1,5 @@
--- What steps of the controller rely on in its record. Cited by the contracts of steps_controller and steps_central. Assumes nothing.
+-- What steps of the controller rely on in its record. Cited by the contracts of steps_controller and steps_central.
+-- Assumes nothing.
 use mathlib.Core.Bool.{true}
 use mathlib.Core.Path.{_≡_}
 use Rattle.model.specs.Members.{isReplica}

@@ -70,13 +70,16 @@ nonzero-refused m st n = go (accepted m st) refl
 
 -- The checks cs answer n, and so does the step st of the state s. What is left of a part of s: refused that part, accepted what the
 -- model leaves of it.
-module _ (𝓔 : Entries) (s : State (𝓔 .Entry)) (st : Step) (cs : List Check) (own : T (numbered cs)) (same : firstFailed cs ≡ answerOf (outline s) st)
-    (n : ℕ) (e : n ≡ firstFailed cs) {P : Type 0} (part : State (𝓔 .Entry) → P) (p : P) where
+module _ (𝓔 : Entries) (s : State (𝓔 .Entry)) (st : Step) (cs : List Check) (own : T (numbered cs))
+    (same : firstFailed cs ≡ answerOf (outline s) st) (n : ℕ) (e : n ≡ firstFailed cs) {P : Type 0} (part : State (𝓔 .Entry) → P) (p : P) where
   pub part-left : (n ≢ 0 → p ≡ part s) → (n ≡ 0 → Holds cs → p ≡ part (next 𝓔 s st)) → p ≡ part (step 𝓔 s st)
   part-left refused taken = ⊎-elim yes no (eq-or-ne n 0)
     where
+      left : {t : Bool} → accepted (outline s) st ≡ t → part (cond t (next 𝓔 s st) s) ≡ part (step 𝓔 s st)
+      left q = ap (λ t. part (cond t (next 𝓔 s st) s)) (sym q)
+
       yes : n ≡ 0 → p ≡ part (step 𝓔 s st)
-      yes z = taken z (zero-holds cs own (sym e ∙ z)) ∙ ap (λ t. part (cond t (next 𝓔 s st) s)) (sym (zero-accepted (outline s) st (sym (e ∙ same) ∙ z)))
+      yes z = taken z (zero-holds cs own (sym e ∙ z)) ∙ left (zero-accepted (outline s) st (sym (e ∙ same) ∙ z))
 
       no : n ≢ 0 → p ≡ part (step 𝓔 s st)
-      no h = refused h ∙ ap (λ t. part (cond t (next 𝓔 s st) s)) (sym (nonzero-refused (outline s) st (λ z. h (e ∙ same ∙ z))))
+      no h = refused h ∙ left (nonzero-refused (outline s) st (λ z. h (e ∙ same ∙ z)))

@@ -1,5 +1,5 @@
--- The checks of steps 13 and 15 are the model's: those gathered in a mask are those that qualify, and a board that is one is
--- found at its seat. Assumes nothing.
+-- The checks of steps 13 and 15 are the model's: those gathered in a mask are those that qualify, and a board that is
+-- one is found at its seat. Assumes nothing.
 use mathlib.Core.Bool.{true}
 use mathlib.Core.List.{List}
 use mathlib.Core.Path.{_≡_}
@@ -8,25 +8,23 @@ use lib.ListN.{getD}
 use Rattle.model.specs.Prelude.{firstFailed}
 use Rattle.model.specs.Members.{isReplica, hasQuorum}
 use Rattle.model.specs.State.{State, outline}
-use Rattle.model.specs.Steps.{Step, setNormal, install, answerOf, withRegistry, withController, heardEnough, rankedNotAbove}
+use Rattle.model.specs.Steps.{setNormal, install, answerOf, heardEnough, rankedNotAbove}
 use Rattle.model.proofs.Tests.{of-true}
 use Rattle.members.specs.Mask.{bits, under}
 use Rattle.members.proofs.Laws.{under-quorum}
 use Rattle.cluster.specs.declared.Registry.{Registry}
 use Rattle.cluster.specs.declared.Controller.{Controller}
-use Rattle.cluster.specs.Layout.{registryOf, controllerOf, at}
+use Rattle.cluster.specs.Layout.{controllerOf, at}
 use Rattle.cluster.proofs.Laws.{guarded, at-seat}
+use Rattle.cluster.proofs.Steps.{bothIn}
 use Rattle.steps_both.specs.Checks.{setNormalChecks, installChecks}
 use Rattle.steps_both.specs.Heard.{longEnough, notAbove}
 
--- The model's answer in a state with the registry r and the controller c.
-abbrev answer : Registry → Controller → State ℕ → Step → ℕ
-answer r c s st = answerOf (outline (withController (withRegistry s (registryOf r)) (controllerOf c))) st
-
 module _ (r : Registry) (c : Controller) where
   -- low is what is heard of the leader.
-  pub set-normal-answer : (low q : ℕ) → low ≡ at 0 (c .heard) (c .view .leader) → bits q ≡ under 9 (longEnough (c .heard) low)
-      → (s : State ℕ) → firstFailed (setNormalChecks r (c .view) (c .stage) q) ≡ answer r c s setNormal
+  pub set-normal-answer : (low q : ℕ) → low ≡ at 0 (c .heard) (c .view .leader)
+      → bits q ≡ under 9 (longEnough (c .heard) low)
+      → (s : State ℕ) → firstFailed (setNormalChecks r (c .view) (c .stage) q) ≡ answerOf (outline (bothIn r c s)) setNormal
   unfolding longEnough
   set-normal-answer low q el eq s =
       let m = bits (c .view .members) in
@@ -43,7 +41,8 @@ module _ (r : Registry) (c : Controller) where
     found t heard = at-seat 0 heard b k seat (of-true t)
 
     pub install-answer : bits q ≡ under 9 (notAbove (c .heard) (c .joined) (heardAt (c .heard)) (heardAt (c .joined)))
-        → (s : State ℕ) → firstFailed (installChecks r (c .view) (c .stage) (heardAt (c .heard)) q k b) ≡ answer r c s (install b)
+        → (s : State ℕ)
+        → firstFailed (installChecks r (c .view) (c .stage) (heardAt (c .heard)) q k b) ≡ answerOf (outline (bothIn r c s)) (install b)
     unfolding notAbove
     install-answer eq s = guarded (isReplica b) _ _ 1 (λ t.
         let m = bits (c .view .members) in

@@ -59,8 +59,8 @@ fn heard_enough(heard: [u16; 8], low: u16) -> u8
     q
 }
 
-// Step 15: whether what is heard at length h, 0 for none, and joined epoch j does not rank above length l and joined epoch
-// k.
+// Step 15: whether what is heard at length h, 0 for none, and joined epoch j does not rank above length l and joined
+// epoch k.
 fn not_above(h: u16, j: u16, l: u16, k: u16) -> bool
     ensures { λ r. ⌜ r ≡ (leb 1 h && not (ltb k j || (eqb k j && ltb l h))) ⌝ }
 {
@@ -139,8 +139,8 @@ pub fn set_normal(r: Registry, c: Controller) -> Settled
     }
 }
 
-// Step 15: what is answered about b, whose seat is k: the registry r, the controller's view v and stage g, the length l heard
-// of b, 0 for none, those heard and not ranked above b, q.
+// Step 15: what is answered about b, whose seat is k: the registry r, the controller's view v and stage g, the length
+// l heard of b, 0 for none, those heard and not ranked above b, q.
 fn may_install(r: Registry, v: View, g: Stage, l: u16, q: u8, k: u8, b: u8) -> u8
     requires { ⌜ (1 ≤ k) × (k ≤ 8) ⌝ }
     ensures { λ x. ⌜ x ≡ firstFailed (installChecks r v g l q k b) ⌝ }

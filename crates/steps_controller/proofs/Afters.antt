@@ -8,7 +8,7 @@ use lib.ListN.{length, set, replicate}
 use Rattle.model.specs.Members.{isReplica}
 use Rattle.model.specs.State as M
 use Rattle.model.specs.State.{State, values}
-use Rattle.model.specs.Steps.{Step, refreshController, readLeader, read, hear, next, heardOf, withController}
+use Rattle.model.specs.Steps.{Step, refreshController, readLeader, read, hear, next, heardOf}
 use Rattle.model.proofs.Tests.{Holds, is-true}
 use Rattle.cluster.specs.declared.Stage.{Stage}
 use Rattle.cluster.specs.declared.Registry.{Registry}
@@ -16,17 +16,19 @@ use Rattle.cluster.specs.declared.Controller.{Controller}
 use Rattle.cluster.specs.Layout.{statusOf, stageOf, controllerOf}
 use Rattle.cluster.specs.Leading.{HasLeader}
 use Rattle.cluster.proofs.Laws.{at-set, deaf-of}
+use Rattle.cluster.proofs.Steps.{controllerIn}
 use Rattle.steps_controller.specs.Checks.{readLeaderChecks, readChecks, hearChecks}
 use Rattle.steps_controller.specs.Known.{RegistryKnown, LeaderKnown, ReadKnown, HearKnown}
 
 -- The model's controller after an accepted step in a state with the controller c.
 abbrev after : Controller → State ℕ → Step → M.Controller
-after c s st = next values (withController s (controllerOf c)) st .controller
+after c s st = next values (controllerIn c s) st .controller
 
 -- Step 10.
-pub refresh-controller-after : (c : Controller) (r : Registry) (g : Stage) → stageOf g ≡ M.stageFor (statusOf (r .status))
-    → (s : State ℕ) → RegistryKnown r s
-    → controllerOf (record { view = r .view; stage = g; heard = replicate 8 0; joined = replicate 8 0 }) ≡ after c s refreshController
+pub refresh-controller-after : (c : Controller) (r : Registry) (g : Stage)
+    → stageOf g ≡ M.stageFor (statusOf (r .status)) → (s : State ℕ) → RegistryKnown r s
+    → controllerOf (record { view = r .view; stage = g; heard = replicate 8 0; joined = replicate 8 0 })
+    ≡ after c s refreshController
 refresh-controller-after c r g e s known = deaf-of (r .view) g ∙ rw (known, e)
 
 -- Steps 11, 12 and 14 leave d, which heard of b at its seat k.
@@ -60,7 +62,8 @@ module _ (c d : Controller) (k n : ℕ) where
         heard-after c d b k n seat (stageOf (c .stage)) j left one _ _ (f .2) (f .1)
 
 -- What a hearing leaves: lengths and joined epochs with those of the board k written.
-pub heard-left : (c : Controller) (g : Stage) (k n j : ℕ) → 1 ≤ k → k ≤ 8 → length (c .heard) ≡ 8 → length (c .joined) ≡ 8
+pub heard-left : (c : Controller) (g : Stage) (k n j : ℕ) → 1 ≤ k → k ≤ 8
+    → length (c .heard) ≡ 8 → length (c .joined) ≡ 8
     → controllerOf (record {
       view = c .view;
       stage = g;

@@ -1,5 +1,5 @@
--- What a step of the controller is told, as facts of a state. Each can be met: it speaks of other parts than the controller.
--- Cited by the contracts of steps_controller. Assumes nothing.
+-- What a step of the controller is told, as facts of a state. Each can be met: it speaks of other parts than the
+-- controller. Cited by the contracts of steps_controller. Assumes nothing.
 use mathlib.Core.Bool.{true}
 use mathlib.Core.Path.{_≡_}
 use Prim.Native.Nat.{ℕ}

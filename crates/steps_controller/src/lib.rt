@@ -1,5 +1,5 @@
-// The steps of the controller alone: news (10), read leader (11), read (12), hear (14). Inner layer: callers see to it that
-// a log's length is at most 512, and to a leader at stage leader; `steps` and `hub` refuse others with 1.
+// The steps of the controller alone: news (10), read leader (11), read (12), hear (14). Inner layer: callers see to
+// it that a log's length is at most 512, and to a leader at stage leader; `steps` and `hub` refuse others with 1.
 
 ghost use mathlib.Core.Path.{_≡_};
 ghost use Prim.Native.Nat.{_≤_};
@@ -94,8 +94,8 @@ fn may_read_leader(v: View, g: Stage, e: u16) -> u8
     check(number(g) == 1, n16, 15)
 }
 
-// Step 11, the controller reads its leader, whose epoch is e and whose log has n entries. Inner layer: callers see to the
-// length, and to a leader at stage leader.
+// Step 11, the controller reads its leader, whose epoch is e and whose log has n entries. Inner layer: callers see to
+// the length, and to a leader at stage leader.
 pub fn read_leader(c: Controller, e: u16, n: u16) -> Told
     requires { ⌜ HasLeader c × (n ≤ 512) ⌝ }
     ensures { λ x. ⌜ Tells (LeaderKnown c e n) T.Step.readLeader c x ⌝ }
@@ -117,8 +117,8 @@ pub fn read_leader(c: Controller, e: u16, n: u16) -> Told
     }
 }
 
-// Step 12: what the controller is answered about b, whose seat is k: its view v, its stage g, the length h heard of b; b's
-// joined epoch j, the length n of b's log.
+// Step 12: what the controller is answered about b, whose seat is k: its view v, its stage g, the length h heard of
+// b; b's joined epoch j, the length n of b's log.
 fn may_read(v: View, g: Stage, h: u16, j: u16, n: u16, k: u8, b: u8) -> u8
     requires { ⌜ (1 ≤ k) × (k ≤ 8) ⌝ }
     ensures { λ x. ⌜ x ≡ firstFailed (readChecks v g h j n k b) ⌝ }
@@ -156,8 +156,8 @@ pub fn read(c: Controller, b: u8, j: u16, n: u16) -> Told
     }
 }
 
-// Step 14: what the controller is answered about b, whose seat is k: its view v, its stage g, the length h heard of b; b's
-// epoch e, the length n of b's log.
+// Step 14: what the controller is answered about b, whose seat is k: its view v, its stage g, the length h heard of
+// b; b's epoch e, the length n of b's log.
 fn may_hear(v: View, g: Stage, h: u16, e: u16, n: u16, k: u8, b: u8) -> u8
     requires { ⌜ (1 ≤ k) × (k ≤ 8) ⌝ }
     ensures { λ x. ⌜ x ≡ firstFailed (hearChecks v g h e n k b) ⌝ }
@@ -169,8 +169,8 @@ fn may_hear(v: View, g: Stage, h: u16, e: u16, n: u16, k: u8, b: u8) -> u8
     check(replica(b), n15, 1)
 }
 
-// Step 14, the controller hears b, whose epoch is e, whose joined epoch is j and whose log has n entries. Inner layer: callers
-// see to the length.
+// Step 14, the controller hears b, whose epoch is e, whose joined epoch is j and whose log has n entries. Inner
+// layer: callers see to the length.
 pub fn hear(c: Controller, b: u8, e: u16, j: u16, n: u16) -> Told
     requires { ⌜ n ≤ 512 ⌝ }
     ensures { λ x. ⌜ Tells (HearKnown b e j n) (T.Step.hear b) c x ⌝ }

@@ -7,7 +7,7 @@ use Rattle.model.specs.Prelude.{upd}
 use Rattle.model.specs.Members.{isReplica, size}
 use Rattle.model.specs.State as M
 use Rattle.model.specs.State.{State, values}
-use Rattle.model.specs.Steps.{changeLeader, next, withRegistry, added, removed}
+use Rattle.model.specs.Steps.{changeLeader, next, added, removed}
 use Rattle.model.proofs.Tests.{Holds, is-true}
 use Rattle.members.specs.Mask.{bits}
 use Rattle.cluster.specs.declared.View.{View}
@@ -16,6 +16,7 @@ use Rattle.cluster.specs.declared.Status.{Status}
 use Rattle.cluster.specs.declared.Status.the-variants.{Waiting}
 use Rattle.cluster.specs.Layout.{statusOf, viewOf, registryOf}
 use Rattle.cluster.proofs.Laws.{raise-passed}
+use Rattle.cluster.proofs.Steps.{registryIn}
 use Rattle.steps_registry.specs.Checks.{addChecks, removeChecks, changeChecks}
 use Rattle.steps_registry.specs.Succession.{successionOf}
 
@@ -56,6 +57,6 @@ module _ (r : Registry) (e : ℕ)
   -- Step 5: m are left.
   pub change-after : (m : ℕ) (r′ : Registry) → bits m ≡ upd (bits (r .view .members)) (r .view .leader) false
       → registryOf r′ ≡ successionOf e (r .view .term) (bits m) → Holds (changeChecks r)
-      → (s : State ℕ) → registryOf r′ ≡ next values (withRegistry s (registryOf r)) changeLeader .registry
+      → (s : State ℕ) → registryOf r′ ≡ next values (registryIn r s) changeLeader .registry
   change-after m r′ em e′ h s =
       e′ ∙ ap₂ (λ u l. successionOf u (r .view .term) l) (raise-passed (r .view .epoch) e raised (h 7)) em

@@ -5,23 +5,19 @@ use Prim.Native.Nat.{ℕ}
 use Rattle.model.specs.Prelude.{firstFailed}
 use Rattle.model.specs.Members.{isReplica}
 use Rattle.model.specs.State.{State, outline}
-use Rattle.model.specs.Steps.{Step, add, remove, changeLeader, answerOf, withRegistry}
+use Rattle.model.specs.Steps.{add, remove, changeLeader, answerOf}
 use Rattle.cluster.specs.declared.Registry.{Registry}
-use Rattle.cluster.specs.Layout.{registryOf}
 use Rattle.cluster.proofs.Laws.{guarded}
+use Rattle.cluster.proofs.Steps.{registryIn}
 use Rattle.steps_registry.specs.Checks.{addChecks, removeChecks, changeChecks}
-
--- The model's answer in a state with the registry r.
-abbrev answer : Registry → State ℕ → Step → ℕ
-answer r s st = answerOf (outline (withRegistry s (registryOf r))) st
 
 module _ (r : Registry) where
   module _ (b k : ℕ) (seat : isReplica b ≡ true → k ≡ b) (s : State ℕ) where
-    pub add-answer : firstFailed (addChecks r k b) ≡ answer r s (add b)
+    pub add-answer : firstFailed (addChecks r k b) ≡ answerOf (outline (registryIn r s)) (add b)
     add-answer = guarded (isReplica b) _ _ 1 (λ t. rw (seat t))
 
-    pub remove-answer : firstFailed (removeChecks r k b) ≡ answer r s (remove b)
+    pub remove-answer : firstFailed (removeChecks r k b) ≡ answerOf (outline (registryIn r s)) (remove b)
     remove-answer = guarded (isReplica b) _ _ 1 (λ t. rw (seat t))
 
-  pub change-answer : (s : State ℕ) → firstFailed (changeChecks r) ≡ answer r s changeLeader
+  pub change-answer : (s : State ℕ) → firstFailed (changeChecks r) ≡ answerOf (outline (registryIn r s)) changeLeader
   change-answer s = refl
