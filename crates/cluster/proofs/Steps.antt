@@ -34,14 +34,15 @@ module _ (st : Step) (cs : List Check) (own : T (numbered cs)) where
   -- A step of the registry.
   module _ (r : Registry) (same : (s : State ℕ) → firstFailed cs ≡ answerOf (outline (registryIn r s)) st) where
     pub rules : (x : Ruled) {n : ℕ} → n ≡ firstFailed cs → x .answer ≡ n → (x .answer ≢ 0 → x .registry ≡ r)
-        → (x .answer ≡ 0 → Holds cs → (s : State ℕ) → registryOf (x .registry) ≡ next values (registryIn r s) st .registry)
+        → (x .answer ≡ 0 → Holds cs
+        → (s : State ℕ) → registryOf (x .registry) ≡ next values (registryIn r s) st .registry)
         → Rules st r x
     rules x e n refused taken =
         let answers = n ∙ e in
         record {
           answer = λ s. answers ∙ same s;
-          after = λ s. part-left values (registryIn r s) st cs own (same s) (x .answer) answers (λ y. y .registry) _
-              (λ h. ap registryOf (refused h)) (λ z h. taken z h s);
+          after = λ s. part-left values (registryIn r s) st cs own (same s) (x .answer) answers
+              (λ y. y .registry) _ (λ h. ap registryOf (refused h)) (λ z h. taken z h s);
           refused = refused;
         }
 
@@ -56,8 +57,8 @@ module _ (st : Step) (cs : List Check) (own : T (numbered cs)) where
         let answers = n ∙ e in
         record {
           answer = λ s k. answers ∙ same s k;
-          after = λ s k. part-left values (controllerIn c s) st cs own (same s k) (x .answer) answers (λ y. y .controller) _
-              (λ h. ap controllerOf (refused h)) (λ z h. taken z h s k);
+          after = λ s k. part-left values (controllerIn c s) st cs own (same s k) (x .answer) answers
+              (λ y. y .controller) _ (λ h. ap controllerOf (refused h)) (λ z h. taken z h s k);
           refused = refused;
         }
 
@@ -66,16 +67,17 @@ module _ (st : Step) (cs : List Check) (own : T (numbered cs)) where
       (same : (s : State ℕ) → firstFailed cs ≡ answerOf (outline (bothIn r c s)) st) where
     pub settles : (x : Settled) {n : ℕ} → n ≡ firstFailed cs → x .answer ≡ n
         → (x .answer ≢ 0 → (x .registry ≡ r) × (x .controller ≡ c))
-        → (x .answer ≡ 0 → Holds cs → (s : State ℕ) → (registryOf (x .registry) ≡ next values (bothIn r c s) st .registry)
+        → (x .answer ≡ 0 → Holds cs
+        → (s : State ℕ) → (registryOf (x .registry) ≡ next values (bothIn r c s) st .registry)
         × (controllerOf (x .controller) ≡ next values (bothIn r c s) st .controller))
         → Settles st r c x
     settles x e n refused taken =
         let answers = n ∙ e in
         record {
           answer = λ s. answers ∙ same s;
-          registry = λ s. part-left values (bothIn r c s) st cs own (same s) (x .answer) answers (λ y. y .registry) _
-              (λ h. ap registryOf (refused h .0)) (λ z h. taken z h s .0);
-          controller = λ s. part-left values (bothIn r c s) st cs own (same s) (x .answer) answers (λ y. y .controller) _
-              (λ h. ap controllerOf (refused h .1)) (λ z h. taken z h s .1);
+          registry = λ s. part-left values (bothIn r c s) st cs own (same s) (x .answer) answers
+              (λ y. y .registry) _ (λ h. ap registryOf (refused h .0)) (λ z h. taken z h s .0);
+          controller = λ s. part-left values (bothIn r c s) st cs own (same s) (x .answer) answers
+              (λ y. y .controller) _ (λ h. ap controllerOf (refused h .1)) (λ z h. taken z h s .1);
           refused = refused;
         }

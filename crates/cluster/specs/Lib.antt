@@ -1,3 +1,3 @@
 pub mod Layout
-pub mod Leading
 pub mod Parts
+pub mod Stages

@@ -14,8 +14,8 @@ use Rattle.model.proofs.Range.{AllTrue, of-every}
 use Rattle.cluster.specs.declared.Controller.{Controller}
 use Rattle.cluster.specs.declared.Told.{Told}
 use Rattle.cluster.specs.Layout.{stageOf, controllerOf}
-use Rattle.cluster.specs.Leading.{HasLeader}
 use Rattle.cluster.specs.Parts.{Tells}
+use Rattle.cluster.specs.Stages.{HasLeader}
 use Rattle.steps_controller.specs.Known.{LeaderKnown}
 use Rattle.hub.specs.declared.Report.{Report}
 use Rattle.hub.specs.Lent.{controllerFits, reportRanges, reportFits, leaderFits, Reported, Lends}

@@ -16,7 +16,7 @@ use Rattle.cluster.specs.declared.Cluster.{Cluster}
 use Rattle.cluster.specs.declared.Outcome.{Outcome}
 use Rattle.cluster.specs.declared.Settled.{Settled}
 use Rattle.cluster.specs.Layout.{registryOf, controllerOf, viewOf, at, atPair, noView, outlineOf}
-pub use Rattle.cluster.specs.Leading.{HasLeader}
+pub use Rattle.cluster.specs.Stages.{HasLeader}
 
 -- The state that a row, the log store and the committed list stand for.
 abbrev pub abs : Cluster → List ℕ → List ℕ → State ℕ

@@ -24,7 +24,8 @@ module _ (r : Registry) (c : Controller) where
   -- low is what is heard of the leader.
   pub set-normal-answer : (low q : ℕ) → low ≡ at 0 (c .heard) (c .view .leader)
       → bits q ≡ under 9 (longEnough (c .heard) low)
-      → (s : State ℕ) → firstFailed (setNormalChecks r (c .view) (c .stage) q) ≡ answerOf (outline (bothIn r c s)) setNormal
+      → (s : State ℕ)
+      → firstFailed (setNormalChecks r (c .view) (c .stage) q) ≡ answerOf (outline (bothIn r c s)) setNormal
   unfolding longEnough
   set-normal-answer low q el eq s =
       let m = bits (c .view .members) in
@@ -42,7 +43,8 @@ module _ (r : Registry) (c : Controller) where
 
     pub install-answer : bits q ≡ under 9 (notAbove (c .heard) (c .joined) (heardAt (c .heard)) (heardAt (c .joined)))
         → (s : State ℕ)
-        → firstFailed (installChecks r (c .view) (c .stage) (heardAt (c .heard)) q k b) ≡ answerOf (outline (bothIn r c s)) (install b)
+        → firstFailed (installChecks r (c .view) (c .stage) (heardAt (c .heard)) q k b)
+        ≡ answerOf (outline (bothIn r c s)) (install b)
     unfolding notAbove
     install-answer eq s = guarded (isReplica b) _ _ 1 (λ t.
         let m = bits (c .view .members) in

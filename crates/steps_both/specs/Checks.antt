@@ -12,10 +12,8 @@ use Rattle.members.specs.Mask.{bits}
 use Rattle.cluster.specs.declared.View.{View}
 use Rattle.cluster.specs.declared.Stage.{Stage}
 use Rattle.cluster.specs.declared.Registry.{Registry}
-use Rattle.cluster.specs.Layout.{stageOf, registryOf}
-
-abbrev atStage : Stage → M.Stage → Bool
-atStage g m = eqb (M.stageNumber (stageOf g)) (M.stageNumber m)
+use Rattle.cluster.specs.Layout.{registryOf}
+use Rattle.cluster.specs.Stages.{atStage}
 
 -- "Controller and registry epochs equal".
 abbrev upToDate : View → Registry → Bool

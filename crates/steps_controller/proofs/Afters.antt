@@ -14,7 +14,7 @@ use Rattle.cluster.specs.declared.Stage.{Stage}
 use Rattle.cluster.specs.declared.Registry.{Registry}
 use Rattle.cluster.specs.declared.Controller.{Controller}
 use Rattle.cluster.specs.Layout.{statusOf, stageOf, controllerOf}
-use Rattle.cluster.specs.Leading.{HasLeader}
+use Rattle.cluster.specs.Stages.{HasLeader}
 use Rattle.cluster.proofs.Laws.{at-set, deaf-of}
 use Rattle.cluster.proofs.Steps.{controllerIn}
 use Rattle.steps_controller.specs.Checks.{readLeaderChecks, readChecks, hearChecks}

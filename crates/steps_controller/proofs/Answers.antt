@@ -21,7 +21,8 @@ use Rattle.steps_controller.specs.Known.{RegistryKnown, LeaderKnown, Rea
 
 module _ (c : Controller) where
   pub refresh-controller-answer : (r : Registry) (s : State ℕ) → RegistryKnown r s
-      → firstFailed (refreshControllerChecks (c .view) (r .view)) ≡ answerOf (outline (controllerIn c s)) refreshController
+      → firstFailed (refreshControllerChecks (c .view) (r .view))
+      ≡ answerOf (outline (controllerIn c s)) refreshController
   refresh-controller-answer r s known = rw known
 
   pub read-leader-answer : (e n : ℕ) (s : State ℕ) → LeaderKnown c e n s

@@ -1,6 +1,6 @@
 -- The checks of steps 10, 11, 12 and 14, in the order of document 01, over the few values that they look at. Cited by
 -- the contracts of the functions that answer; `Answers` has that these are the model's checks. Assumes nothing.
-use mathlib.Core.Bool.{Bool, not}
+use mathlib.Core.Bool.{not}
 use mathlib.Core.List.{List, [], _∷_}
 use Prim.Native.Nat.{ℕ, suc}
 use lib.Dec.{ltb, eqb}
@@ -10,10 +10,7 @@ use Rattle.model.specs.State as M
 use Rattle.members.specs.Mask.{bits}
 use Rattle.cluster.specs.declared.View.{View}
 use Rattle.cluster.specs.declared.Stage.{Stage}
-use Rattle.cluster.specs.Layout.{stageOf}
-
-abbrev atStage : Stage → M.Stage → Bool
-atStage g m = eqb (M.stageNumber (stageOf g)) (M.stageNumber m)
+use Rattle.cluster.specs.Stages.{atStage}
 
 -- Step 10, by the controller, whose view is v; the registry's is w: "its epoch is below the registry's [12]".
 abbrev pub refreshControllerChecks : View → View → List Check

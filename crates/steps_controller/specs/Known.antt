@@ -17,7 +17,8 @@ RegistryKnown r s = s .registry ≡ registryOf r
 -- Step 11: the epoch e of the controller's leader and the length n of its log. At another stage there may be no leader.
 abbrev pub LeaderKnown : Controller → ℕ → ℕ → State ℕ → Type 0
 LeaderKnown c e n s =
-    stageNumber (stageOf (c .stage)) ≡ 1 → (s .view (c .view .leader) .epoch ≡ e) × (length (s .log (c .view .leader)) ≡ n)
+    let leader = c .view .leader in
+    stageNumber (stageOf (c .stage)) ≡ 1 → (s .view leader .epoch ≡ e) × (length (s .log leader) ≡ n)
 
 -- Step 12: the joined epoch j of b and the length n of its log.
 abbrev pub ReadKnown : ℕ → ℕ → ℕ → State ℕ → Type 0

@@ -47,10 +47,11 @@ loop-again : tie.Need-loop-again Inv-loop μ-loop
 unfolding longEnough
 loop-again c =
     let l = c .before .before .before .loop in
-    let a = c .before .before .before .before .args in (
+    let a = c .before .before .before .before .args in
+    let p = longEnough (a .t1) (a .low) in (
       search needs,
       search needs,
-      gathered (longEnough (a .t1) (a .low)) (l .b) (l .q) _ _ (l .inv .0) (search needs) (l .inv .2) (c .put .ensures)
+      gathered p (l .b) (l .q) _ _ (l .inv .0) (search needs) (l .inv .2) (c .put .ensures)
           (rw (at-index 0 (a .t1) (l .b) (l .inv .0)) (c .before .long-enough .ensures)),
     )
 

@@ -30,7 +30,8 @@ abbrev made : tie.After-may-install → List Check
 made c =
     let a = entry c .args in
     let k = own c .seat .result in
-    installChecks (a .r) (a .c .view) (a .c .stage) (getD (a .c .heard) (k - 1) 0) (those c .ranked-not-above .result) k (a .b)
+    let q = those c .ranked-not-above .result in
+    installChecks (a .r) (a .c .view) (a .c .stage) (getD (a .c .heard) (k - 1) 0) q k (a .b)
 
 seat-requires : tie.Need-seat-requires
 seat-requires c κs = search needs

@@ -53,11 +53,14 @@ loop-again : tie.Need-loop-again Inv-loop μ-loop
 unfolding notAbove
 loop-again c =
     let l = c .before .before .before .loop in
-    let a = c .before .before .before .before .args in (
+    let a = c .before .before .before .before .args in
+    let heard = at-index 0 (a .t1) (l .b) (l .inv .0) in
+    let joined = at-index 0 (a .t2) (l .b) (l .inv .0) in
+    let p = notAbove (a .t1) (a .t2) (a .l) (a .k) in (
       search needs,
       search needs,
-      gathered (notAbove (a .t1) (a .t2) (a .l) (a .k)) (l .b) (l .q) _ _ (l .inv .0) (search needs) (l .inv .2) (c .put .ensures)
-          (rw (at-index 0 (a .t1) (l .b) (l .inv .0), at-index 0 (a .t2) (l .b) (l .inv .0)) (c .before .not-above .ensures)),
+      gathered p (l .b) (l .q) _ _ (l .inv .0) (search needs) (l .inv .2) (c .put .ensures)
+          (rw (heard, joined) (c .before .not-above .ensures)),
     )
 
 returns : tie.Need-returns Inv-loop μ-loop

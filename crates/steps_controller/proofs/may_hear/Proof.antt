@@ -31,6 +31,7 @@ check-requires-5 c κs = search needs
 
 returns : tie.Need-returns
 returns c =
+    let start = c .before .before .before .before .before .before .before .before .before in
     c .check5 .ensures
     ∙ rw (
       c .before .replica .ensures,
@@ -40,7 +41,7 @@ returns c =
       c .before .before .before .before .before .has .ensures,
       c .before .before .before .before .before .before .check2 .ensures,
       c .before .before .before .before .before .before .before .before .check .ensures,
-      leb·suc-suc (c .before .before .before .before .before .before .before .before .before .args .h) _,
+      leb·suc-suc (start .args .h) _,
     )
 
 pub may-hear-spec : {M : Type 1} → statement M

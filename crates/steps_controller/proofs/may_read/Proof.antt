@@ -34,6 +34,7 @@ check-requires-6 c κs = search needs
 
 returns : tie.Need-returns
 returns c =
+    let start = c .before .before .before .before .before .before .before .before .before .before .before in
     c .check6 .ensures
     ∙ rw (
       c .before .replica .ensures,
@@ -44,7 +45,7 @@ returns c =
       c .before .before .before .before .before .before .before .has .ensures,
       c .before .before .before .before .before .before .before .before .check2 .ensures,
       c .before .before .before .before .before .before .before .before .before .before .check .ensures,
-      leb·suc-suc (c .before .before .before .before .before .before .before .before .before .before .before .args .h) _,
+      leb·suc-suc (start .args .h) _,
     )
 
 pub may-read-spec : {M : Type 1} → statement M

@@ -28,7 +28,8 @@ returns c =
     let d = c .before in
     let a = entry d .args in
     tells readLeader (readLeaderChecks (a .c .view) (a .c .stage) (a .e)) tt (LeaderKnown (a .c) (a .e) (a .n)) (a .c)
-    (read-leader-answer (a .c) (a .e) (a .n)) _ (d .may-read-leader .ensures) refl (λ _. refl) (λ z. absurd (c .if1 .taken z))
+    (read-leader-answer (a .c) (a .e) (a .n)) _
+    (d .may-read-leader .ensures) refl (λ _. refl) (λ z. absurd (c .if1 .taken z))
 
 heard-requires : tie.Need-heard-requires
 heard-requires c κs = search needs
@@ -38,9 +39,10 @@ returns-2 c =
     let d = c .before .before in
     let a = entry d .args in
     tells readLeader (readLeaderChecks (a .c .view) (a .c .stage) (a .e)) tt (LeaderKnown (a .c) (a .e) (a .n)) (a .c)
-    (read-leader-answer (a .c) (a .e) (a .n)) _ (d .may-read-leader .ensures) (sym (c .before .if1 .left))
-    (λ h. absurd (h refl))
-    (λ _. read-leader-after (a .c) (c .heard .result) _ (a .n) (a .e) (entry d .pre .0) (own d .seat .ensures .2) (c .heard .ensures))
+    (read-leader-answer (a .c) (a .e) (a .n)) _
+    (d .may-read-leader .ensures) (sym (c .before .if1 .left)) (λ h. absurd (h refl))
+    (λ _. read-leader-after (a .c) (c .heard .result) _ (a .n) (a .e) (entry d .pre .0)
+    (own d .seat .ensures .2) (c .heard .ensures))
 
 pub read-leader-spec : {M : Type 1} → statement M
 read-leader-spec =

@@ -22,7 +22,8 @@ returns c =
     let d = c .before in
     let a = entry d .args in
     tells refreshController (refreshControllerChecks (a .c .view) (a .r .view)) tt (RegistryKnown (a .r)) (a .c)
-    (refresh-controller-answer (a .c) (a .r)) _ (d .may-refresh-controller .ensures) refl (λ _. refl) (λ z. absurd (c .if1 .taken z))
+    (refresh-controller-answer (a .c) (a .r)) _
+    (d .may-refresh-controller .ensures) refl (λ _. refl) (λ z. absurd (c .if1 .taken z))
 
 stage-requires : tie.Need-stage-requires
 stage-requires c κs = search needs
@@ -32,8 +33,9 @@ returns-2 c =
     let d = c .before .before in
     let a = entry d .args in
     tells refreshController (refreshControllerChecks (a .c .view) (a .r .view)) tt (RegistryKnown (a .r)) (a .c)
-    (refresh-controller-answer (a .c) (a .r)) _ (d .may-refresh-controller .ensures) (sym (c .before .if1 .left))
-    (λ h. absurd (h refl)) (λ _ _. refresh-controller-after (a .c) (a .r) (c .stage .result) (c .stage .ensures))
+    (refresh-controller-answer (a .c) (a .r)) _
+    (d .may-refresh-controller .ensures) (sym (c .before .if1 .left)) (λ h. absurd (h refl))
+    (λ _ _. refresh-controller-after (a .c) (a .r) (c .stage .result) (c .stage .ensures))
 
 pub refresh-controller-spec : {M : Type 1} → statement M
 refresh-controller-spec =

@@ -50,7 +50,8 @@ returns-2 c =
     rules (remove (a .b)) (removeChecks (a .r) _ (a .b)) tt (a .r) (remove-answer (a .r) (a .b) _ seat) _
     (d .may-remove .ensures) (sym (c .before .before .before .before .if1 .left)) (λ h. absurd (h refl))
     (λ _ h s. remove-after (a .r) _ (c .before .before .before .raised .ensures) (a .b) _ _ seat _
-    (c .status-left .result) (c .before .before .remove .ensures) (c .before .size .ensures) (c .status-left .ensures) h)
+    (c .status-left .result) (c .before .before .remove .ensures)
+    (c .before .size .ensures) (c .status-left .ensures) h)
 
 pub remove-spec : {M : Type 1} → statement M
 remove-spec =
