@@ -30,8 +30,8 @@ module _ (st : Step) (only : (s : State ℕ) → next values s st ≡ withContro
       go false = refl
 
 -- Refusal 1, which leaves c.
-pub turned-away : (st : Step) (c : Controller) (fits : Bool) → fits ≡ false → (Known : State ℕ → Type 0) (t : Told) → t .answer ≡ 1 → t .controller ≡ c
-    → Lends fits Known st c (t .answer) (t .controller)
+pub turned-away : (st : Step) (c : Controller) (fits : Bool) → fits ≡ false → (Known : State ℕ → Type 0) (t : Told)
+    → t .answer ≡ 1 → t .controller ≡ c → Lends fits Known st c (t .answer) (t .controller)
 turned-away st c fits unfit Known t ea ec = record {
   answer = λ s f. ea ∙ rw unfit;
   state = λ s f. rw (unfit, ec);
@@ -56,7 +56,8 @@ module _ (st : Step) (only : (s : State ℕ) → next values s st ≡ withContro
       same : (u : Bool) → eqb n 0 ≡ u → cond u (a .controller) c ≡ a .controller
       same true q = refl
       same false q = sym (h .refused (λ y. eqb-false n 0 q (e ∙ y)))
-  lends false Known k n e t ea ec = turned-away st c false refl Known t (ea ∙ e) (ec ∙ ap (λ m. cond (eqb m 0) (a .controller) c) e)
+  lends false Known k n e t ea ec =
+      turned-away st c false refl Known t (ea ∙ e) (ec ∙ ap (λ m. cond (eqb m 0) (a .controller) c) e)
 
 -- What the core's steps are told of the board b in place of the report x: the length l, which is a length in any case.
 module _ (b : ℕ) (x : Report) (l : ℕ) (s : State ℕ) where
@@ -73,15 +74,18 @@ module _ (c : Controller) (x : Report) where
 
   -- Of the controller's leader: at stage leader it is the leader's.
   module _ (t : leaderFits c x ≡ true) where
-    both : T (reportFits c x) × T (not (eqb (stageNumber (stageOf (c .stage))) 1) || eqb (x .board) (c .view .leader))
-    both = split-and (reportFits c x) (not (eqb (stageNumber (stageOf (c .stage))) 1) || eqb (x .board) (c .view .leader)) (of-true t)
+    abbrev stage : ℕ
+    stage = stageNumber (stageOf (c .stage))
+
+    both : T (reportFits c x) × T (not (eqb stage 1) || eqb (x .board) (c .view .leader))
+    both = split-and (reportFits c x) (not (eqb stage 1) || eqb (x .board) (c .view .leader)) (of-true t)
 
     fit : reportFits c x ≡ true
     fit = is-true (reportFits c x) (both .0)
 
-    leaders : stageNumber (stageOf (c .stage)) ≡ 1 → x .board ≡ c .view .leader
+    leaders : stage ≡ 1 → x .board ≡ c .view .leader
     leaders g = eqb→eq (x .board) (c .view .leader)
-        (subst (λ u. T (not u || eqb (x .board) (c .view .leader))) (eq-eqb (stageNumber (stageOf (c .stage))) 1 g) (both .1))
+        (subst (λ u. T (not u || eqb (x .board) (c .view .leader))) (eq-eqb stage 1 g) (both .1))
 
     pub leader-fits : HasLeader c
     leader-fits g = subst (λ b. isReplica b ≡ true) (leaders g) (is-true (isReplica (x .board)) (fields fit .0))
@@ -99,4 +103,5 @@ module _ (c : Controller) (x : Report) (l : ℕ) (short : leb (x .len) 512 ≡ t
 
   pub leader-told : leaderFits c x ≡ true → Reported x s → LeaderKnown c (x .epoch) l s
   leader-told t k g =
-      subst (λ b. (s .view b .epoch ≡ x .epoch) × (length (s .log b) ≡ l)) (leaders c x t g) (k .epoch, len-told (fit c x t) k)
+      subst (λ b. (s .view b .epoch ≡ x .epoch) × (length (s .log b) ≡ l)) (leaders c x t g)
+      (k .epoch, len-told (fit c x t) k)
