@@ -1,5 +1,6 @@
-// The steps of registry and controller: set normal (13), install (15).
-// Tests are joined by `&` and `|`, which make no branch: the result is then the contract's term by computation.
+// The steps of registry and controller: set normal (13), install (15). A step is answered by its `may_` function,
+// which makes the checks of specs/Checks.antt; refused it gives both back. Tests are joined by `&` and `|`, which
+// make no branch: the result is then the contract's term by computation.
 
 ghost use mathlib.Core.Path.{_≡_};
 ghost use mathlib.Core.Bool.{not, _&&_, _||_};

@@ -1,5 +1,7 @@
-// The steps of the controller alone: news (10), read leader (11), read (12), hear (14). Inner layer: callers see to
-// it that a log's length is at most 512, and to a leader at stage leader; `steps` and `hub` refuse others with 1.
+// The steps of the controller alone: news (10), read leader (11), read (12), hear (14). A step is answered by its
+// `may_` function, which makes the checks of specs/Checks.antt; refused it gives the controller back. Inner layer:
+// callers see to it that a log's length is at most 512, and to a leader at stage leader; `steps` and `hub` refuse
+// others with 1.
 
 ghost use mathlib.Core.Path.{_≡_};
 ghost use Prim.Native.Nat.{_≤_};

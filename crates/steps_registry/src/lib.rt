@@ -1,4 +1,5 @@
-// The steps of the registry alone: add (3), remove (4), change leader (5).
+// The steps of the registry alone: add (3), remove (4), change leader (5). A step is answered by its `may_` function,
+// which makes the checks of specs/Checks.antt; refused it gives the registry back.
 
 ghost use mathlib.Core.Path.{_≡_};
 ghost use mathlib.Core.Bool.{false, cond};
