@@ -2,22 +2,21 @@
  * A host to start from: builds the sample sheet in memory, runs it, and prints
  * its listing.
  *
- *   gcc -std=c99 -Iinclude examples/host.c target/staticlib/libsheet.a -o host
+ *   gcc -std=c99 -Iinclude examples/host.c target/staticlib/librow.a -o host
  */
 #include <stdio.h>
 
 #include "row.h"
 
-enum { OPENING = 0, APPEND = 1, RECEIPT = 2, ADD = 3 };
 enum { RECORDS = 4 };
 
-/* Writes record n of a sheet. `second` is the board counted in step 9, else 0. */
-static void put(uint8_t *sheet, size_t n, uint8_t step, uint8_t board,
+/* Writes record n of a sheet. A field that the step does not use is 0. */
+static void put(uint8_t *sheet, size_t n, enum row_step step, uint8_t board,
                 uint8_t second, uint32_t value)
 {
     uint8_t *record = sheet + n * ROW_RECORD_LEN;
 
-    record[0] = step;
+    record[0] = (uint8_t)step;
     record[1] = board;
     record[2] = second;
     record[3] = 0;
@@ -47,19 +46,35 @@ static int run(const uint8_t *sheet, size_t sheet_len,
     }
 }
 
+/* The answer of record n, counted from 0, in a listing: the last number of line n. */
+static enum row_answer answer(const uint8_t *listing, size_t n)
+{
+    int number = 0;
+
+    while (n > 0)
+        n -= *listing++ == '\n';
+    for (; *listing != '\n'; listing++)
+        number = *listing == ' ' ? 0 : 10 * number + (*listing - '0');
+    return (enum row_answer)number;
+}
+
 int main(void)
 {
     static uint8_t sheet[RECORDS * ROW_RECORD_LEN];
     static uint8_t listing[ROW_LISTING_LEN(RECORDS)];
 
-    put(sheet, 0, OPENING, 1, 0, 0);
-    put(sheet, 1, APPEND, 1, 0, 41);
-    put(sheet, 2, RECEIPT, 1, 0, 0);
-    put(sheet, 3, ADD, 2, 0, 0);
+    put(sheet, 0, ROW_STEP_OPENING, 1, 0, 0);
+    put(sheet, 1, ROW_STEP_APPEND, 1, 0, 41);
+    put(sheet, 2, ROW_STEP_RECEIPT, 1, 0, 0);
+    put(sheet, 3, ROW_STEP_ADD, 2, 0, 0);
 
-    /* Both refusals, on purpose: no records, and no room. */
+    /* Both refusals of a sheet, on purpose: no records, and no room. */
     run(sheet, 0, listing, sizeof listing);
     run(sheet, sizeof sheet, listing, 16);
 
-    return run(sheet, sizeof sheet, listing, sizeof listing);
+    if (run(sheet, sizeof sheet, listing, sizeof listing) != 0)
+        return 1;
+
+    /* Should the till print the receipt? */
+    return answer(listing, 2) == ROW_ACCEPTED ? 0 : 1;
 }

@@ -1,11 +1,24 @@
 /*
  * A row of telemetry boards: runs a sheet of steps and writes its listing.
  *
- * Link with libsheet.a, built for x86-64. No heap is used, and nothing is kept
- * between calls. On every sheet that bench/stack.c tried, a call took at most
- * 29,360 bytes of stack, with memcpy and memset bound beforehand (link with
- * -z now; bound lazily, the first call took 32,488). Of the C library it calls
- * those two alone.
+ * Link with librow.a. docs/FORMATS.md has the same formats with an example of
+ * every line, what each step asks and does, and who causes each refusal.
+ *
+ * Platform. The archive is for x86-64 with the System V calling convention:
+ * ELF, position-independent, some 9 KiB of code and constants, no data that is
+ * written. It asks for no instruction set beyond SSE2, which every x86-64 has.
+ * (A tzcnt in it runs as bsf on older processors, and both agree wherever the
+ * result is used.) It allocates nothing, makes no system call, and calls two
+ * functions of the C library: memcpy and memset. There are no unwind tables,
+ * and nothing in it throws or jumps out.
+ *
+ * Stack. On every sheet that was tried a call took at most 29,360 bytes, with
+ * memcpy and memset bound beforehand (link with -z now; bound at their first
+ * call, that call took 32,488). No proof bounds it. The pages are touched in
+ * order, so a guard page is met before anything below it.
+ *
+ * Reentrant. Nothing is kept between calls: calls may run in several threads,
+ * or one inside a handler that interrupts another, each with its own slices.
  */
 #ifndef ROW_H
 #define ROW_H
@@ -20,20 +33,81 @@ extern "C" {
 /*
  * A sheet is 1 to 4,095 records of 8 bytes:
  *
- *   byte 0       the step, 0 to 15
- *   byte 1       the board, 1 to 8; in step 9 the leader that counts
- *   byte 2       in step 9 the board that is counted
+ *   byte 0       the step
+ *   byte 1       the board, 1 to 8; in ROW_STEP_COUNT the leader that counts
+ *   byte 2       in ROW_STEP_COUNT the board that is counted, another one
  *   byte 3       0
- *   bytes 4 - 7  in step 1 the value, low byte first
+ *   bytes 4 - 7  in ROW_STEP_APPEND the value, any 32 bits, low byte first
  *
  * Fields that a step does not use are 0. The first record, and no other, is
- * step 0, the opening.
+ * the opening.
  */
 #define ROW_RECORD_LEN 8
 #define ROW_RECORDS_MAX 4095
 
+/* The steps, and the fields that each uses. */
+enum row_step {
+    ROW_STEP_OPENING = 0,          /* board          opens the row, as its leader and only member */
+    ROW_STEP_APPEND = 1,           /* board, value   the value is added to the board's log */
+    ROW_STEP_RECEIPT = 2,          /* board          the next entry of its log joins the receipts */
+    ROW_STEP_ADD = 3,              /* board          the board joins the members */
+    ROW_STEP_REMOVE = 4,           /* board          the board leaves the members */
+    ROW_STEP_CHANGE_LEADER = 5,    /* none           the leader leaves the members */
+    ROW_STEP_TAKE_NEWS = 6,        /* board          the board copies the registry */
+    ROW_STEP_JOIN = 7,             /* board          its log is cut to what its leader's shares with it */
+    ROW_STEP_RECEIVE = 8,          /* board          it takes the next entry of its leader's log */
+    ROW_STEP_COUNT = 9,            /* board, second  the first, a leader, counts the second's log */
+    ROW_STEP_CONTROLLER_NEWS = 10, /* none           the controller copies the registry */
+    ROW_STEP_READ_LEADER = 11,     /* none           the controller hears its leader's length */
+    ROW_STEP_READ = 12,            /* board          the controller hears the board's length */
+    ROW_STEP_SET_NORMAL = 13,      /* none           the registry's status becomes normal */
+    ROW_STEP_HEAR = 14,            /* board          the controller hears its length and joined epoch */
+    ROW_STEP_INSTALL = 15          /* board          the board becomes the registry's leader */
+};
+
 /*
- * A length that suffices for the listing of any sheet of n records, in bytes:
+ * The answers of a record in the listing: accepted, or the first check that
+ * failed. A refused step changes nothing, and the sheet goes on.
+ */
+enum row_answer {
+    ROW_ACCEPTED = 0,
+    /* by the caller: a board outside 1 to 8, a step above 15, a board that is
+       to count itself, an unused byte that is not 0, an opening after the first */
+    ROW_REFUSED_FIELD = 1,
+    /* by the registry */
+    ROW_REFUSED_STATUS = 4,
+    ROW_REFUSED_MEMBERSHIP = 5,
+    ROW_REFUSED_LEADER = 6,         /* the leader is named, or not to be spared */
+    ROW_REFUSED_EPOCHS_USED_UP = 7, /* the registry's epoch is 4,000 */
+    /* by the boards */
+    ROW_REFUSED_NOT_LEADER = 8,
+    ROW_REFUSED_FOLLOWS_NO_OTHER = 9,
+    ROW_REFUSED_LEADER_EPOCHS_DIFFER = 10,
+    ROW_REFUSED_JOINING = 11,     /* not joined where it must be, or joined already */
+    ROW_REFUSED_NOTHING_DUE = 12, /* nothing newer, longer or left to take */
+    ROW_REFUSED_LOG_FULL = 13,    /* the log has 512 entries */
+    /* by the controller, or a count */
+    ROW_REFUSED_NO_MAJORITY = 14,
+    ROW_REFUSED_STAGE = 15,
+    ROW_REFUSED_EPOCHS_DIFFER = 16
+};
+
+/* The results of run_sheet that are refusals. Every listing is longer than 3 bytes. */
+#define ROW_BAD_SHEET 2     /* wrong length, or no valid opening */
+#define ROW_SHORT_LISTING 3 /* the listing slice is shorter than the listing */
+
+/*
+ * The listing is ASCII. Each line ends in byte 10, fields are parted by one
+ * space, numbers are in base ten, members are digits (124 is 1, 2 and 4):
+ *
+ *   RECORD STEP ANSWER           a line a record: from 1 on, byte 0, row_answer
+ *   registry EPOCH LEADER-EPOCH LEADER MEMBERS normal|waiting|choosing
+ *   control EPOCH LEADER-EPOCH LEADER MEMBERS idle|leader|boards|choosing
+ *   board B EPOCH LEADER-EPOCH LEADER MEMBERS JOINED LENGTH late|current
+ *                                8 lines, boards 1 to 8
+ *   receipts N VALUE ... VALUE   how many, then their values
+ *
+ * ROW_LISTING_LEN(n) bytes suffice for the listing of any sheet of n records:
  *
  *     12 n  n record lines of at most 4 + 3 + 2 digits, 2 spaces and byte 10
  *       39  the registry's line:   9 + 5 + 5 + 2 + 9 + 9
@@ -41,29 +115,25 @@ extern "C" {
  *      368  8 board lines of at most 8 + 5 + 5 + 2 + 9 + 5 + 3 + 9 = 46
  *     5645  the receipts' line: 13, and 512 times a space and 10 digits
  *
- * That is 12 n + 6090, and 55,230 for the longest sheet.
+ * That is 12 n + 6090, and 55,230 for the longest sheet: an int of 32 bits
+ * holds it for every n up to ROW_RECORDS_MAX. There is no cast, so that it
+ * stands in #if too.
  */
-#define ROW_LISTING_LEN(n) (12 * (size_t)(n) + 6090)
-
-/* The results that are refusals. Every listing is longer than 3 bytes. */
-#define ROW_BAD_SHEET 2     /* wrong length, or no valid opening */
-#define ROW_SHORT_LISTING 3 /* the listing slice is shorter than the listing */
+#define ROW_LISTING_LEN(n) (12 * (n) + 6090)
 
 /*
  * Runs a sheet from its opening and writes the listing.
  *
  *   sheet        the records; they are only read
  *   sheet_len    their length in bytes, 8 times the number of records
- *   listing      where the listing goes, as ASCII lines that end in byte 10,
- *                with no byte 0 at the end
+ *   listing      where the listing goes, with no byte 0 at the end
  *   listing_len  the length of that slice in bytes
  *
  * Returns the listing's length in bytes, or ROW_BAD_SHEET, or, for a sheet that
  * is not refused so, ROW_SHORT_LISTING.
  *
  * Both refusals leave the listing slice untouched. Bytes of it past the end of
- * a listing keep their values. A step that is refused is no refusal of the
- * sheet: the listing has its answer, and the sheet goes on.
+ * a listing keep their values.
  *
  * The slices must not overlap. Neither pointer may be null, even where the
  * length is 0.

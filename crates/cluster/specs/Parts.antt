@@ -2,7 +2,7 @@
 use mathlib.Core.Logic.{_≢_}
 use mathlib.Core.Path.{_≡_}
 use Prim.Native.Nat.{ℕ}
-use Rattle.model.specs.State.{State, outline, values}
+use Rattle.model.specs.State.{RowState, outline, entries}
 use Rattle.model.specs.Steps.{Step, answerOf, step, withRegistry, withController}
 use Rattle.cluster.specs.declared.Registry.{Registry}
 use Rattle.cluster.specs.declared.Controller.{Controller}
@@ -13,19 +13,19 @@ use Rattle.cluster.specs.Layout.{registryOf, controllerOf}
 
 -- The registry r, and what the step st of any state that has it answers and leaves.
 pub record Rules (st : Step) (r : Registry) (x : Ruled) : Type 0 where
-  pub answer : (s : State ℕ) → x .answer ≡ answerOf (outline (withRegistry s (registryOf r))) st
-  pub after : (s : State ℕ) → registryOf (x .registry) ≡ step values (withRegistry s (registryOf r)) st .registry
+  pub answer : (s : RowState) → x .answer ≡ answerOf (outline (withRegistry s (registryOf r))) st
+  pub after : (s : RowState) → registryOf (x .registry) ≡ step entries (withRegistry s (registryOf r)) st .registry
   pub refused : x .answer ≢ 0 → x .registry ≡ r
 
 -- The controller c, and what the step st of any state that has it, and of which what the call was told is known, answers and leaves.
-pub record Tells (Known : State ℕ → Type 0) (st : Step) (c : Controller) (x : Told) : Type 0 where
-  pub answer : (s : State ℕ) → Known s → x .answer ≡ answerOf (outline (withController s (controllerOf c))) st
-  pub after : (s : State ℕ) → Known s → controllerOf (x .controller) ≡ step values (withController s (controllerOf c)) st .controller
+pub record Tells (Known : RowState → Type 0) (st : Step) (c : Controller) (x : Told) : Type 0 where
+  pub answer : (s : RowState) → Known s → x .answer ≡ answerOf (outline (withController s (controllerOf c))) st
+  pub after : (s : RowState) → Known s → controllerOf (x .controller) ≡ step entries (withController s (controllerOf c)) st .controller
   pub refused : x .answer ≢ 0 → x .controller ≡ c
 
 -- Both.
 pub record Settles (st : Step) (r : Registry) (c : Controller) (x : Settled) : Type 0 where
-  pub answer : (s : State ℕ) → x .answer ≡ answerOf (outline (withController (withRegistry s (registryOf r)) (controllerOf c))) st
-  pub registry : (s : State ℕ) → registryOf (x .registry) ≡ step values (withController (withRegistry s (registryOf r)) (controllerOf c)) st .registry
-  pub controller : (s : State ℕ) → controllerOf (x .controller) ≡ step values (withController (withRegistry s (registryOf r)) (controllerOf c)) st .controller
+  pub answer : (s : RowState) → x .answer ≡ answerOf (outline (withController (withRegistry s (registryOf r)) (controllerOf c))) st
+  pub registry : (s : RowState) → registryOf (x .registry) ≡ step entries (withController (withRegistry s (registryOf r)) (controllerOf c)) st .registry
+  pub controller : (s : RowState) → controllerOf (x .controller) ≡ step entries (withController (withRegistry s (registryOf r)) (controllerOf c)) st .controller
   pub refused : x .answer ≢ 0 → (x .registry ≡ r) × (x .controller ≡ c)

@@ -8,7 +8,7 @@ use native.Mathlib.Nat.{zero-add}
 use native.Mathlib.Omega.{arith}
 use lib.Dec.{eqb}
 use lib.ListN.{length, getD, set}
-use Rattle.model.specs.State.{Outline, outline, values}
+use Rattle.model.specs.State.{Outline, outline, entries}
 use Rattle.model.specs.Steps.{Step, malformed, accepted, answerOf, next}
 use Rattle.model.specs.Records.{Record, unused, rules}
 use Rattle.model.proofs.Theorem.{nth}
@@ -19,38 +19,38 @@ use Rattle.cluster.specs.declared.Cluster.{Cluster}
 use Rattle.cluster.specs.declared.Outcome.{Outcome}
 use Rattle.cluster.specs.declared.Settled.{Settled}
 use Rattle.cluster.specs.Layout.{noView, outlineOf}
-use Rattle.refinement.specs.Memory.{abs, rowOf, Ready, storeAfter, listAfter, Turns, Leaves}
+use Rattle.refinement.specs.Memory.{Places, Full, abs, rowOf, Ready, placesAfter, Turns, Leaves}
 use Rattle.refinement.proofs.Turning.{turns-refused, set-idle}
 use Rattle.dispatch.specs.declared.Sent.{Sent}
 use Rattle.dispatch.specs.Send.{Sends}
 
 -- The answer 1 to what is no step.
-pub malformed-leaves : (row : Cluster) → Ready row → (store list : List ℕ) → length store ≡ 4096 → length list ≡ 512 → Leaves malformed row store list 1 row store list
-malformed-leaves row p store list full long = turns-refused row (p .shape .len) (p .len) (p .issued) store list full long malformed 1 refl (λ e. omega arith)
+pub malformed-leaves : (row : Cluster) → Ready row → (p : Places) → Full p → Leaves malformed row p 1 row p
+malformed-leaves row r p full = turns-refused row (r .short) (r .issued) p full malformed 1 refl (λ e. omega arith)
 
 -- A step that leaves the views.
-pub sends-kept : {st : Step} {g : Registry} {c : Controller} {views : List View} {issued issued′ : ℕ} {joined acked len store list joined′ acked′ len′ store′ list′ : List ℕ} {s : Settled}
-    → Leaves st (rowOf g c views joined acked len issued) store list (s .answer) (rowOf (s .registry) (s .controller) views joined′ acked′ len′ issued′) store′ list′
-    → Sends st g c views issued joined acked len store list (record { issued = issued′; place = 0; view = getD views 0 noView; central = s }) joined′ acked′ len′ store′ list′
-sends-kept {st} {g} {c} {views} {issued} {issued′} {joined} {acked} {len} {store} {list} {joined′} {acked′} {len′} {store′} {list′} {s} h = record {
+pub sends-kept : {st : Step} {g : Registry} {c : Controller} {views : List View} {issued issued′ : ℕ} {joined acked len joined′ acked′ len′ : List ℕ}
+    {p p′ : Places} {s : Settled}
+    → Leaves st (rowOf g c views joined acked len issued) p (s .answer) (rowOf (s .registry) (s .controller) views joined′ acked′ len′ issued′) p′
+    → Sends st g c views issued joined acked len p (record { issued = issued′; place = 0; view = getD views 0 noView; central = s }) joined′ acked′ len′ p′
+sends-kept {st} {g} {c} {views} {issued} {issued′} {joined} {acked} {len} {joined′} {acked′} {len′} {p} {p′} {s} h = record {
   place = omega arith;
-  leaves = subst (λ vs. Leaves st (rowOf g c views joined acked len issued) store list (s .answer) (rowOf (s .registry) (s .controller) vs joined′ acked′ len′ issued′) store′ list′) (sym (set-idle noView views 0)) h;
+  leaves = subst (λ vs. Leaves st (rowOf g c views joined acked len issued) p (s .answer) (rowOf (s .registry) (s .controller) vs joined′ acked′ len′ issued′) p′)
+      (sym (set-idle noView views 0)) h;
 }
 
-module _ (row : Cluster) (store list : List ℕ) (x : Outcome) (store′ list′ : List ℕ) where
+module _ (row : Cluster) (p : Places) (x : Outcome) (p′ : Places) where
   abbrev P : Step → Type 0
-  P st = Turns st row store list x store′ list′
+  P st = Turns st row p x p′
 
   -- A step that every row answers 1 is as good as none.
   as-malformed : (st : Step) → ((m : Outline) → answerOf m st ≡ 1) → ((m : Outline) → accepted m st ≡ false) → P st → P malformed
   as-malformed st one never k = record {
     answer = k .answer ∙ one (outlineOf row);
-    state = k .state ∙ ap (λ t. cond t (next values (abs row store list) st) (abs row store list)) (never (outline (abs row store list)));
-    eight = k .eight;
-    len = k .len;
+    state = k .state ∙ ap (λ t. cond t (next entries (abs row p) st) (abs row p)) (never (outline (abs row p)));
+    short = k .short;
     issued = k .issued;
-    stored = k .stored ∙ ap (λ t. cond t (storeAfter st row store) store) (never (outlineOf row));
-    listed = k .listed ∙ ap (λ t. cond t (listAfter st row store list) list) (never (outlineOf row));
+    places = k .places ∙ ap (λ t. cond t (placesAfter st row p) p) (never (outlineOf row));
     refused = k .refused;
   }
 

@@ -6,11 +6,13 @@ use Rattle.model.specs.Steps.{Step}
 use Rattle.cluster.specs.declared.View.{View}
 use Rattle.cluster.specs.declared.Registry.{Registry}
 use Rattle.cluster.specs.declared.Controller.{Controller}
-use Rattle.refinement.specs.Memory.{rowOf, Leaves}
+use Rattle.refinement.specs.Memory.{Places, rowOf, Leaves}
 use Rattle.dispatch.specs.declared.Sent.{Sent}
 
--- What the step st of the row of these parts answers and leaves: x has all that it does not write where it is lent; of the views it changes one at most.
-pub record Sends (st : Step) (g : Registry) (c : Controller) (views : List View) (issued : ℕ) (joined acked len store list : List ℕ) (x : Sent) (joined′ acked′ len′ store′ list′ : List ℕ) : Type 0 where
+-- What the step st of the row of these parts answers and leaves: x has all that it does not write where it is lent; of the views it
+-- changes one at most.
+pub record Sends (st : Step) (g : Registry) (c : Controller) (views : List View) (issued : ℕ) (joined acked len : List ℕ) (p : Places)
+    (x : Sent) (joined′ acked′ len′ : List ℕ) (p′ : Places) : Type 0 where
   pub place : x .place < 8
-  pub leaves : Leaves st (rowOf g c views joined acked len issued) store list (x .central .answer)
-      (rowOf (x .central .registry) (x .central .controller) (set views (x .place) (x .view)) joined′ acked′ len′ (x .issued)) store′ list′
+  pub leaves : Leaves st (rowOf g c views joined acked len issued) p
+      (x .central .answer) (rowOf (x .central .registry) (x .central .controller) (set views (x .place) (x .view)) joined′ acked′ len′ (x .issued)) p′

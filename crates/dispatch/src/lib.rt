@@ -1,10 +1,8 @@
 // From a record of a sheet to its step. Inner layer: callers see to refusal 1; the calls of `steps` test it, the runner of sheets
 // knows it.
 
-ghost use mathlib.Core.Path.{_≡_};
-ghost use lib.ListN.{length};
 ghost use Rattle.model.specs.Records as R;
-ghost use Rattle.refinement.specs.Memory.{rowOf, Ready};
+ghost use Rattle.refinement.specs.Memory.{lent, Full, rowOf, Ready};
 ghost use Rattle.records.specs.Record.{recordOf};
 ghost use Rattle.dispatch.specs.Send.{Sends};
 use cluster::Controller;
@@ -38,8 +36,10 @@ pub fn send(
     list: &mut [u32],
     r: Record,
 ) -> Sent
-    requires { ⌜ Ready (rowOf g c views (now joined) (now acked) (now len) issued) × (length (now store) ≡ 4096) × (length (now list) ≡ 512) ⌝ }
-    ensures { λ x. ⌜ Sends (R.stepOf (recordOf r)) g c views issued (now (joined .entry)) (now (acked .entry)) (now (len .entry)) (now (store .entry)) (now (list .entry)) x (now (joined .exit)) (now (acked .exit)) (now (len .exit)) (now (store .exit)) (now (list .exit)) ⌝ }
+    requires { ⌜ Ready (rowOf g c views (now joined) (now acked) (now len) issued) × Full (lent (now store) (now list)) ⌝ }
+    ensures { λ x. ⌜ Sends (R.stepOf (recordOf r))
+        g c views issued (now (joined .entry)) (now (acked .entry)) (now (len .entry)) (lent (now (store .entry)) (now (list .entry)))
+        x (now (joined .exit)) (now (acked .exit)) (now (len .exit)) (lent (now (store .exit)) (now (list .exit))) ⌝ }
 {
     let b = board(r.board, r.other, r.spare, r.value);
     let none = bare(r.board, r.other, r.spare, r.value);

@@ -4,7 +4,7 @@ use mathlib.Core.List.{[]}
 use mathlib.Core.Path.{_≡_, refl, sym, ap, _∙_}
 use Prim.Native.Nat.{ℕ, _<_}
 use lib.ListN.{length, replicate, length-replicate}
-use Rattle.model.specs.State.{State, opened, zeros}
+use Rattle.model.specs.State.{RowState, Entry, openingWith, opened, zeros}
 use Rattle.model.specs.Steps.{Step}
 use Rattle.cluster.specs.declared.Controller.{Controller}
 use Rattle.cluster.specs.Layout.{controllerOf}
@@ -13,11 +13,11 @@ use Rattle.hub.specs.declared.Report.{Report}
 use Rattle.hub.specs.Lent.{Reported, Lends}
 
 -- A state in which what a board tells is so: every board has it. (One with the registry that step 10 is told needs no words.)
-pub somewhere : (x : Report) → (s : State ℕ) × Reported x s
+pub somewhere : (x : Report) → (s : RowState) × Reported x s
 somewhere x = (
   record {
-    registry = opened {E = ℕ} 1 .registry;
-    controller = opened {E = ℕ} 1 .controller;
+    registry = opened {E = Entry} (openingWith 1) .registry;
+    controller = opened {E = Entry} (openingWith 1) .controller;
     view = λ _. record { epoch = x .epoch; term = 1; leader = 0; members = λ _. true };
     joined = λ _. x .joined;
     acked = λ _. zeros;
@@ -41,7 +41,7 @@ controllers-equal c d t u e =
     let j = at-equal 0 (c .joined) (d .joined) (t .joined ∙ sym (u .joined)) (λ b i. e i .heardJoined b) in
     λ i. record { view = v i; stage = s i; heard = h i; joined = j i }
 
-pub fixed : (fits : Bool) (Known : State ℕ → Type 0) (st : Step) (c : Controller) (n m : ℕ) (c′ d : Controller) → Typed c′ → Typed d → (s : State ℕ) → Known s
+pub fixed : (fits : Bool) (Known : RowState → Type 0) (st : Step) (c : Controller) (n m : ℕ) (c′ d : Controller) → Typed c′ → Typed d → (s : RowState) → Known s
     → Lends fits Known st c n c′ → Lends fits Known st c m d → (n ≡ m) × (c′ ≡ d)
 fixed fits Known st c n m c′ d t u s k l l′ = (
   l .answer s (λ _. k) ∙ sym (l′ .answer s (λ _. k)),

@@ -6,7 +6,7 @@ use lib.Dec.{T, leb, eqb, eqb→eq}
 use lib.ListN.{length}
 use borrow.Author.Tests.{eqb-false, eq-eqb}
 use Rattle.model.specs.Members.{isReplica}
-use Rattle.model.specs.State.{State, outline, values, stageNumber}
+use Rattle.model.specs.State.{RowState, outline, entries, stageNumber}
 use Rattle.model.specs.Steps.{Step, accepted, next, step, withController}
 use Rattle.model.specs.Ranges.{every}
 use Rattle.model.proofs.Tests.{of-true, is-true, split-and}
@@ -21,16 +21,16 @@ use Rattle.hub.specs.declared.Report.{Report}
 use Rattle.hub.specs.Lent.{controllerFits, reportRanges, reportFits, leaderFits, Reported, Lends}
 
 -- A step that changes the controller at most: the state before it with the controller after it is the state after it.
-module _ (st : Step) (only : (s : State ℕ) → next values s st ≡ withController s (next values s st .controller)) (s : State ℕ) where
-  put-back : withController s (step values s st .controller) ≡ step values s st
+module _ (st : Step) (only : (s : RowState) → next entries s st ≡ withController s (next entries s st .controller)) (s : RowState) where
+  put-back : withController s (step entries s st .controller) ≡ step entries s st
   put-back = go (accepted (outline s) st)
     where
-      go : (t : Bool) → withController s (cond t (next values s st) s .controller) ≡ cond t (next values s st) s
+      go : (t : Bool) → withController s (cond t (next entries s st) s .controller) ≡ cond t (next entries s st) s
       go true = sym (only s)
       go false = refl
 
 -- Refusal 1, which leaves c.
-pub turned-away : (st : Step) (c : Controller) (fits : Bool) → fits ≡ false → (Known : State ℕ → Type 0) (t : Told)
+pub turned-away : (st : Step) (c : Controller) (fits : Bool) → fits ≡ false → (Known : RowState → Type 0) (t : Told)
     → t .answer ≡ 1 → t .controller ≡ c → Lends fits Known st c (t .answer) (t .controller)
 turned-away st c fits unfit Known t ea ec = record {
   answer = λ s f. ea ∙ rw unfit;
@@ -39,11 +39,11 @@ turned-away st c fits unfit Known t ea ec = record {
 }
 
 -- The core's step of c, which is st, gave a; refusal 1 is checked before it, and what is refused leaves c.
-module _ (st : Step) (only : (s : State ℕ) → next values s st ≡ withController s (next values s st .controller)) (c : Controller) (Known′ : State ℕ → Type 0) (core : Step) (a : Told) (by-core : Tells Known′ core c a) (same-step : core ≡ st) where
+module _ (st : Step) (only : (s : RowState) → next entries s st ≡ withController s (next entries s st .controller)) (c : Controller) (Known′ : RowState → Type 0) (core : Step) (a : Told) (by-core : Tells Known′ core c a) (same-step : core ≡ st) where
   h : Tells Known′ st c a
   h = subst (λ st. Tells Known′ st c a) same-step by-core
 
-  pub lends : (fits : Bool) (Known : State ℕ → Type 0) → ((s : State ℕ) → fits ≡ true → Known s → Known′ s) → (n : ℕ) → n ≡ cond fits (a .answer) 1
+  pub lends : (fits : Bool) (Known : RowState → Type 0) → ((s : RowState) → fits ≡ true → Known s → Known′ s) → (n : ℕ) → n ≡ cond fits (a .answer) 1
       → (t : Told) → t .answer ≡ n → t .controller ≡ cond (eqb n 0) (a .controller) c → Lends fits Known st c (t .answer) (t .controller)
   lends true Known k n e t ea ec =
       let left : t .controller ≡ a .controller = ec ∙ same (eqb n 0) refl in
@@ -60,7 +60,7 @@ module _ (st : Step) (only : (s : State ℕ) → next values s st ≡ withContro
       turned-away st c false refl Known t (ea ∙ e) (ec ∙ ap (λ m. cond (eqb m 0) (a .controller) c) e)
 
 -- What the core's steps are told of the board b in place of the report x: the length l, which is a length in any case.
-module _ (b : ℕ) (x : Report) (l : ℕ) (s : State ℕ) where
+module _ (b : ℕ) (x : Report) (l : ℕ) (s : RowState) where
   abbrev pub ReadTold : Type 0
   ReadTold = isReplica b ≡ true → (s .joined b ≡ x .joined) × (length (s .log b) ≡ l)
 
@@ -91,7 +91,7 @@ module _ (c : Controller) (x : Report) where
     leader-fits g = subst (λ b. isReplica b ≡ true) (leaders g) (is-true (isReplica (x .board)) (fields fit .0))
 
 -- What the core's steps are told is so, where the report fits and is so.
-module _ (c : Controller) (x : Report) (l : ℕ) (short : leb (x .len) 512 ≡ true → l ≡ x .len) (s : State ℕ) where
+module _ (c : Controller) (x : Report) (l : ℕ) (short : leb (x .len) 512 ≡ true → l ≡ x .len) (s : RowState) where
   len-told : reportFits c x ≡ true → Reported x s → length (s .log (x .board)) ≡ l
   len-told t k = k .len ∙ sym (short (is-true (leb (x .len) 512) (fields c x t .1 .1 .1 .0)))
 

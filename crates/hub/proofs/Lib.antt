@@ -3,3 +3,4 @@ pub mod Fixed
 pub mod Lending
 pub mod Putting
 pub mod Walk
+pub mod Mixing

@@ -1,34 +1,28 @@
--- Lending the controller and putting it back is the step by value, since both are the model's step of the row. Assumes nothing.
+-- Lending the controller and putting it back is a call of the whole row, since both are the model's step of it. Assumes nothing.
 use mathlib.Core.Bool.{Bool, true, false, not, cond, _&&_, _||_}
-use mathlib.Core.List.{List, [], _∷_}
+use mathlib.Core.List.{[], _∷_}
+use mathlib.Core.Logic.{_≢_}
 use mathlib.Core.Path.{_≡_, refl, sym, ap, subst, _∙_}
 use Prim.Native.Nat.{ℕ}
-use lib.Dec.{T, leb, eqb, eqb→eq}
-use lib.ListN.{length}
+use lib.Dec.{T, leb, eqb}
 use borrow.Author.Tests.{eqb-true, eq-eqb}
 use Rattle.model.specs.Members.{isReplica}
-use Rattle.model.specs.State.{State, Outline, outline, values, stageNumber}
+use Rattle.model.specs.State.{RowState, Outline, outline, entries, stageNumber}
 use Rattle.model.specs.Steps as T
-use Rattle.model.specs.Steps.{Step, accepted, answerOf, step}
+use Rattle.model.specs.Steps.{Step, nothing, writes, accepted, answerOf, step}
 use Rattle.model.specs.Ranges.{every, viewRanges, replicaRanges, leaderNamed, controllerLeaderNamed, ranges, inRange}
-use Rattle.model.proofs.Tests.{of-true, is-true, split-and}
+use Rattle.model.proofs.Tests.{of-true, is-true}
 use Rattle.model.proofs.Range.{AllTrue, of-every, to-every, of-eight, to-eight}
 use Rattle.cluster.specs.declared.Controller.{Controller}
 use Rattle.cluster.specs.declared.Cluster.{Cluster}
-use Rattle.cluster.specs.declared.Outcome.{Outcome}
 use Rattle.cluster.specs.Layout.{stageOf, at, outlineOf}
-use Rattle.refinement.specs.Memory.{abs, Shape, Ready, storeAfter, listAfter}
+use Rattle.refinement.specs.Memory.{Places, abs, Shape, Ready, written}
 use Rattle.refinement.proofs.Turning.{log-len, outline-abs}
-use Rattle.steps.specs.Call.{valid, Did}
-use Rattle.steps.proofs.Calling.{ready}
+use Rattle.steps.specs.Call.{valid}
+use Rattle.steps.proofs.Calling.{ready, valid-full, valid-range}
 use Rattle.hub.specs.Lent.{registryFits, controllerFits, reportRanges, reportFits, leaderFits, Reported, Lends}
-use Rattle.hub.specs.Whole.{putBack, reportOf, Agrees, PutBack}
+use Rattle.hub.specs.Whole.{putBack, reportOf, AsWhole, PutBack}
 use Rattle.hub.proofs.Fitting.{registry-fits, hearings, controller-fits}
-
--- A choice of two that are the same.
-same-choice : {A : Type 0} (t : Bool) {x y z : A} → x ≡ y → z ≡ cond t x y → z ≡ y
-same-choice true e q = q ∙ e
-same-choice false e q = q
 
 -- A row that refusal 1 lets through: its parts fit, and what its boards tell does.
 module _ (row : Cluster) (ok : inRange (outlineOf row) ≡ true) where
@@ -54,87 +48,67 @@ module _ (row : Cluster) (ok : inRange (outlineOf row) ≡ true) where
       let v = of-every (viewRanges (outlineOf row .view b)) (r .0) in
       rw (controller-fit, is-true (every (reportRanges (reportOf row b))) (to-every (reportRanges (reportOf row b)) (of-true t, (v .0, (r .1 .0, (r .1 .1 .0, tt))))))
 
--- What a row's boards tell is so in its state.
-reported : (row : Cluster) → Ready row → (store list : List ℕ) → length store ≡ 4096 → (b : ℕ) → Reported (reportOf row b) (abs row store list)
-reported row p store list full b = record { epoch = refl; joined = refl; len = log-len store full (row .len) (p .shape .len) (p .len) b }
+-- A choice of two that are the same.
+same-choice : {A : Type 0} (t : Bool) {x y : A} → x ≡ y → y ≡ cond t x y
+same-choice true e = sym e
+same-choice false e = refl
 
--- Both are the model's step.
-module _ (st : Step) (row : Cluster) (shape : Shape row) (store list : List ℕ) (v : valid row store list ≡ true) where
-  abbrev s : State ℕ
-  s = abs row store list
-
-  tests : T (eqb (length store) 4096) × T (eqb (length list) 512) × T (inRange (outlineOf row))
-  tests =
-      let a = split-and (eqb (length store) 4096 && eqb (length list) 512) (inRange (outlineOf row)) (of-true v) in
-      let b = split-and (eqb (length store) 4096) (eqb (length list) 512) (a .0) in
-      (b .0, b .1, a .1)
-
-  full : length store ≡ 4096
-  full = eqb→eq (length store) 4096 (tests .0)
-
-  long : length list ≡ 512
-  long = eqb→eq (length list) 512 (tests .1)
+module _ (row : Cluster) (p : Places) (shape : Shape row) (v : valid row p ≡ true) where
+  abbrev s : RowState
+  s = abs row p
 
   within : inRange (outlineOf row) ≡ true
-  within = is-true (inRange (outlineOf row)) (tests .2)
+  within = valid-range row p v
 
   is-ready : Ready row
   is-ready = ready row shape within
 
-  -- What a lent call has to have answered and left.
-  record Steps (n : ℕ) (c′ : Controller) : Type 0 where
-    answer : n ≡ answerOf (outline s) st
-    state : abs (putBack row c′) store list ≡ step values s st
+  -- What a row's boards tell is so in its state.
+  reported : (b : ℕ) → Reported (reportOf row b) s
+  reported b = record { epoch = refl; joined = refl; len = log-len (p .store) (valid-full row p v .store) (row .len) (is-ready .short) b }
+
+  -- A lent call that answered and left what the model's step does is a call of the whole row.
+  as-whole : (st : Step) → writes st ≡ nothing → (n : ℕ) (c′ : Controller) → n ≡ answerOf (outline s) st → abs (putBack row c′) p ≡ step entries s st
+      → (n ≢ 0 → c′ ≡ row .controller) → AsWhole st row p n c′
+  as-whole st w n c′ a e r =
+      let full = valid-full row p v in
+      let o = outline-abs row (is-ready .short) (is-ready .issued) p full in
+      let o′ = outline-abs (putBack row c′) (is-ready .short) (is-ready .issued) p full in
+      record {
+        answer = a ∙ ap (λ m. answerOf m st) o ∙ ap (λ u. cond u (answerOf (outlineOf row) st) 1) (sym v);
+        state = e ∙ ap (λ u. cond u (step entries s st) s) (sym v);
+        outlined = sym o′ ∙ ap outline e ∙ ap (λ u. cond u (outline (step entries s st)) (outlineOf row)) (sym v);
+        places = same-choice (valid row p && accepted (outlineOf row) st) (ap (λ x. written x row p) w);
+        refused = λ z. ap (putBack row) (r z);
+      }
 
   -- It did, where what it was given fits and is so.
-  steps : (fits : Bool) (Known : State ℕ → Type 0) (n : ℕ) (c′ : Controller) → fits ≡ true → Known s → Lends fits Known st (row .controller) n c′ → Steps n c′
-  steps fits Known n c′ f k l = record {
-    answer = l .answer s (λ _. k) ∙ ap (λ u. cond u (answerOf (outline s) st) 1) f;
-    state = l .state s (λ _. k) ∙ ap (λ u. cond u (step values s st) s) f;
-  }
+  fitting : (st : Step) → writes st ≡ nothing → (fits : Bool) (Known : RowState → Type 0) (n : ℕ) (c′ : Controller) → fits ≡ true → Known s
+      → Lends fits Known st (row .controller) n c′ → AsWhole st row p n c′
+  fitting st w fits Known n c′ f k l = as-whole st w n c′
+      (l .answer s (λ _. k) ∙ ap (λ u. cond u (answerOf (outline s) st) 1) f) (l .state s (λ _. k) ∙ ap (λ u. cond u (step entries s st) s) f) (l .refused)
 
   -- It did, where what it was given does not fit, if the step refuses with 1 too.
-  refuses : (fits : Bool) (Known : State ℕ → Type 0) (n : ℕ) (c′ : Controller) → fits ≡ false → answerOf (outline s) st ≡ 1 → step values s st ≡ s → Lends fits Known st (row .controller) n c′ → Steps n c′
-  refuses fits Known n c′ f a e l = record {
-    answer = l .answer s none ∙ ap (λ u. cond u (answerOf (outline s) st) 1) f ∙ sym a;
-    state = l .state s none ∙ ap (λ u. cond u (step values s st) s) f ∙ sym e;
-  }
+  unfitting : (st : Step) → writes st ≡ nothing → (fits : Bool) (Known : RowState → Type 0) (n : ℕ) (c′ : Controller) → fits ≡ false
+      → answerOf (outline s) st ≡ 1 → step entries s st ≡ s → Lends fits Known st (row .controller) n c′ → AsWhole st row p n c′
+  unfitting st w fits Known n c′ f a e l = as-whole st w n c′
+      (l .answer s none ∙ ap (λ u. cond u (answerOf (outline s) st) 1) f ∙ sym a) (l .state s none ∙ ap (λ u. cond u (step entries s st) s) f ∙ sym e) (l .refused)
     where
       none : fits ≡ true → Known s
       none t = absurd (subst (λ u. T (not u)) (sym f ∙ t) tt)
 
-  agrees : storeAfter st row store ≡ store → listAfter st row store list ≡ list → (x : Outcome) (store′ list′ : List ℕ) → Did st row store list x store′ list′
-      → (n : ℕ) (c′ : Controller) → Steps n c′ → Agrees row store list x store′ list′ n c′
-  agrees hs hl x store′ list′ d n c′ g =
-      let p = is-ready in
-      let o = outline-abs row (shape .len) (p .len) (p .issued) store list full long in
-      let o′ = outline-abs (putBack row c′) (shape .len) (p .len) (p .issued) store list full long in
-      let t = valid row store list && accepted (outlineOf row) st in
-      record {
-        answer = d .answer ∙ ap (λ u. cond u (answerOf (outlineOf row) st) 1) v ∙ ap (λ m. answerOf m st) (sym o) ∙ sym (g .answer);
-        state = d .state ∙ ap (λ u. cond u (step values s st) s) v ∙ sym (g .state);
-        outlined = d .outlined ∙ ap (λ u. cond u (outline (step values s st)) (outlineOf row)) v ∙ ap outline (sym (g .state)) ∙ o′;
-        stored = same-choice t hs (d .stored);
-        listed = same-choice t hl (d .listed);
-      }
-
--- Steps 12 and 14, of any number b: a board, or none, which both refuse with 1.
-module _ (st : Step) (b : ℕ) (first : (m : Outline) → isReplica b ≡ false → (answerOf m st ≡ 1) × (accepted m st ≡ false)) (row : Cluster) (shape : Shape row) (store list : List ℕ) (v : valid row store list ≡ true) where
-  told-steps : (n : ℕ) (c′ : Controller) → Lends (reportFits (row .controller) (reportOf row b)) (Reported (reportOf row b)) st (row .controller) n c′ → Steps st row shape store list v n c′
-  told-steps n c′ l = go (isReplica b) refl
+  -- Steps 12 and 14, of any number b: a board, or none, which both refuse with 1.
+  told-whole : (st : Step) (b : ℕ) → ((m : Outline) → isReplica b ≡ false → (answerOf m st ≡ 1) × (accepted m st ≡ false)) → writes st ≡ nothing
+      → (n : ℕ) (c′ : Controller) → Lends (reportFits (row .controller) (reportOf row b)) (Reported (reportOf row b)) st (row .controller) n c′ → AsWhole st row p n c′
+  told-whole st b first w n c′ l = go (isReplica b) refl
     where
-      ok : inRange (outlineOf row) ≡ true
-      ok = within st row shape store list v
-
-      go : (t : Bool) → isReplica b ≡ t → Steps st row shape store list v n c′
-      go true e = steps st row shape store list v _ _ n c′ (report-fit row ok b e) (reported row (is-ready st row shape store list v) store list (full st row shape store list v) b) l
-      go false e =
-          let f = first (outline (abs row store list)) e in
-          refuses st row shape store list v _ _ n c′ (rw (controller-fit row ok, e)) (f .0) (rw (f .1)) l
+      go : (t : Bool) → isReplica b ≡ t → AsWhole st row p n c′
+      go true e = fitting st w _ _ n c′ (report-fit row within b e) (reported b) l
+      go false e = let f = first (outline s) e in unfitting st w _ _ n c′ (rw (controller-fit row within, e)) (f .0) (rw (f .1)) l
 
 -- Step 11's report is the leader's at stage leader.
-leader-fit : (row : Cluster) (b : ℕ) → reportFits (row .controller) (reportOf row b) ≡ true → (stageNumber (stageOf (row .controller .stage)) ≡ 1 → b ≡ row .controller .view .leader)
-    → leaderFits (row .controller) (reportOf row b) ≡ true
+leader-fit : (row : Cluster) (b : ℕ) → reportFits (row .controller) (reportOf row b) ≡ true
+    → (stageNumber (stageOf (row .controller .stage)) ≡ 1 → b ≡ row .controller .view .leader) → leaderFits (row .controller) (reportOf row b) ≡ true
 leader-fit row b f h = rw f (go (eqb (stageNumber (stageOf (row .controller .stage))) 1) refl)
   where
     go : (t : Bool) → eqb (stageNumber (stageOf (row .controller .stage))) 1 ≡ t → (not t || eqb b (row .controller .view .leader)) ≡ true
@@ -143,16 +117,11 @@ leader-fit row b f h = rw f (go (eqb (stageNumber (stageOf (row .controller .sta
 
 pub put-back : PutBack
 unfolding PutBack
-put-back row shape = record {
-  news = λ n c′ l store list x store′ list′ v d.
-      let ok = within T.refreshController row shape store list v in
-      agrees T.refreshController row shape store list v refl refl x store′ list′ d n c′ (steps T.refreshController row shape store list v _ _ n c′ (rw (registry-fit row ok, controller-fit row ok)) refl l);
-  readLeader = λ b n c′ t h l store list x store′ list′ v d.
-      let ok = within T.readLeader row shape store list v in
-      agrees T.readLeader row shape store list v refl refl x store′ list′ d n c′ (steps T.readLeader row shape store list v _ _ n c′ (leader-fit row b (report-fit row ok b t) h)
-      (reported row (is-ready T.readLeader row shape store list v) store list (full T.readLeader row shape store list v) b) l);
-  read = λ b n c′ l store list x store′ list′ v d.
-      agrees (T.read b) row shape store list v refl refl x store′ list′ d n c′ (told-steps (T.read b) b (λ m e. (rw e, rw e)) row shape store list v n c′ l);
-  hear = λ b n c′ l store list x store′ list′ v d.
-      agrees (T.hear b) row shape store list v refl refl x store′ list′ d n c′ (told-steps (T.hear b) b (λ m e. (rw e, rw e)) row shape store list v n c′ l);
-}
+put-back row p shape v =
+    let ok = within row p shape v in
+    record {
+      news = λ n c′ l. fitting row p shape v T.refreshController refl _ _ n c′ (rw (registry-fit row ok, controller-fit row ok)) refl l;
+      readLeader = λ b n c′ t l. fitting row p shape v T.readLeader refl _ _ n c′ (leader-fit row b (report-fit row ok b (t .0)) (t .1)) (reported row p shape v b) l;
+      read = λ b n c′ l. told-whole row p shape v (T.read b) b (λ m e. (rw e, rw e)) refl n c′ l;
+      hear = λ b n c′ l. told-whole row p shape v (T.hear b) b (λ m e. (rw e, rw e)) refl n c′ l;
+    }

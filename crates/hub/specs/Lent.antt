@@ -8,7 +8,7 @@ use Prim.Native.Nat.{ℕ}
 use lib.Dec.{leb, eqb}
 use lib.ListN.{length}
 use Rattle.model.specs.Members.{isReplica}
-use Rattle.model.specs.State.{State, outline, values, opened, stageNumber}
+use Rattle.model.specs.State.{RowState, outline, entries, Entry, openingWith, opened, stageNumber}
 use Rattle.model.specs.Steps.{Step, refreshController, readLeader, read, hear, answerOf, step, withRegistry, withController}
 use Rattle.model.specs.Ranges.{every, isEpoch, inRange}
 use Rattle.cluster.specs.declared.Registry.{Registry}
@@ -19,10 +19,10 @@ use Rattle.hub.specs.declared.Report.{Report}
 -- Refusal 1 of a registry, and of a controller: "a number outside the ranges above, the registry's leader 0 while status is not choosing, or
 -- the controller's leader 0 at stage leader or boards". All else in an opened row is in range, so what is asked is asked of the record put into it.
 unfoldable pub registryFits : Registry → Bool
-registryFits g = inRange (outline {E = ℕ} (withRegistry (opened 1) (registryOf g)))
+registryFits g = inRange (outline {E = Entry} (withRegistry (opened (openingWith 1)) (registryOf g)))
 
 unfoldable pub controllerFits : Controller → Bool
-controllerFits c = inRange (outline {E = ℕ} (withController (opened 1) (controllerOf c)))
+controllerFits c = inRange (outline {E = Entry} (withController (opened (openingWith 1)) (controllerOf c)))
 
 -- The papers leave to the program what these calls are told. Chosen: every number of a report is in its range, used by the step or not, and at
 -- stage leader its board is the controller's leader; else 1, before a step's own checks.
@@ -40,19 +40,19 @@ abbrev pub leaderFits : Controller → Report → Bool
 leaderFits c x = reportFits c x && (not (eqb (stageNumber (stageOf (c .stage))) 1) || eqb (x .board) (c .view .leader))
 
 -- What the board tells is so in the state s.
-pub record Reported (x : Report) (s : State ℕ) : Type 0 where
+pub record Reported (x : Report) (s : RowState) : Type 0 where
   pub epoch : s .view (x .board) .epoch ≡ x .epoch
   pub joined : s .joined (x .board) ≡ x .joined
   pub len : length (s .log (x .board)) ≡ x .len
 
 -- A call of the step st, lent the controller c: it answers n and leaves c′. If what it is given fits, this is so of any state in which what it was
 -- told is so; if not, of any state. There are such states, and one fixes n and c′ (hub/proofs/Fixed.antt, `somewhere` and `fixed`).
-pub record Lends (fits : Bool) (Known : State ℕ → Type 0) (st : Step) (c : Controller) (n : ℕ) (c′ : Controller) : Type 0 where
+pub record Lends (fits : Bool) (Known : RowState → Type 0) (st : Step) (c : Controller) (n : ℕ) (c′ : Controller) : Type 0 where
   -- Refusal 1 first, then the model's answer.
-  pub answer : (s : State ℕ) → (fits ≡ true → Known s) → n ≡ cond fits (answerOf (outline (withController s (controllerOf c))) st) 1
+  pub answer : (s : RowState) → (fits ≡ true → Known s) → n ≡ cond fits (answerOf (outline (withController s (controllerOf c))) st) 1
   -- The state with c′ put back is the model's step of the state with c.
-  pub state : (s : State ℕ) → (fits ≡ true → Known s)
-      → withController s (controllerOf c′) ≡ cond fits (step values (withController s (controllerOf c)) st) (withController s (controllerOf c))
+  pub state : (s : RowState) → (fits ≡ true → Known s)
+      → withController s (controllerOf c′) ≡ cond fits (step entries (withController s (controllerOf c)) st) (withController s (controllerOf c))
   -- A refused call leaves the record itself.
   pub refused : n ≢ 0 → c′ ≡ c
 

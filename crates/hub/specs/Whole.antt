@@ -1,18 +1,19 @@
--- The lent controller put back into its row. Cited by the promise of `hub::claim`. Assumes nothing.
+-- The lent controller put back into its row: a call over it is a call of the whole row, so demand 3 holds for lists that mix both.
+-- Cited by the promise of `hub::claim`. Assumes nothing.
 use mathlib.Core.Bool.{true}
-use mathlib.Core.List.{List}
+use mathlib.Core.List.{List, [], _∷_}
 use mathlib.Core.Path.{_≡_}
 use Prim.Native.Nat.{ℕ}
 use Rattle.model.specs.Members.{isReplica}
-use Rattle.model.specs.State.{stageNumber}
+use Rattle.model.specs.State.{Opening, stageNumber}
 use Rattle.model.specs.Steps as T
 use Rattle.model.specs.Steps.{Step}
 use Rattle.cluster.specs.declared.Controller.{Controller}
 use Rattle.cluster.specs.declared.Cluster.{Cluster}
-use Rattle.cluster.specs.declared.Outcome.{Outcome}
-use Rattle.cluster.specs.Layout.{stageOf, at, noView, outlineOf}
-use Rattle.refinement.specs.Memory.{abs, Shape}
+use Rattle.cluster.specs.Layout.{stageOf, at, noView}
+use Rattle.refinement.specs.Memory.{Places, Shape}
 use Rattle.steps.specs.Call.{valid, Did}
+use Rattle.steps.specs.Calls.{Held, Called, Calls, Begins, Follows}
 use Rattle.hub.specs.declared.Report.{Report}
 use Rattle.hub.specs.Lent.{TakesNews, ReadsLeader, Reads, Hears}
 
@@ -32,30 +33,51 @@ putBack row c = record {
 abbrev pub reportOf : Cluster → ℕ → Report
 reportOf row b = record { board = b; epoch = at noView (row .views) b .epoch; joined = at 0 (row .joined) b; len = at 0 (row .len) b }
 
--- A call by value of a row, which returned x and left store′ and list′, and a call lent the row's controller, which answered n and left c′.
-pub record Agrees (row : Cluster) (store list : List ℕ) (x : Outcome) (store′ list′ : List ℕ) (n : ℕ) (c′ : Controller) : Type 0 where
-  pub answer : x .answer ≡ n
-  -- The row returned is the row with the lent controller put back. (An outline fixes its row: memory/proofs/Rows.antt, `rows-equal`.)
-  pub state : abs (x .row) store′ list′ ≡ abs (putBack row c′) store list
-  pub outlined : outlineOf (x .row) ≡ outlineOf (putBack row c′)
-  -- The step by value leaves the lent places too.
-  pub stored : store′ ≡ store
-  pub listed : list′ ≡ list
+-- A row's controller is lent, and what is told is the row's own: its registry, or what its board b has. In step 11, b is the
+-- controller's leader at stage leader, and any board at another.
+abbrev pub TellsOfLeader : Cluster → ℕ → Type 0
+TellsOfLeader row b = (isReplica b ≡ true) × (stageNumber (stageOf (row .controller .stage)) ≡ 1 → b ≡ row .controller .view .leader)
 
--- Every call by value of the step st agrees, if refusal 1 lets the row and the lent places through. (If it does not, the fault may be in a part
--- of the row that a call lent the controller is not given.)
-abbrev pub Same : Step → Cluster → ℕ → Controller → Type 0
-Same st row n c′ = (store list : List ℕ) (x : Outcome) (store′ list′ : List ℕ) → valid row store list ≡ true → Did st row store list x store′ list′ → Agrees row store list x store′ list′ n c′
+-- The call answered n and left c′. With c′ put back, that is a call of the step with the whole row, which leaves the lent places.
+abbrev pub AsWhole : Step → Cluster → Places → ℕ → Controller → Type 0
+AsWhole st row p n c′ = Did st row p (record { answer = n; row = putBack row c′ }) p
 
--- A row's controller is lent, and what is told is the row's own: its registry, or what its board b has. In step 11, b is the controller's leader at
--- stage leader, and any board at another.
-pub record LentAsWhole (row : Cluster) : Type 0 where
-  pub news : (n : ℕ) (c′ : Controller) → TakesNews (row .controller) (row .registry) n c′ → Same T.refreshController row n c′
-  pub readLeader : (b n : ℕ) (c′ : Controller) → isReplica b ≡ true → (stageNumber (stageOf (row .controller .stage)) ≡ 1 → b ≡ row .controller .view .leader)
-      → ReadsLeader (row .controller) (reportOf row b) n c′ → Same T.readLeader row n c′
-  pub read : (b n : ℕ) (c′ : Controller) → Reads (row .controller) (reportOf row b) n c′ → Same (T.read b) row n c′
-  pub hear : (b n : ℕ) (c′ : Controller) → Hears (row .controller) (reportOf row b) n c′ → Same (T.hear b) row n c′
+pub record LentAsWhole (row : Cluster) (p : Places) : Type 0 where
+  pub news : (n : ℕ) (c′ : Controller) → TakesNews (row .controller) (row .registry) n c′ → AsWhole T.refreshController row p n c′
+  pub readLeader : (b n : ℕ) (c′ : Controller) → TellsOfLeader row b
+      → ReadsLeader (row .controller) (reportOf row b) n c′ → AsWhole T.readLeader row p n c′
+  pub read : (b n : ℕ) (c′ : Controller) → Reads (row .controller) (reportOf row b) n c′ → AsWhole (T.read b) row p n c′
+  pub hear : (b n : ℕ) (c′ : Controller) → Hears (row .controller) (reportOf row b) n c′ → AsWhole (T.hear b) row p n c′
 
--- For every row. (Its type fixes the lengths of its arrays.)
+-- So it is for every row and places that refusal 1 lets through. (If it does not, the fault may be in a part of the row that a call
+-- lent the controller is not given. The row's type fixes the lengths of its arrays.)
 unfoldable pub PutBack : Type 0
-PutBack = (row : Cluster) → Shape row → LentAsWhole row
+PutBack = (row : Cluster) (p : Places) → Shape row → valid row p ≡ true → LentAsWhole row p
+
+-- What the caller holds with the controller c put back.
+abbrev pub putInto : Held → Controller → Held
+putInto h c = record { row = putBack (h .row) c; places = h .places }
+
+-- A call of either kind: by record or by name, or over the lent controller, which is then put back.
+pub data Link : Step → Held → Held → ℕ → Type 0 where
+  byValue : {st : Step} {h h′ : Held} {n : ℕ} → Called st h h′ n → Link st h h′ n
+  news : {h : Held} {n : ℕ} {c′ : Controller} → Shape (h .row)
+      → TakesNews (h .row .controller) (h .row .registry) n c′ → Link T.refreshController h (putInto h c′) n
+  readLeader : {h : Held} {b n : ℕ} {c′ : Controller} → Shape (h .row) → TellsOfLeader (h .row) b
+      → ReadsLeader (h .row .controller) (reportOf (h .row) b) n c′ → Link T.readLeader h (putInto h c′) n
+  read : {h : Held} {b n : ℕ} {c′ : Controller} → Shape (h .row)
+      → Reads (h .row .controller) (reportOf (h .row) b) n c′ → Link (T.read b) h (putInto h c′) n
+  hear : {h : Held} {b n : ℕ} {c′ : Controller} → Shape (h .row)
+      → Hears (h .row .controller) (reportOf (h .row) b) n c′ → Link (T.hear b) h (putInto h c′) n
+
+-- Calls of both kinds one after the other, and their answers.
+pub data Links : Held → List Step → Held → List ℕ → Type 0 where
+  stop : {h : Held} → Links h [] h []
+  link : {h h′ h″ : Held} {st : Step} {sts : List Step} {n : ℕ} {ns : List ℕ}
+      → Link st h h′ n → Links h′ sts h″ ns → Links h (st ∷ sts) h″ (n ∷ ns)
+
+-- Demand 3 for lists that mix both kinds, after an opening: what holds after a list of calls by value holds after them, and a mixed
+-- list that follows is a list of such calls, so that what is claimed of "whatever calls follow" is claimed of it.
+unfoldable pub LinksSafe : Type 0
+LinksSafe = (o : Opening) (h : Held) → Begins o h → (sts : List Step) (h′ : Held) (ns : List ℕ) → Links h sts h′ ns
+    → Follows o sts h′ ns × ((more : List Step) (h″ : Held) (ms : List ℕ) → Links h′ more h″ ms → Calls h′ more h″ ms)

@@ -1,5 +1,5 @@
 ghost use Rattle.hub.specs.Lent.{TakesNews, ReadsLeader, Reads, Hears};
-ghost use Rattle.hub.specs.Whole.{PutBack};
+ghost use Rattle.hub.specs.Whole.{PutBack, LinksSafe};
 use cluster::Controller;
 use cluster::Registry;
 
@@ -54,8 +54,8 @@ pub fn hear(c: &mut Controller, x: Report) -> u8
     a.answer
 }
 
-// The whole row: the lent controller put back into it gives what the step by value gives. Nothing to run: the promise is the
-// statement.
+// The lent controller put back into its row makes a call of the whole row; so demand 3 holds for lists that mix calls by record, by
+// name and over the lent controller. Nothing to run: the promise is the statement.
 pub fn claim()
-    ensures { λ r. ⌜ PutBack ⌝ }
+    ensures { λ r. ⌜ PutBack × LinksSafe ⌝ }
 {}

@@ -14,6 +14,10 @@ use borrow.Rule.Slice.PartMut.{midOf, putMid, set-mid-at, mid-len}
 use Rattle.model.specs.Steps.{shared}
 use Rattle.logstore.specs.Log.{place, logOf}
 
+-- A part at a slice's start begins where the slice does: a block, and an offset in bytes.
+pub from-start : (p : ℕ × ℕ) → _≡_ {A = ℕ × ℕ} (p .0, 0 * 4 + p .1) p
+from-start p = let o : 0 * 4 + p .1 ≡ p .1 = omega arith in ap (λ i. (p .0, i)) o
+
 -- Writes
 
 -- A replica's part, written at n and put back, is the store written at n's place.

@@ -11,9 +11,8 @@ use lib.ListN.{length}
 use borrow.Author.Tests.{ne-eqb}
 use Rattle.model.specs.Prelude.{upd}
 use Rattle.model.specs.Members.{isReplica, size}
-use Rattle.model.specs.State.{outline, Entries, View, Status, normal, waiting, Stage, Registry, Controller, State, opened, isChoosing, stageNumber, stageFor, zeros}
+use Rattle.model.specs.State.{outline, Entries, View, Status, normal, waiting, Stage, Registry, Controller, State, Opening, canOpen, opened, isChoosing, stageNumber, stageFor, zeros}
 use Rattle.model.specs.Steps.{Step, append, commit, add, remove, changeLeader, refresh, join, receive, acknowledge, refreshController, readLeader, read, setNormal, hear, install, malformed, checks, next, accepted, step, shared, heardOf, succeeded, vacated}
-use Rattle.model.specs.Records.{Record, stepOf}
 use Rattle.model.specs.Runs.{run}
 use Rattle.model.specs.Claim.{after}
 use Rattle.model.specs.Ranges.{inRange}
@@ -115,11 +114,11 @@ module _ {E : Type 0} {L : ℕ → ℕ} {s : State E} (i : Inv L s) (k : Bounds 
     readsOn = k .controller .readsOn;
   }
 
-pub opened-bounds : {E : Type 0} (b : ℕ) → T (isReplica b) → Bounds {E = E} (opened b)
-opened-bounds b real = record {
+pub opened-bounds : {E : Type 0} (o : Opening) → T (canOpen o) → Bounds {E = E} (opened o)
+opened-bounds o real = record {
   registry = omega arith;
   controller = record {
-    view = record { epoch = omega arith; term = omega arith; leader = replica-range b real .1 };
+    view = record { epoch = omega arith; term = omega arith; leader = replica-range (o .board) real .1 };
     heard = λ _. omega arith;
     heardJoined = λ _. omega arith;
     reads = λ e. absurd (omega arith);
@@ -273,12 +272,12 @@ module _ (𝓔 : Entries) where
     pub step-bounds : (st : Step) → Bounds (step 𝓔 s st)
     step-bounds st = by-cond Bounds (accepted (outline s) st) (λ t. bounds-keep st (facts (checks (outline s) st) t)) (λ _. k)
 
-  pub run-bounds : {L : ℕ → ℕ} {s : State Entry} → Inv L s → Bounds s → (rs : List Record) → Bounds (run 𝓔 s rs)
+  pub run-bounds : {L : ℕ → ℕ} {s : State Entry} → Inv L s → Bounds s → (sts : List Step) → Bounds (run 𝓔 s sts)
   unfolding run
   run-bounds i k [] = k
-  run-bounds i k (r ∷ rs) = run-bounds (step-keeps 𝓔 i (stepOf r) .inv) (step-bounds i k (stepOf r)) rs
+  run-bounds i k (st ∷ sts) = run-bounds (step-keeps 𝓔 i st .inv) (step-bounds i k st) sts
 
-  pub in-range : (b : ℕ) → T (isReplica b) → (rs : List Record) → T (inRange (outline (after 𝓔 b rs)))
-  in-range b real rs =
-      from-ranges (outline (after 𝓔 b rs))
-      (all-in (run-keeps 𝓔 (opened-inv b real) rs .inv) (run-bounds (opened-inv b real) (opened-bounds b real) rs))
+  pub in-range : (o : Opening) → T (canOpen o) → (sts : List Step) → T (inRange (outline (after 𝓔 o sts)))
+  in-range o real sts =
+      from-ranges (outline (after 𝓔 o sts))
+      (all-in (run-keeps 𝓔 (opened-inv o real) sts .inv) (run-bounds (opened-inv o real) (opened-bounds o real) sts))

@@ -1,6 +1,8 @@
 pub mod Tests
 pub mod Prefix
 pub mod Quorum
+pub mod Refusals
+pub mod Majority
 pub mod Invariant
 pub mod Static
 pub mod Replicas
@@ -14,3 +16,4 @@ pub mod Theorem
 pub mod Range
 pub mod Bounds
 pub mod Answer
+pub mod Forms

@@ -6,7 +6,7 @@ use mathlib.Core.Path.{_≡_, refl, sym, subst, fun-ext}
 use Prim.Native.Nat.{ℕ, _≤_, _<_}
 use lib.Dec.{T, leb, eqb, T-not}
 use borrow.Author.Tests.{eqb-true, eqb-false, eq-eqb, ne-eqb, leb-true, leb-false}
-use Rattle.model.specs.Prelude.{upd, Check, _else_, passes}
+use Rattle.model.specs.Prelude.{upd, Check, _else_, passes, asks}
 
 -- Booleans
 
@@ -101,11 +101,6 @@ pub upd-idle : {A : Type 0} (f : ℕ → A) (b : ℕ) (v : A) → f b ≡ v → 
 upd-idle f b v e = fun-ext (at-or b (rw (eqb-same b) (sym e)) (λ x n. rw (ne-eqb x b n)))
 
 -- Checks
-
--- The test of the check with refusal n, true where no check has it. (No step has two checks with one refusal.)
-abbrev pub asks : ℕ → List Check → Bool
-asks n [] = true
-asks n ((c else m) ∷ cs) = cond (eqb n m) c (asks n cs)
 
 -- What passed checks tell, by refusal: with h : Holds cs, the fact of the check that refuses with 11 is `h 11`.
 abbrev pub Holds : List Check → Type 0

@@ -1,4 +1,4 @@
--- Demand 3: the invariant holds after the opening and after every list of records, and says what is claimed. Assumes nothing.
+-- Demand 3: the invariant holds after the opening and after every list of steps, and says what is claimed. Assumes nothing.
 use mathlib.Core.Bool.{Bool, true, false, not, cond, _&&_}
 use mathlib.Core.List.{List, [], _∷_, _++_, append-assoc, append-nil}
 use mathlib.Core.Logic.{_≢_}
@@ -11,10 +11,9 @@ use lib.ListN.{length, getD}
 use borrow.Author.Tests.{ne-eqb}
 use Rattle.model.specs.Prelude.{passes, _⊑_}
 use Rattle.model.specs.Members.{isReplica, only, size}
-use Rattle.model.specs.State.{outline, Entries, values, State, opened, firstView, noView}
-use Rattle.model.specs.Steps.{Step, append, commit, add, remove, changeLeader, refresh, join, receive, acknowledge, refreshController, readLeader, read, setNormal, hear, install, malformed, checks, next, accepted, step, entryAt}
-use Rattle.model.specs.Records.{Record, unused, rules, stepOf}
-use Rattle.model.specs.Runs.{run, gives, given}
+use Rattle.model.specs.State.{outline, Entries, State, Opening, canOpen, opened, firstView, noView}
+use Rattle.model.specs.Steps.{Step, append, commit, add, remove, changeLeader, refresh, join, receive, acknowledge, refreshController, readLeader, read, setNormal, hear, install, malformed, writes, checks, next, accepted, step}
+use Rattle.model.specs.Runs.{run, taken, gives, given}
 use Rattle.model.specs.Claim.{LeadsUnder, after, receipts, Safe, Safety}
 use Rattle.model.proofs.Tests.{Holds, facts, by-test, by-cond, is-true, is-false, upd-idle, eqb-same}
 use Rattle.model.proofs.Prefix.{begins-refl, begins-nil, begins-more}
@@ -38,24 +37,24 @@ nth P d out [] k n a = out (k + n)
 nth P d out (x ∷ xs) k zero a = subst (λ m. P m x) (omega arith) (a .0)
 nth P d out (x ∷ xs) k (suc n) a = subst (λ m. P m (getD xs n d)) (omega arith) (nth P d out xs (suc k) n (a .1))
 
--- The opening: b was named under every term so far, and nobody is stale.
-pub opened-inv : {E : Type 0} (b : ℕ) → T (isReplica b) → Inv {E = E} (λ _. b) (opened b)
-opened-inv {E} b k = record {
+-- The opening: its board was named under every term so far, and nobody is stale.
+pub opened-inv : {E : Type 0} (o : Opening) → T (canOpen o) → Inv {E = E} (λ _. o .board) (opened o)
+opened-inv {E} o k = record {
   real = λ _. k;
-  registry = record { term = omega arith; named = refl; member = λ _. eqb-refl b };
+  registry = record { term = omega arith; named = refl; member = λ _. eqb-refl (o .board) };
   views = λ x. by-test (isReplica x)
       (λ t. rw (is-true (isReplica x) t) (record { epoch = omega arith; term = omega arith; joined = omega arith; current = λ _. refl; led = λ _. refl }))
       (λ t. rw (is-false (isReplica x) t) (record { epoch = omega arith; term = omega arith; joined = omega arith; current = λ e. absurd (omega arith); led = λ n. absurd (n refl) }));
   controller = record { epoch = omega arith; current = λ _. refl; stage = λ _. tt };
   logs = record {
     own = λ a _. by-test (isReplica a) (λ t. rw (is-true (isReplica a) t)) (λ t. rw (is-false (isReplica a) t));
-    taken = λ x. rw (is-true (isReplica b) k) (by-cond (λ j. j ≤ 1) (isReplica x) (λ _. omega arith) (λ _. omega arith));
+    taken = λ x. rw (is-true (isReplica (o .board)) k) (by-cond (λ j. j ≤ 1) (isReplica x) (λ _. omega arith) (λ _. omega arith));
     follows = λ _ _. begins-refl [];
     counts = λ _ _ _. record { early = λ _. refl; now = λ _. omega arith };
   };
   leader = record {
-    joined = rw (is-true (isReplica b) k);
-    took = λ _. rw (is-true (isReplica b) k);
+    joined = rw (is-true (isReplica (o .board)) k);
+    took = λ _. rw (is-true (isReplica (o .board)) k);
     whole = λ f. absurd (loose f);
   };
   heard = record { read = λ _ _ x _ h. absurd (omega arith); heard = λ _ _ x _ h. absurd (omega arith) };
@@ -63,15 +62,15 @@ opened-inv {E} b k = record {
   outvoted = λ a st. absurd (fresh a st);
 }
   where
-    alone : size (only b) ≡ 1
-    alone = by-replica (λ x. size (only x) ≡ 1) refl refl refl refl refl refl refl refl b k
+    alone : size (only (o .board)) ≡ 1
+    alone = by-replica (λ x. size (only x) ≡ 1) refl refl refl refl refl refl refl refl (o .board) k
 
-    loose : Firm (opened {E = E} b .registry) (opened {E = E} b .controller) → ⊥
+    loose : Firm (opened {E = E} o .registry) (opened {E = E} o .controller) → ⊥
     loose (vacant t) = t
     loose (steady t n) = omega (arith, alone)
     loose (reads t) = t
 
-    fresh : (a : ℕ) → Stale 1 (cond (isReplica a) (firstView b) noView) a → ⊥
+    fresh : (a : ℕ) → Stale 1 (cond (isReplica a) (firstView o) noView) a → ⊥
     fresh a st = by-test (isReplica a)
         (λ t. let lt : 1 < 1 = rw (is-true (isReplica a) t) at (st .old) in omega arith)
         (λ t. let e : 0 ≡ a = rw (is-false (isReplica a) t) at (st .leads) in st .real (sym e))
@@ -98,16 +97,16 @@ module _ (𝓔 : Entries) where
   keeps i (install b) h = install-keeps 𝓔 i b h
   keeps i malformed h = absurd (h 1)
 
-  -- and so does every record, and every list of records.
+  -- and so does every step, and every list of steps.
   pub step-keeps : {L : ℕ → ℕ} {s : State Entry} → Inv L s → (st : Step) → Later L s (step 𝓔 s st)
   step-keeps {L} {s} i st = by-cond (Later L s) (accepted (outline s) st) (λ t. keeps i st (facts (checks (outline s) st) t)) (λ _. later i (omega arith))
 
-  pub run-keeps : {L : ℕ → ℕ} {s : State Entry} → Inv L s → (rs : List Record) → Later L s (run 𝓔 s rs)
+  pub run-keeps : {L : ℕ → ℕ} {s : State Entry} → Inv L s → (sts : List Step) → Later L s (run 𝓔 s sts)
   unfolding run
   run-keeps {s} i [] = later i (omega arith)
-  run-keeps {s} i (r ∷ rs) =
-      let k = step-keeps i (stepOf r) in
-      let m = run-keeps (k .inv) rs in
+  run-keeps {s} i (st ∷ sts) =
+      let k = step-keeps i st in
+      let m = run-keeps (k .inv) sts in
       record {
         history = m .history;
         inv = m .inv;
@@ -117,127 +116,69 @@ module _ (𝓔 : Entries) where
 
   -- Receipts: the list that is kept is the list that was given.
 
-  -- st gives the list xs where it is accepted.
-  abbrev Gives : State Entry → List Entry → Step → Type 0
-  Gives s xs st = step 𝓔 s st .committed ≡ s .committed ++ cond (accepted (outline s) st) xs []
+  -- What an accepted step adds to the list kept is what it gives.
+  next-gives : (s : State Entry) (st : Step) → next 𝓔 s st .committed ≡ s .committed ++ taken 𝓔 s (writes st)
+  next-gives s (append b v) = sym (append-nil (s .committed))
+  next-gives s (commit b) = refl
+  next-gives s (add b) = sym (append-nil (s .committed))
+  next-gives s (remove b) = sym (append-nil (s .committed))
+  next-gives s changeLeader = sym (append-nil (s .committed))
+  next-gives s (refresh b) = sym (append-nil (s .committed))
+  next-gives s (join b) = sym (append-nil (s .committed))
+  next-gives s (receive b) = sym (append-nil (s .committed))
+  next-gives s (acknowledge a b) = sym (append-nil (s .committed))
+  next-gives s refreshController = sym (append-nil (s .committed))
+  next-gives s readLeader = sym (append-nil (s .committed))
+  next-gives s (read b) = sym (append-nil (s .committed))
+  next-gives s setNormal = sym (append-nil (s .committed))
+  next-gives s (hear b) = sym (append-nil (s .committed))
+  next-gives s (install b) = sym (append-nil (s .committed))
+  next-gives s malformed = sym (append-nil (s .committed))
 
-  if-accepted : (s : State Entry) (xs : List Entry) (st : Step) → next 𝓔 s st .committed ≡ s .committed ++ xs → Gives s xs st
-  if-accepted s xs st e = by-test (accepted (outline s) st)
-      (λ t. rw (is-true (accepted (outline s) st) t) e) (λ t. rw (is-false (accepted (outline s) st) t) (sym (append-nil (s .committed))))
+  step-gives : (s : State Entry) (st : Step) → step 𝓔 s st .committed ≡ s .committed ++ gives 𝓔 s st
+  step-gives s st = by-test (accepted (outline s) st)
+      (λ t. rw (is-true (accepted (outline s) st) t) (next-gives s st))
+      (λ t. rw (is-false (accepted (outline s) st) t) (sym (append-nil (s .committed))))
 
-  by-unused : (P : Step → Type 0) → P malformed → (ns : List ℕ) (st : Step) → P st → P (unused ns st)
-  by-unused P bad [] st good = good
-  by-unused P bad (n ∷ ns) st good = by-cond P (eqb n 0) (λ _. by-unused P bad ns st good) (λ _. bad)
-
-  module _ (s : State Entry) (r : Record) where
-    -- what the rule number n gives
-    abbrev gift : ℕ → List Entry
-    gift n = cond (eqb n 2) (entryAt 𝓔 s (r .board) (length (s .committed)) ∷ []) []
-
-    rule : (xs : List Entry) (ns : List ℕ) (st : Step) → next 𝓔 s st .committed ≡ s .committed ++ xs → Gives s xs (unused ns st)
-    rule xs ns st e = by-unused (Gives s xs) (sym (append-nil (s .committed))) ns st (if-accepted s xs st e)
-
-    quiet : (ns : List ℕ) (st : Step) → next 𝓔 s st .committed ≡ s .committed → Gives s [] (unused ns st)
-    quiet ns st e = rule [] ns st (e ∙ sym (append-nil (s .committed)))
-
-    -- The rules, in order: the second alone gives something.
-    by-rule : All (λ n. Gives s (gift n)) 0 (rules r)
-    by-rule =
-        let b = r .other ∷ r .spare ∷ r .value ∷ [] in
-        let a = r .board ∷ b in (
-          quiet [] malformed refl,
-          (
-            quiet (r .other ∷ r .spare ∷ []) (append (r .board) (r .value)) refl,
-            (
-              rule (gift 2) b (commit (r .board)) refl,
-              (
-                quiet b (add (r .board)) refl,
-                (
-                  quiet b (remove (r .board)) refl,
-                  (
-                    quiet a changeLeader refl,
-                    (
-                      quiet b (refresh (r .board)) refl,
-                      (
-                        quiet b (join (r .board)) refl,
-                        (
-                          quiet b (receive (r .board)) refl,
-                          (
-                            quiet (r .spare ∷ r .value ∷ []) (acknowledge (r .board) (r .other)) refl,
-                            (
-                              quiet a refreshController refl,
-                              (
-                                quiet a readLeader refl,
-                                (
-                                  quiet b (read (r .board)) refl,
-                                  (
-                                    quiet a setNormal refl,
-                                    (quiet b (hear (r .board)) refl, (quiet b (install (r .board)) refl, tt)),
-                                  ),
-                                ),
-                              ),
-                            ),
-                          ),
-                        ),
-                      ),
-                    ),
-                  ),
-                ),
-              ),
-            ),
-          ),
-        )
-
-    step-gives : step 𝓔 s (stepOf r) .committed ≡ s .committed ++ gives 𝓔 s r
-    step-gives = nth (λ n. Gives s (gift n)) malformed (λ _. sym (append-nil (s .committed))) (rules r) 0 (r .step) by-rule
-        ∙ ap (λ n. s .committed ++ cond (accepted (outline s) (stepOf r)) (gift n) []) (zero-add (r .step))
-        ∙ ap (λ xs. s .committed ++ xs) (both _ (accepted (outline s) (stepOf r)) (eqb (r .step) 2))
-      where
-        both : (xs : List Entry) (a b : Bool) → cond a (cond b xs []) [] ≡ cond (b && a) xs []
-        both xs true true = refl
-        both xs true false = refl
-        both xs false true = refl
-        both xs false false = refl
-
-  run-given : (s : State Entry) (rs : List Record) → run 𝓔 s rs .committed ≡ s .committed ++ given 𝓔 s rs
+  run-given : (s : State Entry) (sts : List Step) → run 𝓔 s sts .committed ≡ s .committed ++ given 𝓔 s sts
   unfolding run given
   run-given s [] = sym (append-nil (s .committed))
-  run-given s (r ∷ rs) = run-given (step 𝓔 s (stepOf r)) rs ∙ ap (λ xs. xs ++ given 𝓔 (step 𝓔 s (stepOf r)) rs) (step-gives s r) ∙ append-assoc (s .committed) (gives 𝓔 s r) _
+  run-given s (st ∷ sts) = run-given (step 𝓔 s st) sts ∙ ap (λ xs. xs ++ given 𝓔 (step 𝓔 s st) sts) (step-gives s st) ∙ append-assoc (s .committed) (gives 𝓔 s st) _
 
-  pub run-append : (s : State Entry) (rs more : List Record) → run 𝓔 s (rs ++ more) ≡ run 𝓔 (run 𝓔 s rs) more
+  pub run-append : (s : State Entry) (sts more : List Step) → run 𝓔 s (sts ++ more) ≡ run 𝓔 (run 𝓔 s sts) more
   unfolding run
   run-append s [] more = refl
-  run-append s (r ∷ rs) more = run-append (step 𝓔 s (stepOf r)) rs more
+  run-append s (st ∷ sts) more = run-append (step 𝓔 s st) sts more
 
-  given-append : (s : State Entry) (rs more : List Record) → given 𝓔 s (rs ++ more) ≡ given 𝓔 s rs ++ given 𝓔 (run 𝓔 s rs) more
+  given-append : (s : State Entry) (sts more : List Step) → given 𝓔 s (sts ++ more) ≡ given 𝓔 s sts ++ given 𝓔 (run 𝓔 s sts) more
   unfolding run given
   given-append s [] more = refl
-  given-append s (r ∷ rs) more = ap (λ xs. gives 𝓔 s r ++ xs) (given-append (step 𝓔 s (stepOf r)) rs more) ∙ sym (append-assoc (gives 𝓔 s r) _ _)
+  given-append s (st ∷ sts) more = ap (λ xs. gives 𝓔 s st ++ xs) (given-append (step 𝓔 s st) sts more) ∙ sym (append-assoc (gives 𝓔 s st) _ _)
 
-  module _ (b : ℕ) (real : T (isReplica b)) (rs : List Record) where
-    -- the history and the invariant after rs
-    reached : Later (λ _. b) (opened b) (after 𝓔 b rs)
-    reached = run-keeps (opened-inv b real) rs
+  module _ (o : Opening) (real : T (canOpen o)) (sts : List Step) where
+    -- the history and the invariant after sts
+    reached : Later (λ _. o .board) (opened o) (after 𝓔 o sts)
+    reached = run-keeps (opened-inv o real) sts
 
     -- Who holds itself leader under t is the one that the history names for t.
-    led : (x t : ℕ) → LeadsUnder (after 𝓔 b rs) x t → reached .history t ≡ x
+    led : (x t : ℕ) → LeadsUnder (after 𝓔 o sts) x t → reached .history t ≡ x
     led x t k = subst (λ u. reached .history u ≡ x) (k .2) (acting (reached .inv) x (replica-ne x (k .0)) (k .1))
 
-    pub safe : Safe 𝓔 b rs
+    pub safe : Safe 𝓔 o sts
     safe = record {
-      leading = λ n. subst (λ x. receipts 𝓔 b rs ⊑ after 𝓔 b rs .log x) (sym (named-only (reached .inv) n)) (subst (λ xs. xs ⊑ after 𝓔 b rs .log (reached .history (after 𝓔 b rs .registry .view .term))) (run-given (opened b) rs) (reached .inv .safe .begins));
-      lasting = λ more. subst (λ xs. receipts 𝓔 b rs ⊑ xs) (sym (given-append (opened b) rs more)) (begins-more (receipts 𝓔 b rs) _);
+      leading = λ n. subst (λ x. receipts 𝓔 o sts ⊑ after 𝓔 o sts .log x) (sym (named-only (reached .inv) n)) (subst (λ xs. xs ⊑ after 𝓔 o sts .log (reached .history (after 𝓔 o sts .registry .view .term))) (run-given (opened o) sts) (reached .inv .safe .begins));
+      lasting = λ more. subst (λ xs. receipts 𝓔 o sts ⊑ xs) (sym (given-append (opened o) sts more)) (begins-more (receipts 𝓔 o sts) _);
       alone = λ x y t k m. sym (led x t k) ∙ led y t m;
       aloneLater = λ more x y t k m.
           let j = run-keeps (reached .inv) more in
-          let l : LeadsUnder (run 𝓔 (after 𝓔 b rs) more) y t = subst (λ s. LeadsUnder s y t) (run-append (opened b) rs more) m in
+          let l : LeadsUnder (run 𝓔 (after 𝓔 o sts) more) y t = subst (λ s. LeadsUnder s y t) (run-append (opened o) sts more) m in
           let v = reached .inv .views x in
           sym (led x t k) ∙ sym (j .same t (omega (arith, k .2, v .term, reached .inv .registry .term)))
           ∙ subst (λ u. j .history u ≡ y) (l .2) (acting (j .inv) y (replica-ne y (l .0)) (l .1));
-      kept = run-given (opened b) rs;
+      kept = run-given (opened o) sts;
     }
 
 -- The claim for every kind of entry.
 pub safety : Safety
 unfolding Safety
-safety 𝓔 b real rs = safe 𝓔 b real rs
+safety 𝓔 o real sts = safe 𝓔 o real sts

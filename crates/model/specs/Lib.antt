@@ -2,6 +2,7 @@ pub mod Prelude
 pub mod Members
 pub mod State
 pub mod Steps
+pub mod Majority
 pub mod Records
 pub mod Runs
 pub mod Claim

@@ -35,10 +35,12 @@ size m = bit (m 1) + bit (m 2) + bit (m 3) + bit (m 4) + bit (m 5) + bit (m 6) +
 abbrev pub quorum : ℕ → ℕ
 quorum n = n / 2 + 1
 
--- Some majority of the members m lies in q: as many of them do.
+-- Some majority of the members m lies in q: as many of them do. (That these are the same: Majority.)
 abbrev pub hasQuorum : Members → Members → Bool
 hasQuorum m q = leb (quorum (size m)) (size (m ∩ q))
 
 -- The lowest replica of a set, 0 for the empty set.
 abbrev pub lowest : Members → ℕ
-lowest m = cond (m 1) 1 (cond (m 2) 2 (cond (m 3) 3 (cond (m 4) 4 (cond (m 5) 5 (cond (m 6) 6 (cond (m 7) 7 (cond (m 8) 8 0)))))))
+lowest m =
+    cond (m 1) 1 (cond (m 2) 2 (cond (m 3) 3 (cond (m 4) 4
+    (cond (m 5) 5 (cond (m 6) 6 (cond (m 7) 7 (cond (m 8) 8 0)))))))

@@ -1,4 +1,5 @@
--- Point updates, checks with their refusal numbers, beginnings of lists. Cited by Steps and Claim, and by contracts of the crates over this one. Assumes nothing.
+-- Point updates, checks with their refusal numbers, beginnings of lists.
+-- Cited by Steps and Claim, and by contracts of the crates over this one. Assumes nothing.
 use mathlib.Core.Bool.{Bool, true, false, cond, _&&_}
 use mathlib.Core.List.{List, [], _∷_, _++_}
 use mathlib.Core.Path.{_≡_}
@@ -23,6 +24,11 @@ firstFailed ((c else n) ∷ cs) = cond c (firstFailed cs) n
 abbrev pub passes : List Check → Bool
 passes [] = true
 passes ((c else n) ∷ cs) = c && passes cs
+
+-- The test of the check with refusal n, true where no check has it. (No step has two checks with one refusal.)
+abbrev pub asks : ℕ → List Check → Bool
+asks n [] = true
+asks n ((c else m) ∷ cs) = cond (eqb n m) c (asks n cs)
 
 -- xs is a beginning of ys.
 infix 40 _⊑_

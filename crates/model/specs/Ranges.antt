@@ -4,8 +4,8 @@ use mathlib.Core.List.{List, [], _∷_}
 use Prim.Native.Nat.{ℕ}
 use lib.Dec.{T, leb, eqb}
 use Rattle.model.specs.Members.{Members, isReplica}
-use Rattle.model.specs.State.{Entries, values, View, Outline, outline, isChoosing, stageNumber}
-use Rattle.model.specs.Records.{Record}
+use Rattle.model.specs.State.{entries, View, Outline, Opening, canOpen, outline, isChoosing, stageNumber}
+use Rattle.model.specs.Steps.{Step}
 use Rattle.model.specs.Claim.{after}
 
 -- All of them.
@@ -53,4 +53,4 @@ module _ (m : Outline) where
 
 -- No state of a run earns refusal 1.
 unfoldable pub RunsInRange : Type 0
-RunsInRange = (b : ℕ) → T (isReplica b) → (rs : List Record) → T (inRange (outline (after values b rs)))
+RunsInRange = (o : Opening) → T (canOpen o) → (sts : List Step) → T (inRange (outline (after entries o sts)))

@@ -1,31 +1,42 @@
--- Runs: lists of records, malformed and refused ones too, each on what the one before left. Cited by Claim, Trials and the contracts of steps and sheet. Assumes nothing.
-use mathlib.Core.Bool.{Bool, true, false, cond, _&&_}
+-- Runs: lists of steps, malformed and refused ones too, each on what the one before left. Cited by Claim, Trials and the contracts of
+-- steps and sheet. Assumes nothing.
+use mathlib.Core.Bool.{cond}
 use mathlib.Core.List.{List, [], _∷_, _++_}
 use Prim.Native.Nat.{ℕ}
-use lib.Dec.{eqb}
 use lib.ListN.{length}
 use Rattle.model.specs.State.{outline, Entries, State}
-use Rattle.model.specs.Steps.{answerOf, accepted, step, entryAt}
+use Rattle.model.specs.Steps.{Step, Writes, appends, commits, receives, nothing, writes, answerOf, accepted, step, entryAt}
 use Rattle.model.specs.Records.{Record, stepOf}
+
+-- The steps that records stand for.
+abbrev pub stepsOf : List Record → List Step
+stepsOf [] = []
+stepsOf (r ∷ rs) = stepOf r ∷ stepsOf rs
 
 module _ (𝓔 : Entries) where
   open Entries 𝓔 using (Entry)
 
-  -- The state after a list of records.
-  unfoldable pub run : State Entry → List Record → State Entry
+  -- The state after a list of steps.
+  unfoldable pub run : State Entry → List Step → State Entry
   run s [] = s
-  run s (r ∷ rs) = run (step 𝓔 s (stepOf r)) rs
+  run s (st ∷ sts) = run (step 𝓔 s st) sts
 
   -- Their answers, in order.
-  unfoldable pub answers : State Entry → List Record → List ℕ
+  unfoldable pub answers : State Entry → List Step → List ℕ
   answers s [] = []
-  answers s (r ∷ rs) = answerOf (outline s) (stepOf r) ∷ answers (step 𝓔 s (stepOf r)) rs
+  answers s (st ∷ sts) = answerOf (outline s) st ∷ answers (step 𝓔 s st) sts
 
-  -- What one record gives out: the entry that an accepted step 2 takes from b's log.
-  abbrev pub gives : State Entry → Record → List Entry
-  gives s r = cond (eqb (r .step) 2 && accepted (outline s) (stepOf r)) (entryAt 𝓔 s (r .board) (length (s .committed)) ∷ []) []
+  -- What an accepted step gives out: step 2 the next entry of b's log, any other nothing.
+  abbrev pub taken : State Entry → Writes → List Entry
+  taken s (appends b value) = []
+  taken s (commits b) = entryAt 𝓔 s b (length (s .committed)) ∷ []
+  taken s (receives b) = []
+  taken s nothing = []
+
+  abbrev pub gives : State Entry → Step → List Entry
+  gives s st = cond (accepted (outline s) st) (taken s (writes st)) []
 
   -- "The receipts given are one for each accepted step 2, in that order, each the entry that step took from b's log."
-  unfoldable pub given : State Entry → List Record → List Entry
+  unfoldable pub given : State Entry → List Step → List Entry
   given s [] = []
-  given s (r ∷ rs) = gives s r ++ given (step 𝓔 s (stepOf r)) rs
+  given s (st ∷ sts) = gives s st ++ given (step 𝓔 s st) sts

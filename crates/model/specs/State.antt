@@ -25,6 +25,13 @@ values = record {
   exact = λ x y. (eqb→eq x y, λ e. subst (λ z. T (eqb x z)) e (eqb-refl x));
 }
 
+-- The kind of entry that the calls use, and its entry: here alone it is chosen.
+abbrev pub entries : Entries
+entries = values
+
+abbrev pub Entry : Type 0
+Entry = ℕ
+
 -- Epoch, leader epoch (term), leader (0: none) and members: as the registry holds them, or as a replica or the controller last took them.
 pub record View : Type 0 where
   pub epoch : ℕ
@@ -59,6 +66,10 @@ pub record State (E : Type 0) : Type 0 where
   pub acked : ℕ → ℕ → ℕ
   pub log : ℕ → List E
   pub committed : List E
+
+-- The state that a row and the lent places of a call stand for.
+abbrev pub RowState : Type 0
+RowState = State Entry
 
 -- A state in outline: the lengths of the lists stand for the lists. No check of a step looks at more.
 pub record Outline : Type 0 where
@@ -116,16 +127,27 @@ zeros x = 0
 abbrev pub noView : View
 noView = record { epoch = 0; term = 0; leader = 0; members = none }
 
+-- An opening: the board that it names.
+pub record Opening : Type 0 where
+  pub board : ℕ
+
+abbrev pub openingWith : ℕ → Opening
+openingWith b = record { board = b }
+
+-- The opening is accepted: its board is one of 1 to 8.
+abbrev pub canOpen : Opening → Bool
+canOpen o = isReplica (o .board)
+
 -- "Opening with board b: every epoch, leader epoch and joined is 1, every leader b, all members {b}, status normal, stage idle,
 -- lists empty, counts 0, heard lengths none."
-abbrev pub firstView : ℕ → View
-firstView b = record { epoch = 1; term = 1; leader = b; members = only b }
+abbrev pub firstView : Opening → View
+firstView o = record { epoch = 1; term = 1; leader = o .board; members = only (o .board) }
 
-abbrev pub opened : {E : Type 0} → ℕ → State E
-opened b = record {
-  registry = record { view = firstView b; status = normal };
-  controller = record { view = firstView b; stage = idle; heard = zeros; heardJoined = zeros };
-  view = λ x. cond (isReplica x) (firstView b) noView;
+abbrev pub opened : {E : Type 0} → Opening → State E
+opened o = record {
+  registry = record { view = firstView o; status = normal };
+  controller = record { view = firstView o; stage = idle; heard = zeros; heardJoined = zeros };
+  view = λ x. cond (isReplica x) (firstView o) noView;
   joined = λ x. cond (isReplica x) 1 0;
   acked = λ x. zeros;
   log = λ x. [];
@@ -133,5 +155,5 @@ opened b = record {
 }
 
 -- The opening's answer: 1 for a board outside 1 to 8.
-abbrev pub openAnswer : ℕ → ℕ
-openAnswer b = cond (isReplica b) 0 1
+abbrev pub openAnswer : Opening → ℕ
+openAnswer o = cond (canOpen o) 0 1

@@ -1,4 +1,5 @@
--- The fifteen steps of document 01: the checks in the order written, each with its refusal, and the state after acceptance.
+-- The fifteen steps of document 01, each under its number and the paper's words: the checks in the order written,
+-- each with its refusal, and the state after acceptance.
 -- Cited by Records, Runs and every step's contract. Assumes nothing.
 use mathlib.Core.Bool.{Bool, true, false, cond, not, _&&_, _||_}
 use mathlib.Core.List.{List, [], _∷_, _++_}
@@ -32,6 +33,30 @@ pub data Step : Type 0 where
   -- no step: a record that refusal 1 turns away
   malformed : Step
 
+-- Three steps write an entry: 1 and 8 into b's log, 2 into the receipts. No other writes one.
+pub data Writes : Type 0 where
+  appends : (b value : ℕ) → Writes
+  commits receives : (b : ℕ) → Writes
+  nothing : Writes
+
+abbrev pub writes : Step → Writes
+writes (append b value) = appends b value
+writes (commit b) = commits b
+writes (add b) = nothing
+writes (remove b) = nothing
+writes changeLeader = nothing
+writes (refresh b) = nothing
+writes (join b) = nothing
+writes (receive b) = receives b
+writes (acknowledge a b) = nothing
+writes refreshController = nothing
+writes readLeader = nothing
+writes (read b) = nothing
+writes setNormal = nothing
+writes (hear b) = nothing
+writes (install b) = nothing
+writes malformed = nothing
+
 -- "Raise adds 1 to the registry epoch, refused [7] at 4,000 as the last check."
 abbrev pub raise : Registry → Check
 raise r = ltb (r .view .epoch) 4000 else 7
@@ -49,7 +74,8 @@ heardEnough c x = leb 1 (c .heard x) && leb (c .heard (c .view .leader)) (c .hea
 -- "Installing ranks boards by joined epoch first, then length": x ranks above b.
 abbrev pub above : Controller → ℕ → ℕ → Bool
 above c b x =
-    ltb (c .heardJoined b) (c .heardJoined x) || (eqb (c .heardJoined b) (c .heardJoined x) && ltb (c .heard b) (c .heard x))
+    ltb (c .heardJoined b) (c .heardJoined x)
+    || (eqb (c .heardJoined b) (c .heardJoined x) && ltb (c .heard b) (c .heard x))
 
 -- Step 15: heard, not ranked above b.
 abbrev pub rankedNotAbove : Controller → ℕ → Members
@@ -60,14 +86,24 @@ rankedNotAbove c b x = leb 1 (c .heard x) && not (above c b x)
 -- Step 3.
 abbrev pub added : Registry → ℕ → Registry
 added r b = record {
-  view = record { epoch = suc (r .view .epoch); term = r .view .term; leader = r .view .leader; members = upd (r .view .members) b true };
+  view = record {
+    epoch = suc (r .view .epoch);
+    term = r .view .term;
+    leader = r .view .leader;
+    members = upd (r .view .members) b true;
+  };
   status = waiting;
 }
 
 -- Step 4.
 abbrev pub removed : Registry → ℕ → Registry
 removed r b = record {
-  view = record { epoch = suc (r .view .epoch); term = r .view .term; leader = r .view .leader; members = upd (r .view .members) b false };
+  view = record {
+    epoch = suc (r .view .epoch);
+    term = r .view .term;
+    leader = r .view .leader;
+    members = upd (r .view .members) b false;
+  };
   status = cond (eqb (size (upd (r .view .members) b false)) 1) normal waiting;
 }
 
@@ -88,7 +124,12 @@ vacated r left = record {
 -- Step 13.
 abbrev pub madeNormal : Registry → Registry
 madeNormal r = record {
-  view = record { epoch = suc (r .view .epoch); term = r .view .term; leader = r .view .leader; members = r .view .members };
+  view = record {
+    epoch = suc (r .view .epoch);
+    term = r .view .term;
+    leader = r .view .leader;
+    members = r .view .members;
+  };
   status = normal;
 }
 
@@ -150,72 +191,97 @@ module _ (m : Outline) where
   abbrev heardBelow : ℕ → Bool
   heardBelow b = ltb (controller .heard b) (suc (len b))
 
+  -- The checks of each step: first refusal 1 ("1 before a step's own checks"), then those of the paper.
   abbrev pub checks : Step → List Check
+  -- 1. Append b, value: "b's leader is b [8]; log under 512 [13]".
   checks (append b value) = (isReplica b else 1)
       ∷ (leads b else 8)
       ∷ (ltb (len b) 512 else 13) ∷ []
+  -- 2. Receipt by b: "b's leader is b [8]; b's log is longer than the receipts [12]; a majority of b's members have
+  -- counts in b above the receipts' length [14]".
   checks (commit b) = (isReplica b else 1)
       ∷ (leads b else 8)
       ∷ (ltb issued (len b) else 12)
       ∷ (hasQuorum (view b .members) (countedAbove (acked b) issued) else 14) ∷ []
+  -- 3. Add b: "not choosing [4]; not a member [5]; raise".
   checks (add b) = (isReplica b else 1)
       ∷ (not (isChoosing (registry .status)) else 4)
       ∷ (not (registry .view .members b) else 5)
       ∷ raise registry ∷ []
+  -- 4. Remove b: "not choosing [4]; a member [5]; not the leader [6]; raise".
   checks (remove b) = (isReplica b else 1)
       ∷ (not (isChoosing (registry .status)) else 4)
       ∷ (registry .view .members b else 5)
       ∷ (not (eqb b (registry .view .leader)) else 6)
       ∷ raise registry ∷ []
+  -- 5. Change leader: "normal [4]; two members or more [6]; raise".
   checks changeLeader =
       (isNormal (registry .status) else 4)
       ∷ (leb 2 (size (registry .view .members)) else 6)
       ∷ raise registry ∷ []
+  -- 6. Board b takes news: "its epoch is below the registry's [12]".
   checks (refresh b) = (isReplica b else 1)
       ∷ (ltb (view b .epoch) (registry .view .epoch) else 12) ∷ []
+  -- 7. Join b: "its leader is neither 0 nor b [9]; b is in its own members [5]; it and its leader have equal leader
+  -- epochs [10]; joined differs from its leader epoch [11]".
   checks (join b) = (isReplica b else 1)
       ∷ (follows b else 9)
       ∷ (view b .members b else 5)
       ∷ (sameTerm b (view b .leader) else 10)
       ∷ (not (hasJoined b) else 11) ∷ []
+  -- 8. Receive b: "as step 7 for [9]; b is in its own and its leader's members [5]; [10] as step 7; joined equals its
+  -- leader epoch [11]; its log is shorter than its leader's [12]".
   checks (receive b) = (isReplica b else 1)
       ∷ (follows b else 9)
       ∷ (view b .members b && view (view b .leader) .members b else 5)
       ∷ (sameTerm b (view b .leader) else 10)
       ∷ (hasJoined b else 11)
       ∷ (ltb (len b) (len (view b .leader)) else 12) ∷ []
+  -- 9. Leader a counts b: "a's leader is a [8]; b is in its own members [5]; equal leader epochs [10]; b's joined
+  -- equals its leader epoch [11]; a's count for b is below b's length [12]". 1 too for "a equal to b in step 9".
   checks (acknowledge a b) = (isReplica a && isReplica b && not (eqb a b) else 1)
       ∷ (leads a else 8)
       ∷ (view b .members b else 5)
       ∷ (sameTerm a b else 10)
       ∷ (hasJoined b else 11) ∷ (ltb (acked a b) (len b) else 12) ∷ []
+  -- 10. Controller takes news: "its epoch is below the registry's [12]".
   checks refreshController =
       (ltb (controller .view .epoch) (registry .view .epoch) else 12) ∷ []
+  -- 11. Controller reads leader: "stage leader [15]; that board's epoch equals the controller's [16]".
   checks readLeader =
       (atStage Stage.leader else 15)
       ∷ (eqb (view (controller .view .leader) .epoch) (controller .view .epoch) else 16) ∷ []
+  -- 12. Controller reads b: "stage boards [15]; b is not the controller's leader [6]; b is in the controller's
+  -- members [5]; b's joined equals the controller's leader epoch [11]; heard length below b's length [12]".
   checks (read b) = (isReplica b else 1)
       ∷ (atStage boards else 15)
       ∷ (not (eqb b (controller .view .leader)) else 6)
       ∷ (controller .view .members b else 5)
       ∷ (eqb (joined b) (controller .view .term) else 11)
       ∷ (heardBelow b else 12) ∷ []
+  -- 13. Set normal: "stage boards [15]; controller and registry epochs equal [16]; some majority of the controller's
+  -- members are each heard, at a length not below the leader's heard one [14]; raise".
   checks setNormal =
       (atStage boards else 15)
       ∷ (upToDate else 16)
       ∷ (hasQuorum (controller .view .members) (heardEnough controller) else 14)
       ∷ raise registry ∷ []
+  -- 14. Controller hears b: "stage choosing [15]; b is in the controller's members [5]; b's epoch equals the
+  -- controller's [16]; heard length below b's length [12]".
   checks (hear b) = (isReplica b else 1)
       ∷ (atStage Stage.choosing else 15)
       ∷ (controller .view .members b else 5)
       ∷ (eqb (view b .epoch) (controller .view .epoch) else 16)
       ∷ (heardBelow b else 12) ∷ []
+  -- 15. Install b: "as step 14 for [15] and [5]; controller and registry epochs equal [16]; some majority of the
+  -- controller's members contains b, all heard, none ranked above b [14]; raise".
   checks (install b) = (isReplica b else 1)
       ∷ (atStage Stage.choosing else 15)
       ∷ (controller .view .members b else 5)
       ∷ (upToDate else 16)
       ∷ (leb 1 (controller .heard b) && hasQuorum (controller .view .members) (rankedNotAbove controller b) else 14)
       ∷ raise registry ∷ []
+  -- No step.
   checks malformed = (false else 1) ∷ []
 
 -- "Checks are made in the order written": accepted, or refused with the number of the first that fails.
@@ -225,30 +291,43 @@ accepted m st = passes (checks m st)
 abbrev pub answerOf : Outline → Step → ℕ
 answerOf m st = firstFailed (checks m st)
 
+-- A state of these parts.
+abbrev stateOf : {E : Type 0} → Registry → Controller
+    → (ℕ → View) → (ℕ → ℕ) → (ℕ → ℕ → ℕ) → (ℕ → List E) → List E → State E
+stateOf registry controller view joined acked log committed = record {
+  registry = registry;
+  controller = controller;
+  view = view;
+  joined = joined;
+  acked = acked;
+  log = log;
+  committed = committed;
+}
+
 -- A state with one part changed.
 module _ {E : Type 0} (s : State E) where
   open State s using (registry, controller, view, joined, acked, log, committed)
 
   abbrev pub withRegistry : Registry → State E
-  withRegistry r = record { registry = r; controller = controller; view = view; joined = joined; acked = acked; log = log; committed = committed }
+  withRegistry r = stateOf r controller view joined acked log committed
 
   abbrev pub withController : Controller → State E
-  withController c = record { registry = registry; controller = c; view = view; joined = joined; acked = acked; log = log; committed = committed }
+  withController c = stateOf registry c view joined acked log committed
 
   abbrev pub withView : ℕ → View → State E
-  withView b v = record { registry = registry; controller = controller; view = upd view b v; joined = joined; acked = acked; log = log; committed = committed }
+  withView b v = stateOf registry controller (upd view b v) joined acked log committed
 
   abbrev pub withJoined : ℕ → ℕ → State E
-  withJoined b j = record { registry = registry; controller = controller; view = view; joined = upd joined b j; acked = acked; log = log; committed = committed }
+  withJoined b j = stateOf registry controller view (upd joined b j) acked log committed
 
   abbrev pub withAcked : ℕ → (ℕ → ℕ) → State E
-  withAcked b n = record { registry = registry; controller = controller; view = view; joined = joined; acked = upd acked b n; log = log; committed = committed }
+  withAcked b n = stateOf registry controller view joined (upd acked b n) log committed
 
   abbrev pub withLog : ℕ → List E → State E
-  withLog b l = record { registry = registry; controller = controller; view = view; joined = joined; acked = acked; log = upd log b l; committed = committed }
+  withLog b l = stateOf registry controller view joined acked (upd log b l) committed
 
   abbrev pub withCommitted : List E → State E
-  withCommitted l = record { registry = registry; controller = controller; view = view; joined = joined; acked = acked; log = log; committed = l }
+  withCommitted l = stateOf registry controller view joined acked log l
 
 module _ (𝓔 : Entries) where
   open Entries 𝓔 using (Entry, make, same)
@@ -262,35 +341,58 @@ module _ (𝓔 : Entries) where
 
     -- The state after an accepted step.
     abbrev pub next : Step → State Entry
+    -- 1. "The value is added; b's count for itself becomes the length."
     next (append b value) =
         withAcked (withLog s b (log b ++ (make value (view b .term) ∷ []))) b (upd (acked b) b (suc (length (log b))))
+    -- 2. "The next entry of b's log joins the receipts."
     next (commit b) = withCommitted s (committed ++ (entryAt b (length committed) ∷ []))
+    -- 3. "Status waiting." (`added`)
     next (add b) = withRegistry s (added registry b)
+    -- 4. "Status normal if exactly one member is left, else waiting." (`removed`)
     next (remove b) = withRegistry s (removed registry b)
+    -- 5. "The leader leaves the members. If exactly one is left it becomes leader, the leader epoch becomes the new
+    -- epoch, status stays normal. Otherwise leader 0, status choosing, leader epoch kept." (`succeeded`, `vacated`)
     next changeLeader =
         let left = upd (registry .view .members) (registry .view .leader) false in
         withRegistry s (cond (eqb (size left) 1) (succeeded registry left) (vacated registry left))
+    -- 6. "It copies epoch, leader epoch, leader and members. If its leader epoch changed, its counts become 0, its
+    -- own count its log's length, and if it is the leader, joined becomes the new leader epoch."
     next (refresh b) =
         let changed = not (eqb (view b .term) (registry .view .term)) in
         withAcked
-        (withJoined (withView s b (registry .view)) b (cond (changed && eqb (registry .view .leader) b) (registry .view .term) (joined b)))
+        (withJoined (withView s b (registry .view)) b
+        (cond (changed && eqb (registry .view .leader) b) (registry .view .term) (joined b)))
         b (cond changed (upd zeros b (length (log b))) (acked b))
+    -- 7. "Its log is cut to the longest beginning shared with the leader's; joined becomes its leader epoch."
     next (join b) = withJoined (withLog s b (shared same (log b) (log (view b .leader)))) b (view b .term)
+    -- 8. "It takes the leader's next entry."
     next (receive b) = withLog s b (log b ++ (entryAt (view b .leader) (length (log b)) ∷ []))
+    -- 9. "The count becomes that length."
     next (acknowledge a b) = withAcked s a (upd (acked a) b (length (log b)))
+    -- 10. "It copies the registry; heard lengths become none; stage is idle, leader or choosing for normal, waiting or
+    -- choosing."
     next refreshController = withController s (deaf (registry .view) (stageFor (registry .status)))
+    -- 11. "Its length is heard; stage boards."
     next readLeader =
-        withController s (heardOf controller boards (controller .view .leader) (length (log (controller .view .leader))) 0)
+        let b = controller .view .leader in
+        withController s (heardOf controller boards b (length (log b)) 0)
+    -- 12. "The length is heard."
     next (read b) = withController s (heardOf controller (controller .stage) b (length (log b)) 0)
+    -- 13. "Status normal, stage idle, heard lengths none, controller epoch the new one."
     next setNormal =
         let v = controller .view in
+        let e = suc (registry .view .epoch) in
         withController (withRegistry s (madeNormal registry))
-        (deaf (record { epoch = suc (registry .view .epoch); term = v .term; leader = v .leader; members = v .members }) idle)
+        (deaf (record { epoch = e; term = v .term; leader = v .leader; members = v .members }) idle)
+    -- 14. "Length and joined are heard."
     next (hear b) = withController s (heardOf controller (controller .stage) b (length (log b)) (joined b))
+    -- 15. "Leader b, leader epoch the new epoch, status waiting; the controller has the same epoch, leader and leader
+    -- epoch, stage leader, heard lengths none."
     next (install b) =
         let e = suc (registry .view .epoch) in
         withController (withRegistry s (installed registry b))
         (deaf (record { epoch = e; term = e; leader = b; members = controller .view .members }) Stage.leader)
+    -- No step.
     next malformed = s
 
     -- "A refused step returns its number, row, store and receipts untouched."

@@ -1,27 +1,14 @@
--- The trials of document 01 marked P as one table, and the other three. What P2 says of a sheet stands in the crate `sheet`. Cited by the promise of `trials`. Assumes nothing.
+-- The trials of document 01 marked P as one table, and the others. What P2 says of a sheet stands in the crate `sheet`. Cited by the promise of `trials`. Assumes nothing.
 use mathlib.Core.Bool.{Bool, true, false, cond, _&&_}
 use mathlib.Core.List.{List, [], _∷_, _++_}
 use mathlib.Core.Path.{_≡_}
 use Prim.Native.Nat.{ℕ, zero, suc}
 use lib.Dec.{T, eqb}
 use lib.ListN.{length, replicate}
-use Rattle.model.specs.Members.{isReplica, size, quorum}
-use Rattle.model.specs.State.{values, State, opened, openAnswer, isNormal}
-use Rattle.model.specs.Records.{Record}
-use Rattle.model.specs.Runs.{run, answers}
-
--- Records, by the number of their step: of no board, of a board, of two boards, of a board and a value.
-abbrev pub step : ℕ → Record
-step n = record { step = n; board = 0; other = 0; spare = 0; value = 0 }
-
-abbrev pub of : ℕ → ℕ → Record
-of n b = record { step = n; board = b; other = 0; spare = 0; value = 0 }
-
-abbrev pub ofBoth : ℕ → ℕ → ℕ → Record
-ofBoth n a b = record { step = n; board = a; other = b; spare = 0; value = 0 }
-
-abbrev pub ofValue : ℕ → ℕ → ℕ → Record
-ofValue n b v = record { step = n; board = b; other = 0; spare = 0; value = v }
+use Rattle.model.specs.Members.{size, quorum}
+use Rattle.model.specs.State.{entries, RowState, openingWith, canOpen, opened, openAnswer, isNormal}
+use Rattle.model.specs.Records.{Record, bare, of, ofBoth, ofValue}
+use Rattle.model.specs.Runs.{stepsOf, run, answers}
 
 abbrev pub sameList : List ℕ → List ℕ → Bool
 sameList [] [] = true
@@ -36,13 +23,15 @@ pub data Trial : Type 0 where
   -- the opening call's answer
   opening : (b answer : ℕ) → Trial
   -- opened with b: the records, their answers, and what is seen of the state then
-  running : (b : ℕ) → List Record → List ℕ → (State ℕ → Bool) → Trial
+  running : (b : ℕ) → List Record → List ℕ → (RowState → Bool) → Trial
 
 unfoldable pub holds : Trial → Bool
 unfolding run answers
 holds (majority n is) = eqb (quorum n) is
-holds (opening b answer) = eqb (openAnswer b) answer
-holds (running b rs ns seen) = isReplica b && sameList (answers values (opened b) rs) ns && seen (run values (opened b) rs)
+holds (opening b answer) = eqb (openAnswer (openingWith b)) answer
+holds (running b rs ns seen) =
+    let o = openingWith b in
+    canOpen o && sameList (answers entries (opened o) (stepsOf rs)) ns && seen (run entries (opened o) (stepsOf rs))
 
 unfoldable pub allHold : List Trial → Bool
 unfolding holds
@@ -50,25 +39,25 @@ allHold [] = true
 allHold (t ∷ ts) = holds t && allHold ts
 
 -- Nothing is said of the state.
-abbrev unseen : State ℕ → Bool
+abbrev unseen : RowState → Bool
 unseen s = true
 
 -- P7's records, which P8 and P9 go on from: add 2; change; read leader; controller news; read leader; board 1 news; read leader.
 abbrev p7 : List Record
-p7 = of 3 2 ∷ step 5 ∷ step 11 ∷ step 10 ∷ step 11 ∷ of 6 1 ∷ step 11 ∷ []
+p7 = of 3 2 ∷ bare 5 ∷ bare 11 ∷ bare 10 ∷ bare 11 ∷ of 6 1 ∷ bare 11 ∷ []
 
 abbrev p7answers : List ℕ
 p7answers = 0 ∷ 4 ∷ 15 ∷ 0 ∷ 16 ∷ 0 ∷ 0 ∷ []
 
 -- P8: set normal; read 2; set normal.
 abbrev p8 : List Record
-p8 = p7 ++ (step 13 ∷ of 12 2 ∷ step 13 ∷ [])
+p8 = p7 ++ (bare 13 ∷ of 12 2 ∷ bare 13 ∷ [])
 
 abbrev p8answers : List ℕ
 p8answers = p7answers ++ (14 ∷ 0 ∷ 0 ∷ [])
 
 -- "leader 2, members 2, epoch and leader epoch 4, normal"
-abbrev p9seen : State ℕ → Bool
+abbrev p9seen : RowState → Bool
 p9seen s =
     eqb (s .registry .view .leader) 2 && eqb (size (s .registry .view .members)) 1 && s .registry .view .members 2
     && eqb (s .registry .view .epoch) 4 && eqb (s .registry .view .term) 4 && isNormal (s .registry .status)
@@ -84,7 +73,7 @@ table =
     -- P4: append on 2
     ∷ running 1 (ofValue 1 2 41 ∷ []) (8 ∷ []) unseen
     -- P5: change; remove 1; remove 2
-    ∷ running 1 (step 5 ∷ of 4 1 ∷ of 4 2 ∷ []) (6 ∷ 6 ∷ 5 ∷ []) unseen
+    ∷ running 1 (bare 5 ∷ of 4 1 ∷ of 4 2 ∷ []) (6 ∷ 6 ∷ 5 ∷ []) unseen
     -- P6: add 2 twice
     ∷ running 1 (of 3 2 ∷ of 3 2 ∷ []) (0 ∷ 5 ∷ []) unseen
     -- P7
@@ -92,7 +81,7 @@ table =
     -- P8: "epoch 3"
     ∷ running 1 p8 p8answers (λ s. eqb (s .registry .view .epoch) 3)
     -- P9: change
-    ∷ running 1 (p8 ++ (step 5 ∷ [])) (p8answers ++ (0 ∷ [])) p9seen
+    ∷ running 1 (p8 ++ (bare 5 ∷ [])) (p8answers ++ (0 ∷ [])) p9seen
     ∷ []
 
 -- "Append 512 accepted, 513 gives 13."
@@ -111,10 +100,10 @@ worn = running 1 (inTurn 2000 (of 3 2) (of 4 2)) (replicate 3999 0 ++ (7 ∷ [])
 -- "Members 1 to 4, leader 1, normal, news taken, logs empty."
 abbrev fourReady : List Record
 fourReady =
-    of 3 2 ∷ of 3 3 ∷ of 3 4 ∷ step 10 ∷ of 6 1 ∷ step 11 ∷ of 12 2 ∷ of 12 3 ∷ step 13
+    of 3 2 ∷ of 3 3 ∷ of 3 4 ∷ bare 10 ∷ of 6 1 ∷ bare 11 ∷ of 12 2 ∷ of 12 3 ∷ bare 13
     ∷ of 6 1 ∷ of 6 2 ∷ of 6 3 ∷ of 6 4 ∷ []
 
-abbrev inFour : State ℕ → Bool
+abbrev inFour : RowState → Bool
 inFour s =
     news 1 && news 2 && news 3 && news 4 && eqb (s .registry .view .leader) 1 && isNormal (s .registry .status)
     && eqb (size (s .registry .view .members)) 4 && s .registry .view .members 1 && s .registry .view .members 2 && s .registry .view .members 3 && s .registry .view .members 4
@@ -126,13 +115,35 @@ inFour s =
 -- appends 42. Board 4 takes news; 2 counting 4 gives 11; 4 joins and its log is empty."
 abbrev four : Trial
 four = running 1
-    (fourReady ++ (ofValue 1 1 41 ∷ of 8 4 ∷ step 5 ∷ of 6 2 ∷ of 6 3 ∷ step 10 ∷ of 14 2 ∷ of 14 3 ∷ of 15 2 ∷ of 6 2 ∷ ofValue 1 2 42
+    (fourReady ++ (ofValue 1 1 41 ∷ of 8 4 ∷ bare 5 ∷ of 6 2 ∷ of 6 3 ∷ bare 10 ∷ of 14 2 ∷ of 14 3 ∷ of 15 2 ∷ of 6 2 ∷ ofValue 1 2 42
     ∷ of 6 4 ∷ ofBoth 9 2 4 ∷ of 7 4 ∷ []))
     (replicate 25 0 ++ (11 ∷ 0 ∷ []))
     (λ s. eqb (length (s .log 4)) 0)
 
+-- No trial of document 01, but its rules worked out by hand: every answer of steps 7 and 8.
+abbrev follower : Trial
+follower = running 1
+    -- 1 leads: 9; 2 is not in its own members: 5
+    (of 7 1 ∷ of 8 1 ∷ of 7 2 ∷ of 8 2
+    -- add 2; news for 2: not in its leader's members, 5, and joined already, 11; news for 1: nothing to receive, 12
+    ∷ of 3 2 ∷ of 6 2 ∷ of 8 2 ∷ of 7 2 ∷ of 6 1 ∷ of 8 2
+    -- 1 appends, 2 receives; the row is set normal; 2 succeeds 1
+    ∷ ofValue 1 1 41 ∷ of 8 2 ∷ bare 10 ∷ bare 11 ∷ of 12 2 ∷ bare 13 ∷ bare 5
+    -- add 1; news for 1: its leader is behind, 10; news for 2: not joined yet, 11; joins; joined already, 11;
+    -- nothing to receive, 12
+    ∷ of 3 1 ∷ of 6 1 ∷ of 7 1 ∷ of 8 1 ∷ of 6 2 ∷ of 8 1 ∷ of 7 1 ∷ of 7 1 ∷ of 8 1 ∷ [])
+    (9 ∷ 9 ∷ 5 ∷ 5
+    ∷ 0 ∷ 0 ∷ 5 ∷ 11 ∷ 0 ∷ 12
+    ∷ 0 ∷ 0 ∷ 0 ∷ 0 ∷ 0 ∷ 0 ∷ 0
+    ∷ 0 ∷ 0 ∷ 10 ∷ 10 ∷ 0 ∷ 11 ∷ 0 ∷ 11 ∷ 12 ∷ [])
+    (λ s. eqb (s .joined 1) 4 && eqb (length (s .log 1)) 1)
+
+-- While no leader is named there is none to follow: change; 2 takes news, joins, receives.
+abbrev leaderless : Trial
+leaderless = running 1 (fourReady ++ (bare 5 ∷ of 6 2 ∷ of 7 2 ∷ of 8 2 ∷ [])) (replicate 15 0 ++ (9 ∷ 9 ∷ [])) unseen
+
 abbrev pub others : List Trial
-others = full ∷ worn ∷ running 1 fourReady (replicate 13 0) inFour ∷ four ∷ []
+others = full ∷ worn ∷ running 1 fourReady (replicate 13 0) inFour ∷ four ∷ follower ∷ leaderless ∷ []
 
 -- The P trials: one table, one statement.
 unfoldable pub TrialsHold : Type 0

@@ -1,5 +1,7 @@
 ghost use Rattle.model.specs.Claim.{DemandThree};
+ghost use Rattle.model.specs.Majority.{Majorities};
 ghost use Rattle.model.specs.Ranges.{RunsInRange};
+ghost use Rattle.model.specs.Records.{Forms};
 ghost use Rattle.model.specs.Trials.{TrialsHold, OthersHold};
 
 // Demand 3, for every opening and every list of records. Nothing to run: the promise is the statement.
@@ -7,9 +9,19 @@ pub fn claim()
     ensures { λ r. ⌜ DemandThree ⌝ }
 {}
 
+// Steps 2, 13 and 15 ask for "some majority" as document 01 says it: none answers "no majority" where one exists.
+pub fn majorities()
+    ensures { λ r. ⌜ Majorities ⌝ }
+{}
+
 // No state of a run is one that refusal 1 would turn away.
 pub fn ranges()
     ensures { λ r. ⌜ RunsInRange ⌝ }
+{}
+
+// A record is well formed just where no row answers 1 to it; an opening, where it is a valid one.
+pub fn records()
+    ensures { λ r. ⌜ Forms ⌝ }
 {}
 
 // The trials of document 01 hold of the definitions: P1 to P9, and the three longer ones.

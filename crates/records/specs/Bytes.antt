@@ -4,9 +4,10 @@ use mathlib.Core.List.{List, [], _∷_}
 use Prim.Native.Nat.{ℕ, zero, suc, _+_, _*_, _/_, _%_}
 use lib.Dec.{eqb, leb}
 use lib.ListN.{length, getD, drop}
-use Rattle.model.specs.Members.{isReplica}
 use Rattle.model.specs.Records.{Record}
 use Rattle.text.specs.Text.{Text}
+-- The model's test of a valid opening, under a name of this file too.
+pub use Rattle.model.specs.Records.{isOpening}
 
 -- Four bytes as a number, the low byte first.
 abbrev pub number : ℕ → ℕ → ℕ → ℕ → ℕ
@@ -30,10 +31,6 @@ records (suc n) s = recordAt s ∷ records n (drop 8 s)
 -- "A sheet has 1 to 4,095 records": whether n bytes are so many.
 abbrev pub wholeRecords : ℕ → Bool
 wholeRecords n = eqb (n % 8) 0 && leb 1 (n / 8) && leb (n / 8) 4095
-
--- "Step 0, opening, stands first", with its unused fields zero.
-abbrev pub isOpening : Record → Bool
-isOpening r = eqb (r .step) 0 && isReplica (r .board) && eqb (r .other) 0 && eqb (r .spare) 0 && eqb (r .value) 0
 
 -- A sheet that refusal 2 lets through.
 abbrev pub isSheet : Text → Bool

@@ -16,7 +16,7 @@ use mir.Syntax.{w16}
 use Rattle.model.specs.Prelude.{upd}
 use Rattle.model.specs.Members.{isReplica}
 use Rattle.model.specs.State as M
-use Rattle.model.specs.State.{State, Outline, outline, values}
+use Rattle.model.specs.State.{outline, entries}
 use Rattle.model.specs.Steps.{Step, countedAbove, accepted, answerOf, next, step}
 use Rattle.model.proofs.Tests.{at-or, by-test, by-cond, eqb-same, upd-same, upd-other, le-or-lt, split-and, is-true, is-false, of-true}
 use Rattle.model.proofs.Quorum.{replica-range}
@@ -29,28 +29,28 @@ use Rattle.cluster.specs.declared.Cluster.{Cluster}
 use Rattle.cluster.specs.declared.Outcome.{Outcome}
 use Rattle.cluster.specs.Layout.{at, atPair, outlineOf}
 use Rattle.cluster.proofs.Laws.{at-index, at-set}
-use Rattle.refinement.specs.Memory.{abs, Ready, storeAfter, listAfter, Turns}
+use Rattle.refinement.specs.Memory.{Places, Full, abs, Short, placesAfter, Turns}
 
 -- A list of eight by a number that is no replica.
 pub at-none : {A : Type 0} (d : A) (xs : List A) (b : ℕ) → length xs ≡ 8 → 8 < b → at d xs b ≡ d
 at-none d xs b e h = List·getD-eq-default (d ∷ xs) d {n = b} (omega arith)
 
 -- The lengths of the logs are the row's.
-module _ (store : List ℕ) (full : length store ≡ 4096) (len : List ℕ) (eight : length len ≡ 8) (short : (b : ℕ) → at 0 len b ≤ 512) where
+module _ (store : List ℕ) (full : length store ≡ 4096) (len : List ℕ) (short : Short len) where
   pub log-len : (b : ℕ) → length (logOf store b (at 0 len b)) ≡ at 0 len b
   log-len zero = refl
   log-len (suc b) = go (le-or-lt (suc b) 8)
     where
       go : (suc b ≤ 8) ⊎ (8 < suc b) → length (logOf store (suc b) (at 0 len (suc b))) ≡ at 0 len (suc b)
-      go (inl h) = log-length store full (suc b) (omega arith) h (at 0 len (suc b)) (short (suc b))
-      go (inr h) = rw (at-none 0 len (suc b) eight h)
+      go (inl h) = log-length store full (suc b) (omega arith) h (at 0 len (suc b)) (short .most (suc b))
+      go (inr h) = rw (at-none 0 len (suc b) (short .eight) h)
 
-module _ (row : Cluster) (eight : length (row .len) ≡ 8) (short : (b : ℕ) → at 0 (row .len) b ≤ 512) (few : row .issued ≤ 512)
-    (store list : List ℕ) (full : length store ≡ 4096) (long : length list ≡ 512) where
-  pub outline-abs : outline (abs row store list) ≡ outlineOf row
+module _ (row : Cluster) (short : Short (row .len)) (few : row .issued ≤ 512) (p : Places) (full : Full p) where
+  pub outline-abs : outline (abs row p) ≡ outlineOf row
   outline-abs =
-      let c : length (take (row .issued) list) ≡ row .issued = length-take-le (row .issued) list (omega arith) in
-      let l = fun-ext (log-len store full (row .len) eight short) in
+      let c : length (take (row .issued) (p .list)) ≡ row .issued =
+      length-take-le (row .issued) (p .list) (omega (arith, full .list)) in
+      let l = fun-ext (log-len (p .store) (full .store) (row .len) short) in
       λ i. record {
         registry = outlineOf row .registry;
         controller = outlineOf row .controller;
@@ -62,37 +62,34 @@ module _ (row : Cluster) (eight : length (row .len) ≡ 8) (short : (b : ℕ) �
       }
 
   -- A refused step leaves everything.
-  pub turns-refused : (st : Step) (n : ℕ) → n ≡ answerOf (outlineOf row) st → n ≢ 0 → Turns st row store list (record { answer = n; row = row }) store list
+  pub turns-refused : (st : Step) (n : ℕ) → n ≡ answerOf (outlineOf row) st → n ≢ 0
+      → Turns st row p (record { answer = n; row = row }) p
   turns-refused st n e h =
       let t = nonzero-refused (outlineOf row) st (λ z. h (e ∙ z)) in
-      let u : accepted (outline (abs row store list)) st ≡ false = ap (λ m. accepted m st) outline-abs ∙ t in
+      let u : accepted (outline (abs row p)) st ≡ false = ap (λ m. accepted m st) outline-abs ∙ t in
       record {
         answer = e;
-        state = ap (λ x. cond x (next values (abs row store list) st) (abs row store list)) (sym u);
-        eight = eight;
-        len = short;
+        state = ap (λ x. cond x (next entries (abs row p) st) (abs row p)) (sym u);
+        short = short;
         issued = few;
-        stored = ap (λ x. cond x (storeAfter st row store) store) (sym t);
-        listed = ap (λ x. cond x (listAfter st row store list) list) (sym t);
+        places = ap (λ x. cond x (placesAfter st row p) p) (sym t);
         refused = λ _. refl;
       }
 
   -- An accepted one leaves what the model's does, if it writes what it is to write.
-  pub turns-accepted : (st : Step) (n : ℕ) (row′ : Cluster) (store′ list′ : List ℕ) → n ≡ answerOf (outlineOf row) st → n ≡ 0
-      → (accepted (outlineOf row) st ≡ true → abs row′ store′ list′ ≡ next values (abs row store list) st)
-      → length (row′ .len) ≡ 8 → ((b : ℕ) → at 0 (row′ .len) b ≤ 512) → row′ .issued ≤ 512 → store′ ≡ storeAfter st row store → list′ ≡ listAfter st row store list
-      → Turns st row store list (record { answer = 0; row = row′ }) store′ list′
-  turns-accepted st n row′ store′ list′ e z f eight′ short′ few′ s l =
+  pub turns-accepted : (st : Step) (n : ℕ) (row′ : Cluster) (p′ : Places) → n ≡ answerOf (outlineOf row) st → n ≡ 0
+      → (accepted (outlineOf row) st ≡ true → abs row′ p′ ≡ next entries (abs row p) st)
+      → Short (row′ .len) → row′ .issued ≤ 512 → p′ ≡ placesAfter st row p
+      → Turns st row p (record { answer = 0; row = row′ }) p′
+  turns-accepted st n row′ p′ e z f short′ few′ w =
       let t = zero-accepted (outlineOf row) st (sym e ∙ z) in
-      let u : accepted (outline (abs row store list)) st ≡ true = ap (λ m. accepted m st) outline-abs ∙ t in
+      let u : accepted (outline (abs row p)) st ≡ true = ap (λ m. accepted m st) outline-abs ∙ t in
       record {
         answer = sym z ∙ e;
-        state = f t ∙ ap (λ x. cond x (next values (abs row store list) st) (abs row store list)) (sym u);
-        eight = eight′;
-        len = short′;
+        state = f t ∙ ap (λ x. cond x (next entries (abs row p) st) (abs row p)) (sym u);
+        short = short′;
         issued = few′;
-        stored = s ∙ ap (λ x. cond x (storeAfter st row store) store) (sym t);
-        listed = l ∙ ap (λ x. cond x (listAfter st row store list) list) (sym t);
+        places = w ∙ ap (λ x. cond x (placesAfter st row p) p) (sym t);
         refused = λ h. absurd (h refl);
       }
 
@@ -103,8 +100,8 @@ set-idle d (x ∷ xs) zero = refl
 set-idle d (x ∷ xs) (suc i) = ap (λ ys. x ∷ ys) (set-idle d xs i)
 
 -- The length at the place of a replica.
-pub short-at : (len : List ℕ) (k : ℕ) → ((b : ℕ) → at 0 len b ≤ 512) → 1 ≤ k → getD len (k - 1) 0 ≤ 512
-short-at len k short h = subst (λ m. m ≤ 512) (at-index 0 len k h) (short k)
+pub short-at : (len : List ℕ) (k : ℕ) → Short len → 1 ≤ k → getD len (k - 1) 0 ≤ 512
+short-at len k short h = subst (λ m. m ≤ 512) (at-index 0 len k h) (short .most k)
 
 -- What stands at the place of b.
 pub at-seat : {A : Type 0} (d : A) (xs : List A) (b k : ℕ) → (isReplica b ≡ true → k ≡ b) → T (isReplica b) → getD xs (k - 1) d ≡ at d xs b
@@ -115,15 +112,19 @@ pub fits-next : {n : ℕ} → n < 512 → Fits w16 (n + 1)
 fits-next h = record { fits = omega arith }
 
 -- The lengths after one of them becomes n.
-module _ (len : List ℕ) (eight : length len ≡ 8) (short : (b : ℕ) → at 0 len b ≤ 512) (k n : ℕ) (low : 1 ≤ k) (high : k ≤ 8) where
+module _ (len : List ℕ) (short : Short len) (k n : ℕ) (low : 1 ≤ k) (high : k ≤ 8) where
   pub len-set : (x : ℕ) → at 0 (set len (k - 1) n) x ≡ upd (at 0 len) k n x
-  len-set x = ap (λ f. f x) (at-set 0 len k n low high eight)
+  len-set x = ap (λ f. f x) (at-set 0 len k n low high (short .eight))
 
-  pub len-short : n ≤ 512 → (x : ℕ) → at 0 (set len (k - 1) n) x ≤ 512
-  len-short h x = subst (λ m. m ≤ 512) (sym (len-set x)) (by-cond (λ m. m ≤ 512) (eqb x k) (λ _. h) (λ _. short x))
+  pub len-short : n ≤ 512 → Short (set len (k - 1) n)
+  len-short h = record {
+    eight = length-set len (k - 1) n ∙ short .eight;
+    most = λ x. subst (λ m. m ≤ 512) (sym (len-set x)) (by-cond (λ m. m ≤ 512) (eqb x k) (λ _. h) (λ _. short .most x));
+  }
 
   -- The log of k alone changes, if the others' places hold what they did.
-  pub logs-set : (store store′ : List ℕ) → ((x : ℕ) → 1 ≤ x → x ≢ k → logOf store′ x (at 0 len x) ≡ logOf store x (at 0 len x))
+  pub logs-set : (store store′ : List ℕ)
+      → ((x : ℕ) → 1 ≤ x → x ≢ k → logOf store′ x (at 0 len x) ≡ logOf store x (at 0 len x))
       → (λ x. logOf store′ x (at 0 (set len (k - 1) n) x)) ≡ upd (λ x. logOf store x (at 0 len x)) k (logOf store′ k n)
   logs-set store store′ others = fun-ext (at-or k
       (rw (eqb-same k) (ap (logOf store′ k) (len-set k ∙ upd-same (at 0 len) k n)))
@@ -134,11 +135,13 @@ module _ (len : List ℕ) (eight : length len ≡ 8) (short : (b : ℕ) → at 0
       other (suc x) m = others (suc x) (omega arith) m
 
 -- A log of n entries that gets v at its end.
-pub logs-grow : (len : List ℕ) (eight : length len ≡ 8) (short : (b : ℕ) → at 0 len b ≤ 512) (store : List ℕ) → length store ≡ 4096 → (k v : ℕ) → 1 ≤ k → k ≤ 8 → at 0 len k < 512
-    → (λ x. logOf (set store (place k (at 0 len k)) v) x (at 0 (set len (k - 1) (at 0 len k + 1)) x)) ≡ upd (λ x. logOf store x (at 0 len x)) k (logOf store k (at 0 len k) ++ (v ∷ []))
-logs-grow len eight short store full k v low high room =
-    logs-set len eight short k (at 0 len k + 1) low high store (set store (place k (at 0 len k)) v)
-    (λ x h m. log-other store k x (at 0 len k) (at 0 len x) v low h m room (short x))
+pub logs-grow : (len : List ℕ) (short : Short len) (store : List ℕ) → length store ≡ 4096
+    → (k v : ℕ) → 1 ≤ k → k ≤ 8 → at 0 len k < 512
+    → (λ x. logOf (set store (place k (at 0 len k)) v) x (at 0 (set len (k - 1) (at 0 len k + 1)) x))
+    ≡ upd (λ x. logOf store x (at 0 len x)) k (logOf store k (at 0 len k) ++ (v ∷ []))
+logs-grow len short store full k v low high room =
+    logs-set len short k (at 0 len k + 1) low high store (set store (place k (at 0 len k)) v)
+    (λ x h m. log-other store k x (at 0 len k) (at 0 len x) v low h m room (short .most x))
     ∙ ap (upd (λ x. logOf store x (at 0 len x)) k) (log-gains store full k low high (at 0 len k) v room)
 
 -- Counts, eight by eight in one list: a write is the model's update.

@@ -6,8 +6,8 @@ use mathlib.Core.Logic.{_≢_}
 use mathlib.Core.Path.{_≡_}
 use Prim.Native.Nat.{ℕ, _≤_}
 use lib.ListN.{length, take, getD, set}
-use Rattle.model.specs.State.{State, values}
-use Rattle.model.specs.Steps.{Step, append, commit, add, remove, changeLeader, refresh, join, receive, acknowledge, refreshController, readLeader, read, setNormal, hear, install, malformed, accepted, answerOf, step}
+use Rattle.model.specs.State.{RowState, entries}
+use Rattle.model.specs.Steps.{Step, Writes, appends, commits, receives, nothing, writes, accepted, answerOf, step}
 use Rattle.logstore.specs.Log.{place, logOf}
 use Rattle.cluster.specs.declared.View.{View}
 use Rattle.cluster.specs.declared.Registry.{Registry}
@@ -18,16 +18,29 @@ use Rattle.cluster.specs.declared.Settled.{Settled}
 use Rattle.cluster.specs.Layout.{registryOf, controllerOf, viewOf, at, atPair, noView, outlineOf}
 pub use Rattle.cluster.specs.Stages.{HasLeader}
 
--- The state that a row, the log store and the committed list stand for.
-abbrev pub abs : Cluster → List ℕ → List ℕ → State ℕ
-abs row store list = record {
+-- The lent places of a call: the log store and the committed list (document 01: the receipts).
+pub record Places : Type 0 where
+  pub store : List ℕ
+  pub list : List ℕ
+
+abbrev pub lent : List ℕ → List ℕ → Places
+lent store list = record { store = store; list = list }
+
+-- Places of their lengths: "The log store is 4,096 numbers", "Receipts: at most 512".
+pub record Full (p : Places) : Type 0 where
+  pub store : length (p .store) ≡ 4096
+  pub list : length (p .list) ≡ 512
+
+-- The state that a row and the lent places stand for.
+abbrev pub abs : Cluster → Places → RowState
+abs row p = record {
   registry = registryOf (row .registry);
   controller = controllerOf (row .controller);
   view = λ b. viewOf (at noView (row .views) b);
   joined = at 0 (row .joined);
   acked = atPair (row .acked);
-  log = λ b. logOf store b (at 0 (row .len) b);
-  committed = take (row .issued) list;
+  log = λ b. logOf (p .store) b (at 0 (row .len) b);
+  committed = take (row .issued) (p .list);
 }
 
 -- The row of these parts.
@@ -53,66 +66,38 @@ pub record Shape (row : Cluster) : Type 0 where
 -- What the steps rely on in a row that refusal 1 lets through.
 pub record Ready (row : Cluster) : Type 0 where
   pub shape : Shape row
-  pub len : (b : ℕ) → at 0 (row .len) b ≤ 512
+  pub short : Short (row .len)
   pub issued : row .issued ≤ 512
   pub leaders : Led (row .views)
   pub reads : HasLeader (row .controller)
 
--- The store after an accepted step: append and receive write one place, the end of b's log.
-abbrev pub storeAfter : Step → Cluster → List ℕ → List ℕ
-storeAfter (append b value) row store = set store (place b (at 0 (row .len) b)) value
-storeAfter (commit b) row store = store
-storeAfter (add b) row store = store
-storeAfter (remove b) row store = store
-storeAfter changeLeader row store = store
-storeAfter (refresh b) row store = store
-storeAfter (join b) row store = store
-storeAfter (receive b) row store =
-    set store (place b (at 0 (row .len) b)) (getD store (place (at noView (row .views) b .leader) (at 0 (row .len) b)) 0)
-storeAfter (acknowledge a b) row store = store
-storeAfter refreshController row store = store
-storeAfter readLeader row store = store
-storeAfter (read b) row store = store
-storeAfter setNormal row store = store
-storeAfter (hear b) row store = store
-storeAfter (install b) row store = store
-storeAfter malformed row store = store
+-- The places after an accepted step. Append (1) and receive (8) write one place, the end of b's log; commit (2) writes the end of the
+-- receipts; no other step writes a place.
+abbrev pub written : Writes → Cluster → Places → Places
+written (appends b value) row p = lent (set (p .store) (place b (at 0 (row .len) b)) value) (p .list)
+written (commits b) row p = lent (p .store) (set (p .list) (row .issued) (getD (p .store) (place b (row .issued)) 0))
+written (receives b) row p = let n = at 0 (row .len) b in
+    lent (set (p .store) (place b n) (getD (p .store) (place (at noView (row .views) b .leader) n) 0)) (p .list)
+written nothing row p = p
 
--- The committed list after an accepted step: commit writes one place, its end.
-abbrev pub listAfter : Step → Cluster → List ℕ → List ℕ → List ℕ
-listAfter (append b value) row store list = list
-listAfter (commit b) row store list = set list (row .issued) (getD store (place b (row .issued)) 0)
-listAfter (add b) row store list = list
-listAfter (remove b) row store list = list
-listAfter changeLeader row store list = list
-listAfter (refresh b) row store list = list
-listAfter (join b) row store list = list
-listAfter (receive b) row store list = list
-listAfter (acknowledge a b) row store list = list
-listAfter refreshController row store list = list
-listAfter readLeader row store list = list
-listAfter (read b) row store list = list
-listAfter setNormal row store list = list
-listAfter (hear b) row store list = list
-listAfter (install b) row store list = list
-listAfter malformed row store list = list
+abbrev pub placesAfter : Step → Cluster → Places → Places
+placesAfter st row p = written (writes st) row p
 
--- What the step st of a row answers and leaves: the row x, the store and the list.
-pub record Turns (st : Step) (row : Cluster) (store list : List ℕ) (x : Outcome) (store′ list′ : List ℕ) : Type 0 where
+-- What the step st of a row and its places answers and leaves: the row of x, the places p′.
+pub record Turns (st : Step) (row : Cluster) (p : Places) (x : Outcome) (p′ : Places) : Type 0 where
   pub answer : x .answer ≡ answerOf (outlineOf row) st
-  pub state : abs (x .row) store′ list′ ≡ step values (abs row store list) st
-  pub eight : length (x .row .len) ≡ 8
-  pub len : (b : ℕ) → at 0 (x .row .len) b ≤ 512
+  pub state : abs (x .row) p′ ≡ step entries (abs row p) st
+  pub short : Short (x .row .len)
   pub issued : x .row .issued ≤ 512
-  pub stored : store′ ≡ cond (accepted (outlineOf row) st) (storeAfter st row store) store
-  pub listed : list′ ≡ cond (accepted (outlineOf row) st) (listAfter st row store list) list
+  pub places : p′ ≡ cond (accepted (outlineOf row) st) (placesAfter st row p) p
   pub refused : x .answer ≢ 0 → x .row ≡ row
 
 -- The same by the answer n and the row row′ that a step leaves.
-abbrev pub Leaves : Step → Cluster → List ℕ → List ℕ → ℕ → Cluster → List ℕ → List ℕ → Type 0
-Leaves st row store list n row′ store′ list′ = Turns st row store list (record { answer = n; row = row′ }) store′ list′
+abbrev pub Leaves : Step → Cluster → Places → ℕ → Cluster → Places → Type 0
+Leaves st row p n row′ p′ = Turns st row p (record { answer = n; row = row′ }) p′
 
 -- A step of the registry g and the controller c: what it answers and leaves, whatever the counts, the receipts and the lent places are.
 abbrev pub Governs : Step → Registry → Controller → List View → List ℕ → List ℕ → Settled → Type 0
-Governs st g c views joined len x = (acked : List ℕ) (issued : ℕ) (store list : List ℕ) → issued ≤ 512 → length store ≡ 4096 → length list ≡ 512
-    → Leaves st (rowOf g c views joined acked len issued) store list (x .answer) (rowOf (x .registry) (x .controller) views joined acked len issued) store list
+Governs st g c views joined len x = (acked : List ℕ) (issued : ℕ) (p : Places) → issued ≤ 512 → Full p
+    → Leaves st (rowOf g c views joined acked len issued) p
+    (x .answer) (rowOf (x .registry) (x .controller) views joined acked len issued) p

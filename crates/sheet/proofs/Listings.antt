@@ -7,12 +7,15 @@ use native.Mathlib.Omega.{arith}
 use lib.Dec.{leb}
 use lib.ListN.{length, take, length-append}
 use borrow.Author.Tests.{leb-true}
-use Rattle.model.specs.State.{outline, opened, values}
-use Rattle.model.specs.Runs.{answers}
+use Rattle.model.specs.State.{entries, outline, Opening, opened}
+use Rattle.model.specs.Records.{openingOf}
+use Rattle.model.specs.Runs.{stepsOf, answers}
+use Rattle.model.specs.Steps.{Step}
 use Rattle.model.specs.Claim.{receipts}
 use Rattle.model.proofs.Theorem.{safe}
 use Rattle.cluster.specs.declared.Cluster.{Cluster}
 use Rattle.cluster.specs.Layout.{outlineOf}
+use Rattle.refinement.specs.Memory.{Places}
 use Rattle.text.specs.Text.{Text, over, Wrote}
 use Rattle.text.proofs.Laws.{over-holds, over-length, digits-one-length}
 use Rattle.records.specs.Bytes.{recordAt, records, isSheet}
@@ -25,12 +28,13 @@ use Rattle.records.proofs.Decoding.{room}
 use Rattle.sheet.proofs.Playing.{sheet-whole, sheet-step, sheet-real}
 
 -- The first lines of the listing.
-pub lines-are : (s : Text) (k : ℕ) (row : Cluster) (store list ns : List ℕ) → isSheet s ≡ true → Ran s k row store list ns
-    → lines s ns (suc k) ≡ answerLine 1 0 0 ++ answerLines 2 (following s k) (answers values (opened (recordAt s .board)) (following s k))
+pub lines-are : (s : Text) (k : ℕ) (row : Cluster) (p : Places) (ns : List ℕ) → isSheet s ≡ true → Ran s k row p ns
+    → lines s ns (suc k)
+    ≡ answerLine 1 0 0 ++ answerLines 2 (following s k) (answers entries (opened (openingOf (recordAt s))) (stepsOf (following s k)))
 unfolding lines records answerLines
-lines-are s k row store list ns e h =
+lines-are s k row p ns e h =
     ap (answerLines 1 (recordAt s ∷ following s k)) (h .answered)
-    ∙ ap (λ n. answerLine 1 n 0 ++ answerLines 2 (following s k) (answers values (opened (recordAt s .board)) (following s k))) (sheet-step s e)
+    ∙ ap (λ n. answerLine 1 n 0 ++ answerLines 2 (following s k) (answers entries (opened (openingOf (recordAt s))) (stepsOf (following s k)))) (sheet-step s e)
 
 -- What was written aside, read back.
 pub read-back : {d xs e : Text} {r : ℕ} → Wrote d 0 xs e r → r ≤ length d → take r e ≡ xs
@@ -52,24 +56,30 @@ pub no-sheet : (s out : Text) → isSheet s ≡ false → (2 ≡ result s out) �
 unfolding result left
 no-sheet s out e = (rw e, rw e)
 
-module _ (s : Text) (e : isSheet s ≡ true) (row : Cluster) (store list ns : List ℕ) (h : Ran s (length s / 8 - 1) row store list ns) where
+module _ (s : Text) (e : isSheet s ≡ true) (row : Cluster) (p : Places) (ns : List ℕ) (h : Ran s (length s / 8 - 1) row p ns) where
   abbrev k : ℕ
   k = length s / 8 - 1
+
+  abbrev opening : Opening
+  opening = openingOf (recordAt s)
+
+  abbrev past : List Step
+  past = stepsOf (following s k)
 
   some : suc k ≡ length s / 8
   some = omega (arith, room (length s) (sheet-whole s e))
 
   -- The list holds the receipts given.
-  kept : take (row .issued) list ≡ receipts values (recordAt s .board) (following s k)
-  kept = ap (λ x. x .committed) (h .state) ∙ safe values (recordAt s .board) (sheet-real s e) (following s k) .kept
+  kept : take (row .issued) (p .list) ≡ receipts entries opening past
+  kept = ap (λ x. x .committed) (h .state) ∙ safe entries opening (sheet-real s e) past .kept
 
-  pub listed : lines s ns (length s / 8) ++ ending (outlineOf row) (take (row .issued) list) ≡ listing s
+  pub listed : lines s ns (length s / 8) ++ ending (outlineOf row) (take (row .issued) (p .list)) ≡ listing s
   unfolding listing listingOf
   listed =
-      ap₂ (λ x y. x ++ y) (ap (lines s ns) (sym some) ∙ lines-are s k row store list ns e h) (ap₂ ending (h .outlined) kept)
-      ∙ append-assoc (answerLine 1 0 0) (answerLines 2 (following s k) (answers values (opened (recordAt s .board)) (following s k))) (ending (outline (stateAt s k)) (receipts values (recordAt s .board) (following s k)))
+      ap₂ (λ x y. x ++ y) (ap (lines s ns) (sym some) ∙ lines-are s k row p ns e h) (ap₂ ending (h .outlined) kept)
+      ∙ append-assoc (answerLine 1 0 0) (answerLines 2 (following s k) (answers entries (opened opening) past)) (ending (outline (stateAt s k)) (receipts entries opening past))
 
-  pub delivered : {text out out′ : Text} {r : ℕ} → text ≡ ending (outlineOf row) (take (row .issued) list) → Delivered (lines s ns (length s / 8) ++ text) out out′ r → (r ≡ result s out) × (out′ ≡ left s out)
+  pub delivered : {text out out′ : Text} {r : ℕ} → text ≡ ending (outlineOf row) (take (row .issued) (p .list)) → Delivered (lines s ns (length s / 8) ++ text) out out′ r → (r ≡ result s out) × (out′ ≡ left s out)
   unfolding result left
   delivered {text} {out} {out′} {r} t d =
       let l : lines s ns (length s / 8) ++ text ≡ listing s = ap (λ x. lines s ns (length s / 8) ++ x) t ∙ listed in (

@@ -9,10 +9,10 @@ use lib.Dec.{T, eqb, leb, leb→le, eqb→eq}
 use lib.ListN.{length, drop, getD, set, length-set}
 use lib.Seq.{take-suc-set, drop-drop, getD-take}
 use Rattle.model.specs.Members.{isReplica}
-use Rattle.model.specs.State.{State, outline, opened, values}
-use Rattle.model.specs.Steps.{answerOf, step}
-use Rattle.model.specs.Records.{Record, stepOf}
-use Rattle.model.specs.Runs.{run, answers}
+use Rattle.model.specs.State.{RowState, entries, outline, Opening, openingWith, canOpen, opened}
+use Rattle.model.specs.Steps.{Step, answerOf, step}
+use Rattle.model.specs.Records.{openingOf, Record, stepOf}
+use Rattle.model.specs.Runs.{stepsOf, run, answers}
 use Rattle.model.specs.Ranges.{inRange}
 use Rattle.model.specs.Claim.{after}
 use Rattle.model.proofs.Tests.{split-and, is-true, of-true}
@@ -23,10 +23,10 @@ use Rattle.model.proofs.Theorem.{run-append}
 use Rattle.cluster.specs.declared.Cluster.{Cluster}
 use Rattle.cluster.specs.declared.Outcome.{Outcome}
 use Rattle.cluster.specs.Layout.{outlineOf}
-use Rattle.refinement.specs.Memory.{abs, Shape, Ready, Turns}
+use Rattle.refinement.specs.Memory.{Places, Full, abs, Shape, Ready, Turns}
 use Rattle.steps_central.specs.Opening.{Opens, OpenedWith}
-use Rattle.steps.specs.Call.{Did}
-use Rattle.steps.proofs.Calling.{ready, all-tests, did-step, did-lengths}
+use Rattle.steps.specs.Call.{valid, Did}
+use Rattle.steps.proofs.Calling.{ready, all-tests, did-step, did-full}
 use Rattle.text.specs.Text.{Text}
 use Rattle.records.specs.Bytes.{recordAt, records, wholeRecords, isOpening, isSheet}
 use Rattle.listing.proofs.AnswerLines.{records-suc}
@@ -57,9 +57,13 @@ module _ (s : Text) (e : isSheet s ≡ true) where
   sheet-real = first .1
 
 -- The opening call on its board.
-pub begun : (s : Text) → isSheet s ≡ true → (b : ℕ) → b ≡ recordAt s .board → (x : Outcome) → Opens b x → OpenedWith (recordAt s .board) (x .row)
+pub begun : (s : Text) → isSheet s ≡ true → (b : ℕ) → b ≡ recordAt s .board → (x : Outcome) → Opens (openingWith b) x
+    → OpenedWith (openingOf (recordAt s)) (x .row)
 begun s e b h x o =
-    subst (λ n. OpenedWith n (x .row)) (ap (λ n. cond (isReplica n) n 1) h ∙ ap (λ t. cond t (recordAt s .board) 1) (is-true (isReplica (recordAt s .board)) (sheet-real s e))) (o .row)
+    let first = openingOf (recordAt s) in
+    subst (λ p. OpenedWith p (x .row))
+    (ap (λ n. cond (isReplica n) (openingWith n) (openingWith 1)) h ∙ ap (λ t. cond t first (openingWith 1)) (is-true (canOpen first) (sheet-real s e)))
+    (o .row)
 
 -- One record more.
 pub following-suc : (s : Text) (k : ℕ) → following s (suc k) ≡ following s k ++ (recordAt (drop (8 * k + 8) s) ∷ [])
@@ -68,74 +72,85 @@ following-suc s k =
     let d : drop (8 * k) (drop 8 s) ≡ drop (8 * k + 8) s = drop-drop (8 * k) 8 s ∙ ap (λ m. drop m s) n in
     records-suc k (drop 8 s) ∙ ap (λ t. records k (drop 8 s) ++ (recordAt t ∷ [])) d
 
-pub answers-suc : (s : State ℕ) (rs : List Record) (r : Record) → answers values s (rs ++ (r ∷ [])) ≡ answers values s rs ++ (answerOf (outline (run values s rs)) (stepOf r) ∷ [])
+steps-suc : (rs : List Record) (r : Record) → stepsOf (rs ++ (r ∷ [])) ≡ stepsOf rs ++ (stepOf r ∷ [])
+steps-suc [] r = refl
+steps-suc (q ∷ rs) r = ap (λ sts. stepOf q ∷ sts) (steps-suc rs r)
+
+answers-suc : (s : RowState) (sts : List Step) (st : Step)
+    → answers entries s (sts ++ (st ∷ [])) ≡ answers entries s sts ++ (answerOf (outline (run entries s sts)) st ∷ [])
 unfolding answers run
-answers-suc s [] r = refl
-answers-suc s (q ∷ rs) r = ap (λ ns. answerOf (outline s) (stepOf q) ∷ ns) (answers-suc (step values s (stepOf q)) rs r)
+answers-suc s [] st = refl
+answers-suc s (q ∷ sts) st = ap (λ ns. answerOf (outline s) q ∷ ns) (answers-suc (step entries s q) sts st)
 
 -- No answer is above 16.
-answers-small : (t : State ℕ) (rs : List Record) (i : ℕ) → getD (answers values t rs) i 0 < 100
+answers-small : (t : RowState) (sts : List Step) (i : ℕ) → getD (answers entries t sts) i 0 < 100
 unfolding answers
 answers-small t [] i = omega arith
-answers-small t (r ∷ rs) zero = omega (arith, answer-most (outline t) (stepOf r))
-answers-small t (r ∷ rs) (suc i) = answers-small (step values t (stepOf r)) rs i
+answers-small t (st ∷ sts) zero = omega (arith, answer-most (outline t) st)
+answers-small t (st ∷ sts) (suc i) = answers-small (step entries t st) sts i
 
-all-small : (t : State ℕ) (rs : List Record) (i : ℕ) → getD (0 ∷ answers values t rs) i 0 < 100
-all-small t rs zero = omega arith
-all-small t rs (suc i) = answers-small t rs i
+all-small : (t : RowState) (sts : List Step) (i : ℕ) → getD (0 ∷ answers entries t sts) i 0 < 100
+all-small t sts zero = omega arith
+all-small t sts (suc i) = answers-small t sts i
 
-module _ (s : Text) (sheet : isSheet s ≡ true) (k : ℕ) (row : Cluster) (store list ns : List ℕ) (h : Ran s k row store list ns) where
-  abbrev b : ℕ
-  b = recordAt s .board
+module _ (s : Text) (sheet : isSheet s ≡ true) (k : ℕ) (row : Cluster) (p : Places) (ns : List ℕ) (h : Ran s k row p ns) where
+  abbrev opening : Opening
+  opening = openingOf (recordAt s)
+
+  abbrev past : List Step
+  past = stepsOf (following s k)
 
   pub ran-fits : inRange (outlineOf row) ≡ true
-  ran-fits = ap inRange (h .outlined) ∙ is-true (inRange (outline (stateAt s k))) (in-range values b (sheet-real s sheet) (following s k))
+  ran-fits = ap inRange (h .outlined) ∙ is-true (inRange (outline (stateAt s k))) (in-range entries opening (sheet-real s sheet) past)
 
-  pub ran-issued : row .issued ≤ length list
-  ran-issued = omega (arith, h .long, to-ranges (outlineOf row) (of-true ran-fits) .committed)
+  pub ran-issued : row .issued ≤ length (p .list)
+  ran-issued = omega (arith, h .full .list, to-ranges (outlineOf row) (of-true ran-fits) .committed)
 
   -- An answer has two digits at most.
   pub ran-small : (i : ℕ) → i ≤ k → getD ns i 0 < 100
   ran-small i q =
-      let n : getD ns i 0 ≡ getD (0 ∷ answers values (opened b) (following s k)) i 0 = sym (getD-take (suc k) ns i 0 (omega (arith, q))) ∙ ap (λ xs. getD xs i 0) (h .answered) in
-      subst (λ m. m < 100) (sym n) (all-small (opened b) (following s k) i)
+      let n : getD ns i 0 ≡ getD (0 ∷ answers entries (opened opening) past) i 0 =
+      sym (getD-take (suc k) ns i 0 (omega (arith, q))) ∙ ap (λ xs. getD xs i 0) (h .answered) in
+      subst (λ m. m < 100) (sym n) (all-small (opened opening) past i)
 
   pub ran-ready : Shape row → Ready row
   ran-ready shape = ready row shape ran-fits
 
   -- The record r that stands next, and the call of it.
-  module _ (r : Record) (place : r ≡ recordAt (drop (8 * k + 8) s)) {x : Outcome} {store′ list′ : List ℕ} (t : Turns (stepOf r) row store list x store′ list′) (small : k + 1 < length ns) where
-    did : Did (stepOf r) row store list x store′ list′
-    did = did-step (stepOf r) row store list (all-tests row store list (h .full) (h .long) ran-fits) (h .full) (h .long) t
+  module _ (r : Record) (place : r ≡ recordAt (drop (8 * k + 8) s)) {x : Outcome} {p′ : Places} (t : Turns (stepOf r) row p x p′) (small : k + 1 < length ns) where
+    valid-here : valid row p ≡ true
+    valid-here = all-tests row p (h .full) ∙ ran-fits
 
-    more : following s (suc k) ≡ following s k ++ (r ∷ [])
-    more = following-suc s k ∙ ap (λ q. following s k ++ (q ∷ [])) (sym place)
+    did : Did (stepOf r) row p x p′
+    did = did-step (stepOf r) row p valid-here (h .full) t
 
-    reached : step values (stateAt s k) (stepOf r) ≡ stateAt s (suc k)
+    more : stepsOf (following s (suc k)) ≡ past ++ (stepOf r ∷ [])
+    more = ap stepsOf (following-suc s k ∙ ap (λ q. following s k ++ (q ∷ [])) (sym place)) ∙ steps-suc (following s k) r
+
+    reached : step entries (stateAt s k) (stepOf r) ≡ stateAt s (suc k)
     unfolding run
-    reached = sym (run-append values (opened b) (following s k) (r ∷ [])) ∙ ap (after values b) (sym more)
+    reached = sym (run-append entries (opened opening) past (stepOf r ∷ [])) ∙ ap (after entries opening) (sym more)
 
-    pub ran-more : Ran s (k + 1) (x .row) store′ list′ (set ns (k + 1) (x .answer))
+    pub ran-more : Ran s (k + 1) (x .row) p′ (set ns (k + 1) (x .answer))
     ran-more = rw (add-one k) record {
-      state = t .state ∙ ap (λ y. step values y (stepOf r)) (h .state) ∙ reached;
-      outlined = did .outlined ∙ ap (λ u. cond u (outline (step values (abs row store list) (stepOf r))) (outlineOf row)) (all-tests row store list (h .full) (h .long) ran-fits)
-          ∙ ap (λ y. outline (step values y (stepOf r))) (h .state) ∙ ap outline reached;
-      answered = take-suc-set ns (suc k) (x .answer) (omega arith) ∙ ap₂ (λ xs n. xs ++ (n ∷ [])) (h .answered) (t .answer ∙ ap (λ o. answerOf o (stepOf r)) (h .outlined))
-          ∙ ap (λ xs. 0 ∷ xs) (sym (answers-suc (opened b) (following s k) r) ∙ ap (answers values (opened b)) (sym more));
-      full = did-lengths (stepOf r) row store list did .0 ∙ h .full;
-      long = did-lengths (stepOf r) row store list did .1 ∙ h .long;
+      state = t .state ∙ ap (λ y. step entries y (stepOf r)) (h .state) ∙ reached;
+      outlined = did .outlined ∙ ap (λ u. cond u (outline (step entries (abs row p) (stepOf r))) (outlineOf row)) valid-here
+          ∙ ap (λ y. outline (step entries y (stepOf r))) (h .state) ∙ ap outline reached;
+      answered = take-suc-set ns (suc k) (x .answer) (omega arith)
+          ∙ ap₂ (λ xs n. xs ++ (n ∷ [])) (h .answered) (t .answer ∙ ap (λ o. answerOf o (stepOf r)) (h .outlined))
+          ∙ ap (λ xs. 0 ∷ xs) (sym (answers-suc (opened opening) past (stepOf r)) ∙ ap (answers entries (opened opening)) (sym more));
+      full = did-full (stepOf r) row p did (h .full);
       room = length-set ns (suc k) (x .answer) ∙ h .room;
     }
 
 -- Nothing but the opening.
-pub ran-none : (s : Text) (row : Cluster) → OpenedWith (recordAt s .board) row → (store list ns : List ℕ) → length store ≡ 4096 → length list ≡ 512 → length ns ≡ 4096
-    → Ran s 0 row store list (set ns 0 0)
+pub ran-none : (s : Text) (row : Cluster) → OpenedWith (openingOf (recordAt s)) row → (p : Places) → Full p → (ns : List ℕ) → length ns ≡ 4096
+    → Ran s 0 row p (set ns 0 0)
 unfolding records run answers
-ran-none s row o store list ns full long room = record {
-  state = o .state store list;
+ran-none s row o p full ns room = record {
+  state = o .state p;
   outlined = o .outline;
   answered = take-suc-set ns 0 0 (omega arith);
   full = full;
-  long = long;
   room = length-set ns 0 0 ∙ room;
 }

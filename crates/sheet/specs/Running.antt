@@ -3,13 +3,13 @@ use mathlib.Core.List.{List, _∷_}
 use mathlib.Core.Path.{_≡_}
 use Prim.Native.Nat.{ℕ, suc}
 use lib.ListN.{length, take, drop}
-use Rattle.model.specs.State.{State, outline, opened, values}
-use Rattle.model.specs.Records.{Record}
-use Rattle.model.specs.Runs.{answers}
+use Rattle.model.specs.State.{RowState, entries, outline, opened}
+use Rattle.model.specs.Records.{openingOf, Record}
+use Rattle.model.specs.Runs.{stepsOf, answers}
 use Rattle.model.specs.Claim.{after}
 use Rattle.cluster.specs.declared.Cluster.{Cluster}
 use Rattle.cluster.specs.Layout.{outlineOf}
-use Rattle.refinement.specs.Memory.{abs}
+use Rattle.refinement.specs.Memory.{Places, Full, abs}
 use Rattle.text.specs.Text.{Text}
 use Rattle.records.specs.Bytes.{recordAt, records}
 
@@ -18,14 +18,13 @@ abbrev pub following : Text → ℕ → List Record
 following s k = records k (drop 8 s)
 
 -- The model's state after the opening of s and k records more.
-abbrev pub stateAt : Text → ℕ → State ℕ
-stateAt s k = after values (recordAt s .board) (following s k)
+abbrev pub stateAt : Text → ℕ → RowState
+stateAt s k = after entries (openingOf (recordAt s)) (stepsOf (following s k))
 
 -- The sheet s was run up to there: the row and the lent places stand for the model's state, and ns has the answers from its first place on.
-pub record Ran (s : Text) (k : ℕ) (row : Cluster) (store list ns : List ℕ) : Type 0 where
-  pub state : abs row store list ≡ stateAt s k
+pub record Ran (s : Text) (k : ℕ) (row : Cluster) (p : Places) (ns : List ℕ) : Type 0 where
+  pub state : abs row p ≡ stateAt s k
   pub outlined : outlineOf row ≡ outline (stateAt s k)
-  pub answered : take (suc k) ns ≡ 0 ∷ answers values (opened (recordAt s .board)) (following s k)
-  pub full : length store ≡ 4096
-  pub long : length list ≡ 512
+  pub answered : take (suc k) ns ≡ 0 ∷ answers entries (opened (openingOf (recordAt s))) (stepsOf (following s k))
+  pub full : Full p
   pub room : length ns ≡ 4096

@@ -1,14 +1,14 @@
--- Sheets and listings of document 01, byte for byte, through the model's run; the records stand in the crate records, single lines in lines, the parts of a listing in listing. Cited by the promises of
--- `run_sheet` and `sample`. Assumes nothing.
+-- Sheets and listings of document 01, byte for byte, through the model's run; the records stand in the crate records, single lines in
+-- lines, the parts of a listing in listing. Cited by the promises of `run_sheet` and `sample`. Assumes nothing.
 use mathlib.Core.Bool.{Bool, true, cond, _&&_}
 use mathlib.Core.List.{List, [], _∷_, _++_}
 use mathlib.Core.Path.{_≡_}
 use Prim.Native.Nat.{ℕ, _-_, _/_, _%_, _≤_}
 use lib.Dec.{eqb, leb}
 use lib.ListN.{length, drop, replicate}
-use Rattle.model.specs.State.{outline, opened, values}
-use Rattle.model.specs.Records.{Record}
-use Rattle.model.specs.Runs.{answers}
+use Rattle.model.specs.State.{entries, outline, Opening, opened}
+use Rattle.model.specs.Records.{openingOf, Record}
+use Rattle.model.specs.Runs.{stepsOf, answers}
 use Rattle.model.specs.Claim.{after, receipts}
 use Rattle.text.specs.Text.{Text, over}
 use Rattle.records.specs.Bytes.{recordAt, records, isSheet}
@@ -17,16 +17,17 @@ use Rattle.listing.specs.Listing.{answerLines, ending}
 
 -- The listing
 
--- The listing of the opening with b and the records rs: the answers, then the state, then the receipts given.
-unfoldable pub listingOf : ℕ → List Record → Text
+-- The listing of the opening o and the records rs: the answers, then the state, then the receipts given.
+unfoldable pub listingOf : Opening → List Record → Text
 unfolding answerLine answerLines ending
-listingOf b rs =
-    answerLine 1 0 0 ++ (answerLines 2 rs (answers values (opened b) rs) ++ ending (outline (after values b rs)) (receipts values b rs))
+listingOf o rs = answerLine 1 0 0
+    ++ (answerLines 2 rs (answers entries (opened o) (stepsOf rs))
+    ++ ending (outline (after entries o (stepsOf rs))) (receipts entries o (stepsOf rs)))
 
 -- The listing of a sheet that refusal 2 lets through.
 unfoldable pub listing : Text → Text
 unfolding records listingOf
-listing s = listingOf (recordAt s .board) (records (length s / 8 - 1) (drop 8 s))
+listing s = listingOf (openingOf (recordAt s)) (records (length s / 8 - 1) (drop 8 s))
 
 -- The call, with the sheet s and a slice whose bytes are `out`
 

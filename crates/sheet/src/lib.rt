@@ -1,4 +1,4 @@
-// A sheet and its listing: the entry for the hub's firmware in C.
+// A sheet and its listing: the call behind the entry for the hub's firmware (crate row) and the program `runsheet`.
 
 ghost use mathlib.Core.Path.{_≡_};
 ghost use Rattle.sheet.specs.Sheet.{SampleHolds, RoomHolds, RefusedHolds, LengthsTell, result, left};
@@ -11,12 +11,12 @@ pub fn sample()
     ensures { λ r. ⌜ SampleHolds × RoomHolds × RefusedHolds × LengthsTell ⌝ }
 {}
 
-// The call of the hub's firmware: sheet in, listing out. It returns the listing's length, 2 for a sheet of wrong length or without
+// Sheet in, listing out. It returns the listing's length, 2 for a sheet of wrong length or without
 // a valid opening, 3 for a slice that is shorter than the listing. Nothing is written before both are decided: the sheet is run in
 // places of this call's own, and the ending, whose length is then known, is written aside.
-#[no_mangle]
-pub extern "C" fn run_sheet(sheet: &[u8], listing: &mut [u8]) -> usize
-    ensures { λ r. ⌜ (r ≡ result (now (sheet .entry)) (now (listing .entry))) × (now (listing .exit) ≡ left (now (sheet .entry)) (now (listing .entry))) ⌝ }
+pub fn run_sheet(sheet: &[u8], listing: &mut [u8]) -> usize
+    ensures { λ r. ⌜ (r ≡ result (now (sheet .entry)) (now (listing .entry)))
+        × (now (listing .exit) ≡ left (now (sheet .entry)) (now (listing .entry))) ⌝ }
 {
     if !records::is_sheet(sheet) {
         return 2;

@@ -4,7 +4,8 @@ ghost use mathlib.Core.Path.{_≡_};
 ghost use mathlib.Core.Bool.{true};
 ghost use Prim.Native.Nat.{_-_, _/_};
 ghost use lib.ListN.{length};
-ghost use Rattle.refinement.specs.Memory.{rowOf, Shape};
+ghost use Rattle.model.specs.Records.{openingOf};
+ghost use Rattle.refinement.specs.Memory.{lent, Full, rowOf, Shape};
 ghost use Rattle.steps_central.specs.Opening.{OpenedWith};
 ghost use Rattle.records.specs.Bytes.{recordAt, isSheet};
 ghost use Rattle.sheet.specs.Running.{Ran};
@@ -17,7 +18,7 @@ use records::decode;
 // The opening. Callers see to it that refusal 2 lets the sheet through.
 fn begin(sheet: &[u8]) -> Cluster
     requires { ⌜ isSheet (now sheet) ≡ true ⌝ }
-    ensures { λ r. ⌜ OpenedWith (recordAt (now (sheet .entry)) .board) r ⌝ }
+    ensures { λ r. ⌜ OpenedWith (openingOf (recordAt (now (sheet .entry)))) r ⌝ }
 {
     let r = decode(sheet, 0);
     let o = steps::opening(r.board);
@@ -43,8 +44,13 @@ fn walk(
     list: &mut [u32],
     answers: &mut [u8],
 ) -> Centre
-    requires { ⌜ (isSheet (now sheet) ≡ true) × Shape (rowOf (o .registry) (o .controller) (o .views) (now joined) (now acked) (now len) (o .issued)) × Ran (now sheet) 0 (rowOf (o .registry) (o .controller) (o .views) (now joined) (now acked) (now len) (o .issued)) (now store) (now list) (now answers) ⌝ }
-    ensures { λ r. ⌜ Ran (now (sheet .entry)) (length (now (sheet .entry)) / 8 - 1) (rowOf (r .registry) (r .controller) (r .views) (now (joined .exit)) (now (acked .exit)) (now (len .exit)) (r .issued)) (now (store .exit)) (now (list .exit)) (now (answers .exit)) ⌝ }
+    requires { ⌜ (isSheet (now sheet) ≡ true)
+        × Shape (rowOf (o .registry) (o .controller) (o .views) (now joined) (now acked) (now len) (o .issued))
+        × Ran (now sheet) 0 (rowOf (o .registry) (o .controller) (o .views) (now joined) (now acked) (now len) (o .issued))
+        (lent (now store) (now list)) (now answers) ⌝ }
+    ensures { λ r. ⌜ Ran (now (sheet .entry)) (length (now (sheet .entry)) / 8 - 1)
+        (rowOf (r .registry) (r .controller) (r .views) (now (joined .exit)) (now (acked .exit)) (now (len .exit)) (r .issued))
+        (lent (now (store .exit)) (now (list .exit))) (now (answers .exit)) ⌝ }
 {
     let n = sheet.len() / 8 - 1;
     let mut g = o.registry;
@@ -88,8 +94,9 @@ fn walk(
 
 // The whole sheet. Inner layer: callers see to it that refusal 2 lets the sheet through, and that the lent places have their lengths.
 pub fn play(sheet: &[u8], store: &mut [u32], list: &mut [u32], answers: &mut [u8]) -> Cluster
-    requires { ⌜ (isSheet (now sheet) ≡ true) × (length (now store) ≡ 4096) × (length (now list) ≡ 512) × (length (now answers) ≡ 4096) ⌝ }
-    ensures { λ r. ⌜ Ran (now (sheet .entry)) (length (now (sheet .entry)) / 8 - 1) r (now (store .exit)) (now (list .exit)) (now (answers .exit)) ⌝ }
+    requires { ⌜ (isSheet (now sheet) ≡ true) × Full (lent (now store) (now list)) × (length (now answers) ≡ 4096) ⌝ }
+    ensures { λ r. ⌜ Ran (now (sheet .entry)) (length (now (sheet .entry)) / 8 - 1) r
+        (lent (now (store .exit)) (now (list .exit))) (now (answers .exit)) ⌝ }
 {
     let row = begin(sheet);
     answers[0] = 0;

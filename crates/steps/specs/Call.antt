@@ -6,39 +6,38 @@ use mathlib.Core.Path.{_≡_}
 use Prim.Native.Nat.{ℕ}
 use lib.Dec.{eqb}
 use lib.ListN.{length}
-use Rattle.model.specs.State as M
-use Rattle.model.specs.State.{outline, values}
+use Rattle.model.specs.State.{outline, entries, Entry}
 use Rattle.model.specs.Steps.{Step, accepted, answerOf, step}
 use Rattle.model.specs.Ranges.{inRange}
 use Rattle.logstore.specs.Log.{visibleAt}
 use Rattle.cluster.specs.declared.Cluster.{Cluster}
 use Rattle.cluster.specs.declared.Outcome.{Outcome}
 use Rattle.cluster.specs.Layout.{outlineOf}
-use Rattle.refinement.specs.Memory.{abs, storeAfter, listAfter}
+use Rattle.refinement.specs.Memory.{Places, abs, placesAfter}
 
 -- Refusal 1, apart from a step's fields: "a store not 4,096 or receipts not 512 long, a row with a number outside the ranges", leaders.
-abbrev pub valid : Cluster → List ℕ → List ℕ → Bool
-valid row store list = eqb (length store) 4096 && eqb (length list) 512 && inRange (outlineOf row)
+abbrev pub valid : Cluster → Places → Bool
+valid row p = eqb (length (p .store)) 4096 && eqb (length (p .list)) 512 && inRange (outlineOf row)
 
--- A call of the step st with a row, the store and the list (document 01: the receipts): it returns x and leaves store′ and list′.
-pub record Did (st : Step) (row : Cluster) (store list : List ℕ) (x : Outcome) (store′ list′ : List ℕ) : Type 0 where
+-- A call of the step st with a row and the lent places p: it returns x and leaves the places p′.
+pub record Did (st : Step) (row : Cluster) (p : Places) (x : Outcome) (p′ : Places) : Type 0 where
   -- Refusal 1 first, then the model's answer.
-  pub answer : x .answer ≡ cond (valid row store list) (answerOf (outlineOf row) st) 1
+  pub answer : x .answer ≡ cond (valid row p) (answerOf (outlineOf row) st) 1
   -- The state then is the model's step of the state before.
-  pub state : abs (x .row) store′ list′ ≡ cond (valid row store list) (step values (abs row store list) st) (abs row store list)
-  -- An outline fixes its row (memory/proofs/Rows.antt, `rows-equal`; the type fixes the lengths of arrays), so this is the whole row.
-  pub outlined : outlineOf (x .row) ≡ cond (valid row store list) (outline (step values (abs row store list) st)) (outlineOf row)
-  -- Every place of the store and of the list, accepted and refused.
-  pub stored : store′ ≡ cond (valid row store list && accepted (outlineOf row) st) (storeAfter st row store) store
-  pub listed : list′ ≡ cond (valid row store list && accepted (outlineOf row) st) (listAfter st row store list) list
+  pub state : abs (x .row) p′ ≡ cond (valid row p) (step entries (abs row p) st) (abs row p)
+  -- An outline fixes its row (refinement/proofs/Rows.antt, `rows-equal`; the type fixes the lengths of arrays), so this is the whole row.
+  pub outlined : outlineOf (x .row) ≡ cond (valid row p) (outline (step entries (abs row p) st)) (outlineOf row)
+  -- Every lent place, accepted and refused.
+  pub places : p′ ≡ cond (valid row p && accepted (outlineOf row) st) (placesAfter st row p) p
   -- A refused call returns the row itself.
   pub refused : x .answer ≢ 0 → x .row ≡ row
 
 -- "Shown list: the leader's log, or the receipts while no leader is named ... For a row that refusal 1 would turn away it is an empty part."
-abbrev pub shown : Cluster → List ℕ → List ℕ → List ℕ
-shown row store list = cond (valid row store list)
-    (cond (eqb (row .registry .view .leader) 0) (abs row store list .committed) (abs row store list .log (row .registry .view .leader))) []
+abbrev pub shown : Cluster → Places → List Entry
+shown row p = cond (valid row p)
+    (cond (eqb (row .registry .view .leader) 0) (abs row p .committed) (abs row p .log (row .registry .view .leader))) []
 
--- Where that part begins, a block and an offset in bytes, if the store and the list begin at `s` and `l`: it is a part of what was lent, "not a copy". The empty part is one of the list.
-abbrev pub shownAt : Cluster → List ℕ → List ℕ → ℕ × ℕ → ℕ × ℕ → ℕ × ℕ
-shownAt row store list s l = cond (valid row store list) (visibleAt s l (row .registry .view .leader)) l
+-- Where that part begins, a block and an offset in bytes, if the store and the list begin at `s` and `l`: it is a part of what was lent,
+-- "not a copy". The empty part is one of the list.
+abbrev pub shownAt : Cluster → Places → ℕ × ℕ → ℕ × ℕ → ℕ × ℕ
+shownAt row p s l = cond (valid row p) (visibleAt s l (row .registry .view .leader)) l

@@ -1,65 +1,75 @@
--- Demand 3 about calls: the opening, then the call `step` on any list of records, each with the row and the lent places as the one before
--- returned or left them. Cited by the promise of `steps::claim`. Assumes nothing.
+-- Demand 3 about calls: the opening, then any list of calls, by record or by name, each with the row and the lent places as the one
+-- before returned or left them. Cited by the promise of `steps::claim`, and by hub's, which adds the calls over a lent controller.
+-- Assumes nothing.
 use mathlib.Core.Bool.{true}
 use mathlib.Core.List.{List, [], _∷_}
 use mathlib.Core.Logic.{_≢_}
 use mathlib.Core.Path.{_≡_}
 use Prim.Native.Nat.{ℕ}
 use lib.Dec.{T}
-use lib.ListN.{length}
 use Rattle.model.specs.Prelude.{_⊑_}
-use Rattle.model.specs.Members.{isReplica}
-use Rattle.model.specs.State.{State, outline, opened, values}
-use Rattle.model.specs.Records.{Record, stepOf}
-use Rattle.model.specs.Runs.{run, answers, given}
+use Rattle.model.specs.State.{RowState, entries, outline, Opening, canOpen, opened}
+use Rattle.model.specs.Steps.{Step, append, commit, add, remove, changeLeader, refresh, join, receive, acknowledge, refreshController, readLeader, read, setNormal, hear, install}
+use Rattle.model.specs.Runs.{stepsOf, answers}
 use Rattle.model.specs.Claim.{LeadsUnder, after, receipts}
+use Rattle.model.specs.Records.{bare, of, ofBoth, ofValue}
 use Rattle.cluster.specs.declared.Cluster.{Cluster}
-use Rattle.cluster.specs.declared.Outcome.{Outcome}
 use Rattle.cluster.specs.Layout.{outlineOf}
-use Rattle.refinement.specs.Memory.{abs}
+use Rattle.refinement.specs.Memory.{Places, Full, abs}
 use Rattle.steps_central.specs.Opening.{Opens}
 use Rattle.steps.specs.Call.{valid, Did}
 
--- What a caller holds: a row, the log store, the committed list.
+-- What a caller holds: a row and the lent places.
 pub record Held : Type 0 where
   pub row : Cluster
-  pub store : List ℕ
-  pub list : List ℕ
+  pub places : Places
 
-abbrev pub stateOf : Held → State ℕ
-stateOf h = abs (h .row) (h .store) (h .list)
+abbrev pub stateOf : Held → RowState
+stateOf h = abs (h .row) (h .places)
 
--- One call, by the record that `step` promises: it answered n, and the caller holds h′ after it.
-abbrev pub Called : Record → Held → Held → ℕ → Type 0
-Called r h h′ n = Did (stepOf r) (h .row) (h .store) (h .list) (record { answer = n; row = h′ .row }) (h′ .store) (h′ .list)
+-- One call, by the record that each call promises: it answered n, and the caller holds h′ after it.
+abbrev pub Called : Step → Held → Held → ℕ → Type 0
+Called st h h′ n = Did st (h .row) (h .places) (record { answer = n; row = h′ .row }) (h′ .places)
 
--- Calls one after the other, and their answers.
-pub data Calls : Held → List Record → Held → List ℕ → Type 0 where
+-- Calls one after the other, and their answers. A call by name is one of its step; the call of a record is one of the step that the
+-- record stands for, which may be malformed.
+pub data Calls : Held → List Step → Held → List ℕ → Type 0 where
   stop : {h : Held} → Calls h [] h []
-  call : {h h′ h″ : Held} {r : Record} {rs : List Record} {n : ℕ} {ns : List ℕ} → Called r h h′ n → Calls h′ rs h″ ns → Calls h (r ∷ rs) h″ (n ∷ ns)
+  call : {h h′ h″ : Held} {st : Step} {sts : List Step} {n : ℕ} {ns : List ℕ}
+      → Called st h h′ n → Calls h′ sts h″ ns → Calls h (st ∷ sts) h″ (n ∷ ns)
 
--- The caller has opened with board b, and was lent places of the right lengths that may hold anything.
-pub record Begins (b : ℕ) (h : Held) : Type 0 where
-  pub real : T (isReplica b)
-  pub opens : Opens b (record { answer = 0; row = h .row })
-  pub store : length (h .store) ≡ 4096
-  pub list : length (h .list) ≡ 512
+-- The caller has made the opening o, and was lent places of their lengths that may hold anything.
+pub record Begins (o : Opening) (h : Held) : Type 0 where
+  pub real : T (canOpen o)
+  pub opens : Opens o (record { answer = 0; row = h .row })
+  pub full : Full (h .places)
 
--- After calls on rs, with the answers ns, the caller holds h.
-pub record Follows (b : ℕ) (rs : List Record) (h : Held) (ns : List ℕ) : Type 0 where
+-- After calls of the steps sts, with the answers ns, the caller holds h.
+pub record Follows (o : Opening) (sts : List Step) (h : Held) (ns : List ℕ) : Type 0 where
   -- "The calls accept the same steps, and the row and lent places that they return or leave hold the same."
-  pub answered : ns ≡ answers values (opened b) rs
-  pub state : stateOf h ≡ after values b rs
-  pub outlined : outlineOf (h .row) ≡ outline (after values b rs)
+  pub answered : ns ≡ answers entries (opened o) sts
+  pub state : stateOf h ≡ after entries o sts
+  pub outlined : outlineOf (h .row) ≡ outline (after entries o sts)
   -- No row of a run earns refusal 1.
-  pub fit : valid (h .row) (h .store) (h .list) ≡ true
+  pub fit : valid (h .row) (h .places) ≡ true
   -- The receipts given are the first entries of the log of the leader that the registry names; the list holds just them.
-  pub leading : h .row .registry .view .leader ≢ 0 → receipts values b rs ⊑ stateOf h .log (h .row .registry .view .leader)
-  pub kept : stateOf h .committed ≡ receipts values b rs
+  pub leading : h .row .registry .view .leader ≢ 0
+      → receipts entries o sts ⊑ stateOf h .log (h .row .registry .view .leader)
+  pub kept : stateOf h .committed ≡ receipts entries o sts
   -- Whatever calls follow, the receipts then begin with them,
-  pub lasting : (more : List Record) (h′ : Held) (ms : List ℕ) → Calls h more h′ ms → stateOf h .committed ⊑ stateOf h′ .committed
+  pub lasting : (more : List Step) (h′ : Held) (ms : List ℕ) → Calls h more h′ ms
+      → stateOf h .committed ⊑ stateOf h′ .committed
   -- and no two replicas hold themselves leader under one term, now or then.
-  pub alone : (more : List Record) (h′ : Held) (ms : List ℕ) → Calls h more h′ ms → (x y t : ℕ) → LeadsUnder (stateOf h) x t → LeadsUnder (stateOf h′) y t → x ≡ y
+  pub alone : (more : List Step) (h′ : Held) (ms : List ℕ) → Calls h more h′ ms
+      → (x y t : ℕ) → LeadsUnder (stateOf h) x t → LeadsUnder (stateOf h′) y t → x ≡ y
 
 unfoldable pub CallsSafe : Type 0
-CallsSafe = (b : ℕ) (h : Held) → Begins b h → (rs : List Record) (h′ : Held) (ns : List ℕ) → Calls h rs h′ ns → Follows b rs h′ ns
+CallsSafe = (o : Opening) (h : Held) → Begins o h → (sts : List Step) (h′ : Held) (ns : List ℕ) → Calls h sts h′ ns → Follows o sts h′ ns
+
+-- A call by name is the call of a record, in which the fields that its step does not use are 0: the step of each is its record's.
+unfoldable pub NamesHold : Type 0
+NamesHold = (a b v : ℕ)
+    → stepsOf (ofValue 1 b v ∷ of 2 b ∷ of 3 b ∷ of 4 b ∷ bare 5 ∷ of 6 b ∷ of 7 b ∷ of 8 b ∷ ofBoth 9 a b
+    ∷ bare 10 ∷ bare 11 ∷ of 12 b ∷ bare 13 ∷ of 14 b ∷ of 15 b ∷ [])
+    ≡ append b v ∷ commit b ∷ add b ∷ remove b ∷ changeLeader ∷ refresh b ∷ join b ∷ receive b ∷ acknowledge a b
+    ∷ refreshController ∷ readLeader ∷ read b ∷ setNormal ∷ hear b ∷ install b ∷ []

@@ -2,18 +2,31 @@
 // first.
 
 ghost use mathlib.Core.Path.{_≡_};
-ghost use lib.ListN.{length};
 ghost use denote.Ref.{ptr};
+ghost use Rattle.model.specs.State as M;
 ghost use Rattle.model.specs.Steps as T;
 ghost use Rattle.model.specs.Records as R;
-ghost use Rattle.refinement.specs.Memory.{Ready, Turns};
+ghost use Rattle.refinement.specs.Memory.{lent, Full, Ready, Turns};
 ghost use Rattle.steps_central.specs.Opening.{Opens};
-ghost use Rattle.steps.specs.Calls.{CallsSafe};
+ghost use Rattle.steps.specs.Calls.{CallsSafe, NamesHold};
 ghost use Rattle.records.specs.Record.{recordOf};
-ghost use Rattle.steps.specs.Call.{Did, shown, shownAt};
+ghost use Rattle.steps.specs.Call.{valid, Did, shown, shownAt};
 use cluster::Cluster;
 use cluster::Outcome;
 use records::Record;
+
+// Whether refusal 1 lets the row and the lent places through.
+fn fits(row: Cluster, store: &[u32], list: &[u32]) -> bool
+    ensures { λ r. ⌜ r ≡ valid row (lent (now (store .entry)) (now (list .entry))) ⌝ }
+{
+    if store.len() != 4096 {
+        return false;
+    }
+    if list.len() != 512 {
+        return false;
+    }
+    cluster::ranges::in_range(row)
+}
 
 // Refusal 1 of the row or of the lent lengths: the answer 1, and the row as it was.
 fn refused(row: Cluster) -> Outcome
@@ -27,8 +40,8 @@ fn refused(row: Cluster) -> Outcome
 
 // The step of a record, of a row by value. Callers see to refusal 1 of the row and of the lent lengths.
 fn turn(row: Cluster, store: &mut [u32], list: &mut [u32], r: Record) -> Outcome
-    requires { ⌜ Ready row × (length (now store) ≡ 4096) × (length (now list) ≡ 512) ⌝ }
-    ensures { λ x. ⌜ Turns (R.stepOf (recordOf r)) row (now (store .entry)) (now (list .entry)) x (now (store .exit)) (now (list .exit)) ⌝ }
+    requires { ⌜ Ready row × Full (lent (now store) (now list)) ⌝ }
+    ensures { λ x. ⌜ Turns (R.stepOf (recordOf r)) row (lent (now (store .entry)) (now (list .entry))) x (lent (now (store .exit)) (now (list .exit))) ⌝ }
 {
     let g = row.registry;
     let c = row.controller;
@@ -70,15 +83,9 @@ fn turn(row: Cluster, store: &mut [u32], list: &mut [u32], r: Record) -> Outcome
 
 // Any record: refusal 1 first, then its step.
 pub fn step(row: Cluster, store: &mut [u32], list: &mut [u32], r: Record) -> Outcome
-    ensures { λ x. ⌜ Did (R.stepOf (recordOf r)) row (now (store .entry)) (now (list .entry)) x (now (store .exit)) (now (list .exit)) ⌝ }
+    ensures { λ x. ⌜ Did (R.stepOf (recordOf r)) row (lent (now (store .entry)) (now (list .entry))) x (lent (now (store .exit)) (now (list .exit))) ⌝ }
 {
-    if store.len() != 4096 {
-        return refused(row);
-    }
-    if list.len() != 512 {
-        return refused(row);
-    }
-    if !cluster::ranges::in_range(row) {
+    if !fits(row, &*store, &*list) {
         return refused(row);
     }
     turn(row, &mut *store, &mut *list, r)
@@ -86,7 +93,7 @@ pub fn step(row: Cluster, store: &mut [u32], list: &mut [u32], r: Record) -> Out
 
 // The opening with board b; it is lent nothing. Refused, it returns the row opened with board 1: the papers leave it free.
 pub fn opening(b: u8) -> Outcome
-    ensures { λ x. ⌜ Opens b x ⌝ }
+    ensures { λ x. ⌜ Opens (M.openingWith b) x ⌝ }
 {
     steps_central::opening(b)
 }
@@ -95,7 +102,7 @@ pub fn opening(b: u8) -> Outcome
 
 // Step 1, b appends the value.
 pub fn append(row: Cluster, store: &mut [u32], list: &mut [u32], b: u8, value: u32) -> Outcome
-    ensures { λ x. ⌜ Did (T.Step.append b value) row (now (store .entry)) (now (list .entry)) x (now (store .exit)) (now (list .exit)) ⌝ }
+    ensures { λ x. ⌜ Did (T.Step.append b value) row (lent (now (store .entry)) (now (list .entry))) x (lent (now (store .exit)) (now (list .exit))) ⌝ }
 {
     step(
         row,
@@ -113,7 +120,7 @@ pub fn append(row: Cluster, store: &mut [u32], list: &mut [u32], b: u8, value: u
 
 // Step 2, a receipt by b.
 pub fn commit(row: Cluster, store: &mut [u32], list: &mut [u32], b: u8) -> Outcome
-    ensures { λ x. ⌜ Did (T.Step.commit b) row (now (store .entry)) (now (list .entry)) x (now (store .exit)) (now (list .exit)) ⌝ }
+    ensures { λ x. ⌜ Did (T.Step.commit b) row (lent (now (store .entry)) (now (list .entry))) x (lent (now (store .exit)) (now (list .exit))) ⌝ }
 {
     step(
         row,
@@ -131,7 +138,7 @@ pub fn commit(row: Cluster, store: &mut [u32], list: &mut [u32], b: u8) -> Outco
 
 // Step 3, add b.
 pub fn add(row: Cluster, store: &mut [u32], list: &mut [u32], b: u8) -> Outcome
-    ensures { λ x. ⌜ Did (T.Step.add b) row (now (store .entry)) (now (list .entry)) x (now (store .exit)) (now (list .exit)) ⌝ }
+    ensures { λ x. ⌜ Did (T.Step.add b) row (lent (now (store .entry)) (now (list .entry))) x (lent (now (store .exit)) (now (list .exit))) ⌝ }
 {
     step(
         row,
@@ -149,7 +156,7 @@ pub fn add(row: Cluster, store: &mut [u32], list: &mut [u32], b: u8) -> Outcome
 
 // Step 4, remove b.
 pub fn remove(row: Cluster, store: &mut [u32], list: &mut [u32], b: u8) -> Outcome
-    ensures { λ x. ⌜ Did (T.Step.remove b) row (now (store .entry)) (now (list .entry)) x (now (store .exit)) (now (list .exit)) ⌝ }
+    ensures { λ x. ⌜ Did (T.Step.remove b) row (lent (now (store .entry)) (now (list .entry))) x (lent (now (store .exit)) (now (list .exit))) ⌝ }
 {
     step(
         row,
@@ -167,7 +174,7 @@ pub fn remove(row: Cluster, store: &mut [u32], list: &mut [u32], b: u8) -> Outco
 
 // Step 5, change leader.
 pub fn change(row: Cluster, store: &mut [u32], list: &mut [u32]) -> Outcome
-    ensures { λ x. ⌜ Did T.Step.changeLeader row (now (store .entry)) (now (list .entry)) x (now (store .exit)) (now (list .exit)) ⌝ }
+    ensures { λ x. ⌜ Did T.Step.changeLeader row (lent (now (store .entry)) (now (list .entry))) x (lent (now (store .exit)) (now (list .exit))) ⌝ }
 {
     step(
         row,
@@ -185,7 +192,7 @@ pub fn change(row: Cluster, store: &mut [u32], list: &mut [u32]) -> Outcome
 
 // Step 6, b takes news.
 pub fn refresh(row: Cluster, store: &mut [u32], list: &mut [u32], b: u8) -> Outcome
-    ensures { λ x. ⌜ Did (T.Step.refresh b) row (now (store .entry)) (now (list .entry)) x (now (store .exit)) (now (list .exit)) ⌝ }
+    ensures { λ x. ⌜ Did (T.Step.refresh b) row (lent (now (store .entry)) (now (list .entry))) x (lent (now (store .exit)) (now (list .exit))) ⌝ }
 {
     step(
         row,
@@ -203,7 +210,7 @@ pub fn refresh(row: Cluster, store: &mut [u32], list: &mut [u32], b: u8) -> Outc
 
 // Step 7, b joins.
 pub fn join(row: Cluster, store: &mut [u32], list: &mut [u32], b: u8) -> Outcome
-    ensures { λ x. ⌜ Did (T.Step.join b) row (now (store .entry)) (now (list .entry)) x (now (store .exit)) (now (list .exit)) ⌝ }
+    ensures { λ x. ⌜ Did (T.Step.join b) row (lent (now (store .entry)) (now (list .entry))) x (lent (now (store .exit)) (now (list .exit))) ⌝ }
 {
     step(
         row,
@@ -221,7 +228,7 @@ pub fn join(row: Cluster, store: &mut [u32], list: &mut [u32], b: u8) -> Outcome
 
 // Step 8, b receives.
 pub fn receive(row: Cluster, store: &mut [u32], list: &mut [u32], b: u8) -> Outcome
-    ensures { λ x. ⌜ Did (T.Step.receive b) row (now (store .entry)) (now (list .entry)) x (now (store .exit)) (now (list .exit)) ⌝ }
+    ensures { λ x. ⌜ Did (T.Step.receive b) row (lent (now (store .entry)) (now (list .entry))) x (lent (now (store .exit)) (now (list .exit))) ⌝ }
 {
     step(
         row,
@@ -239,7 +246,7 @@ pub fn receive(row: Cluster, store: &mut [u32], list: &mut [u32], b: u8) -> Outc
 
 // Step 9, the leader a counts b.
 pub fn acknowledge(row: Cluster, store: &mut [u32], list: &mut [u32], a: u8, b: u8) -> Outcome
-    ensures { λ x. ⌜ Did (T.Step.acknowledge a b) row (now (store .entry)) (now (list .entry)) x (now (store .exit)) (now (list .exit)) ⌝ }
+    ensures { λ x. ⌜ Did (T.Step.acknowledge a b) row (lent (now (store .entry)) (now (list .entry))) x (lent (now (store .exit)) (now (list .exit))) ⌝ }
 {
     step(
         row,
@@ -257,7 +264,7 @@ pub fn acknowledge(row: Cluster, store: &mut [u32], list: &mut [u32], a: u8, b: 
 
 // Step 10, the controller takes news.
 pub fn refresh_controller(row: Cluster, store: &mut [u32], list: &mut [u32]) -> Outcome
-    ensures { λ x. ⌜ Did T.Step.refreshController row (now (store .entry)) (now (list .entry)) x (now (store .exit)) (now (list .exit)) ⌝ }
+    ensures { λ x. ⌜ Did T.Step.refreshController row (lent (now (store .entry)) (now (list .entry))) x (lent (now (store .exit)) (now (list .exit))) ⌝ }
 {
     step(
         row,
@@ -275,7 +282,7 @@ pub fn refresh_controller(row: Cluster, store: &mut [u32], list: &mut [u32]) -> 
 
 // Step 11, the controller reads its leader.
 pub fn read_leader(row: Cluster, store: &mut [u32], list: &mut [u32]) -> Outcome
-    ensures { λ x. ⌜ Did T.Step.readLeader row (now (store .entry)) (now (list .entry)) x (now (store .exit)) (now (list .exit)) ⌝ }
+    ensures { λ x. ⌜ Did T.Step.readLeader row (lent (now (store .entry)) (now (list .entry))) x (lent (now (store .exit)) (now (list .exit))) ⌝ }
 {
     step(
         row,
@@ -293,7 +300,7 @@ pub fn read_leader(row: Cluster, store: &mut [u32], list: &mut [u32]) -> Outcome
 
 // Step 12, the controller reads b.
 pub fn read(row: Cluster, store: &mut [u32], list: &mut [u32], b: u8) -> Outcome
-    ensures { λ x. ⌜ Did (T.Step.read b) row (now (store .entry)) (now (list .entry)) x (now (store .exit)) (now (list .exit)) ⌝ }
+    ensures { λ x. ⌜ Did (T.Step.read b) row (lent (now (store .entry)) (now (list .entry))) x (lent (now (store .exit)) (now (list .exit))) ⌝ }
 {
     step(
         row,
@@ -311,7 +318,7 @@ pub fn read(row: Cluster, store: &mut [u32], list: &mut [u32], b: u8) -> Outcome
 
 // Step 13, set normal.
 pub fn set_normal(row: Cluster, store: &mut [u32], list: &mut [u32]) -> Outcome
-    ensures { λ x. ⌜ Did T.Step.setNormal row (now (store .entry)) (now (list .entry)) x (now (store .exit)) (now (list .exit)) ⌝ }
+    ensures { λ x. ⌜ Did T.Step.setNormal row (lent (now (store .entry)) (now (list .entry))) x (lent (now (store .exit)) (now (list .exit))) ⌝ }
 {
     step(
         row,
@@ -329,7 +336,7 @@ pub fn set_normal(row: Cluster, store: &mut [u32], list: &mut [u32]) -> Outcome
 
 // Step 14, the controller hears b.
 pub fn hear(row: Cluster, store: &mut [u32], list: &mut [u32], b: u8) -> Outcome
-    ensures { λ x. ⌜ Did (T.Step.hear b) row (now (store .entry)) (now (list .entry)) x (now (store .exit)) (now (list .exit)) ⌝ }
+    ensures { λ x. ⌜ Did (T.Step.hear b) row (lent (now (store .entry)) (now (list .entry))) x (lent (now (store .exit)) (now (list .exit))) ⌝ }
 {
     step(
         row,
@@ -347,7 +354,7 @@ pub fn hear(row: Cluster, store: &mut [u32], list: &mut [u32], b: u8) -> Outcome
 
 // Step 15, install b.
 pub fn install(row: Cluster, store: &mut [u32], list: &mut [u32], b: u8) -> Outcome
-    ensures { λ x. ⌜ Did (T.Step.install b) row (now (store .entry)) (now (list .entry)) x (now (store .exit)) (now (list .exit)) ⌝ }
+    ensures { λ x. ⌜ Did (T.Step.install b) row (lent (now (store .entry)) (now (list .entry))) x (lent (now (store .exit)) (now (list .exit))) ⌝ }
 {
     step(
         row,
@@ -366,15 +373,10 @@ pub fn install(row: Cluster, store: &mut [u32], list: &mut [u32], b: u8) -> Outc
 // The shown list: a part of the store or of the list, not a copy (the promise says where it begins); an empty part of the list where
 // refusal 1 turns the row or the lent lengths away.
 pub fn visible<'a>(row: Cluster, store: &'a [u32], list: &'a [u32]) -> &'a [u32]
-    ensures { λ r. ⌜ (now r ≡ shown row (now (store .entry)) (now (list .entry))) × (ptr r ≡ shownAt row (now (store .entry)) (now (list .entry)) (ptr (store .entry)) (ptr (list .entry))) ⌝ }
+    ensures { λ r. ⌜ (now r ≡ shown row (lent (now (store .entry)) (now (list .entry))))
+        × (ptr r ≡ shownAt row (lent (now (store .entry)) (now (list .entry))) (ptr (store .entry)) (ptr (list .entry))) ⌝ }
 {
-    if store.len() != 4096 {
-        return &list[0..0];
-    }
-    if list.len() != 512 {
-        return &list[0..0];
-    }
-    if !cluster::ranges::in_range(row) {
+    if !fits(row, store, list) {
         return &list[0..0];
     }
     let g = row.registry;
@@ -385,8 +387,8 @@ pub fn visible<'a>(row: Cluster, store: &'a [u32], list: &'a [u32]) -> &'a [u32]
     logstore::visible(store, list, v.leader, n, row.issued)
 }
 
-// Demand 3 about the calls: for every opening and every list of records, whatever the lent places held before. Nothing to
-// run: the promise is the statement.
+// Demand 3 about the calls: for every opening and every list of calls, by record or by name, whatever the lent places held before.
+// Nothing to run: the promise is the statement.
 pub fn claim()
-    ensures { λ r. ⌜ CallsSafe ⌝ }
+    ensures { λ r. ⌜ CallsSafe × NamesHold ⌝ }
 {}

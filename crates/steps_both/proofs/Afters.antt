@@ -4,7 +4,6 @@ use mathlib.Core.Path.{_≡_, ap, _∙_}
 use Prim.Native.Nat.{ℕ, suc}
 use lib.Dec.{T, ltb}
 use lib.ListN.{replicate}
-use Rattle.model.specs.State as M
 use Rattle.model.specs.Steps.{deaf}
 use Rattle.cluster.specs.declared.View.{View}
 use Rattle.cluster.specs.declared.Status.{Status}

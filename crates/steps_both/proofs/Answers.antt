@@ -7,7 +7,7 @@ use Prim.Native.Nat.{ℕ, _-_}
 use lib.ListN.{getD}
 use Rattle.model.specs.Prelude.{firstFailed}
 use Rattle.model.specs.Members.{isReplica, hasQuorum}
-use Rattle.model.specs.State.{State, outline}
+use Rattle.model.specs.State.{RowState, outline}
 use Rattle.model.specs.Steps.{setNormal, install, answerOf, heardEnough, rankedNotAbove}
 use Rattle.model.proofs.Tests.{of-true}
 use Rattle.members.specs.Mask.{bits, under}
@@ -24,7 +24,7 @@ module _ (r : Registry) (c : Controller) where
   -- low is what is heard of the leader.
   pub set-normal-answer : (low q : ℕ) → low ≡ at 0 (c .heard) (c .view .leader)
       → bits q ≡ under 9 (longEnough (c .heard) low)
-      → (s : State ℕ)
+      → (s : RowState)
       → firstFailed (setNormalChecks r (c .view) (c .stage) q) ≡ answerOf (outline (bothIn r c s)) setNormal
   unfolding longEnough
   set-normal-answer low q el eq s =
@@ -42,7 +42,7 @@ module _ (r : Registry) (c : Controller) where
     found t heard = at-seat 0 heard b k seat (of-true t)
 
     pub install-answer : bits q ≡ under 9 (notAbove (c .heard) (c .joined) (heardAt (c .heard)) (heardAt (c .joined)))
-        → (s : State ℕ)
+        → (s : RowState)
         → firstFailed (installChecks r (c .view) (c .stage) (heardAt (c .heard)) q k b)
         ≡ answerOf (outline (bothIn r c s)) (install b)
     unfolding notAbove

@@ -59,17 +59,17 @@ module _ (b m : ℕ) (e : bits m ≡ only b) where
     issued = 0;
   }
 
-  first-view : viewOf first ≡ M.firstView b
+  first-view : viewOf first ≡ M.firstView (M.openingWith b)
   first-view i = record { epoch = 1; term = 1; leader = b; members = e i }
 
-  views : (λ x. viewOf (at noView (replicate 8 first) x)) ≡ M.opened {E = ℕ} b .view
+  views : (λ x. viewOf (at noView (replicate 8 first) x)) ≡ M.opened {E = M.Entry} (M.openingWith b) .view
   views = fun-ext (λ x. ap viewOf (at-all noView first x) ∙ go (isReplica x))
     where
-      go : (t : Bool) → viewOf (cond t first noView) ≡ cond t (M.firstView b) M.noView
+      go : (t : Bool) → viewOf (cond t first noView) ≡ cond t (M.firstView (M.openingWith b)) M.noView
       go true = first-view
       go false = λ i. record { epoch = 0; term = 0; leader = 0; members = bits-none i }
 
-  outlined : outlineOf openRow ≡ M.outline {E = ℕ} (M.opened b)
+  outlined : outlineOf openRow ≡ M.outline {E = M.Entry} (M.opened (M.openingWith b))
   outlined i = record {
     registry = record { view = first-view i; status = M.normal };
     controller = record { view = first-view i; stage = M.idle; heard = none-heard i; heardJoined = none-heard i };
@@ -80,16 +80,16 @@ module _ (b m : ℕ) (e : bits m ≡ only b) where
     issued = 0;
   }
 
-  pub opened-with : OpenedWith b openRow
+  pub opened-with : OpenedWith (M.openingWith b) openRow
   opened-with = record {
-    state = λ store list i. record {
+    state = λ p i. record {
       registry = outlined i .registry;
       controller = outlined i .controller;
       view = outlined i .view;
       joined = outlined i .joined;
       acked = outlined i .acked;
-      log = λ x. logOf store x (none-heard i x);
-      committed = take 0 list;
+      log = λ x. logOf (p .store) x (none-heard i x);
+      committed = take 0 (p .list);
     };
     outline = outlined;
   }
@@ -103,5 +103,10 @@ module _ (b k : ℕ) (e : k ≡ cond (isReplica b) b 1) where
       go true h = replica-range b h
       go false h = (omega arith, omega arith)
 
-  pub opens : (n : ℕ) (row : Cluster) → n ≡ M.openAnswer b → OpenedWith k row → Opens b (record { answer = n; row = row })
-  opens n row a o = record { answer = a; row = subst (λ j. OpenedWith j row) e o }
+  pub opens : (n : ℕ) (row : Cluster) → n ≡ M.openAnswer (M.openingWith b) → OpenedWith (M.openingWith k) row
+      → Opens (M.openingWith b) (record { answer = n; row = row })
+  opens n row a o = record { answer = a; row = subst (λ p. OpenedWith p row) (ap M.openingWith e ∙ by-board (isReplica b)) o }
+    where
+      by-board : (t : Bool) → M.openingWith (cond t b 1) ≡ cond t (M.openingWith b) (M.openingWith 1)
+      by-board true = refl
+      by-board false = refl

@@ -2,6 +2,7 @@ ghost use mathlib.Core.Path.{_≡_};
 ghost use mathlib.Core.List.{List};
 ghost use Prim.Native.Nat.{ℕ, _≤_};
 ghost use lib.ListN.{length};
+ghost use Rattle.model.specs.State as M;
 ghost use Rattle.model.specs.Steps as T;
 ghost use Rattle.cluster.specs.declared.View.{View};
 ghost use Rattle.refinement.specs.Memory.{Short, HasLeader, Governs};
@@ -26,7 +27,7 @@ use cluster::seat;
 // The row opened with the replica b.
 fn opened(b: u8) -> Cluster
     requires { ⌜ (1 ≤ b) × (b ≤ 8) ⌝ }
-    ensures { λ x. ⌜ OpenedWith b x ⌝ }
+    ensures { λ x. ⌜ OpenedWith (M.openingWith b) x ⌝ }
 {
     let m = members::single(b);
     let v = View {
@@ -58,7 +59,7 @@ fn opened(b: u8) -> Cluster
 
 // The opening call. With a number that is no replica: answer 1, and the row opened with replica 1.
 pub fn opening(b: u8) -> Outcome
-    ensures { λ x. ⌜ Opens b x ⌝ }
+    ensures { λ x. ⌜ Opens (M.openingWith b) x ⌝ }
 {
     let t = replica(b);
     let k = check(t, b, 1);

@@ -7,7 +7,7 @@ use lib.Dec.{eqb→eq}
 use lib.ListN.{length, set, replicate}
 use Rattle.model.specs.Members.{isReplica}
 use Rattle.model.specs.State as M
-use Rattle.model.specs.State.{State, values}
+use Rattle.model.specs.State.{RowState, entries}
 use Rattle.model.specs.Steps.{Step, refreshController, readLeader, read, hear, next, heardOf}
 use Rattle.model.proofs.Tests.{Holds, is-true}
 use Rattle.cluster.specs.declared.Stage.{Stage}
@@ -21,12 +21,12 @@ use Rattle.steps_controller.specs.Checks.{readLeaderChecks, readChecks, 
 use Rattle.steps_controller.specs.Known.{RegistryKnown, LeaderKnown, ReadKnown, HearKnown}
 
 -- The model's controller after an accepted step in a state with the controller c.
-abbrev after : Controller → State ℕ → Step → M.Controller
-after c s st = next values (controllerIn c s) st .controller
+abbrev after : Controller → RowState → Step → M.Controller
+after c s st = next entries (controllerIn c s) st .controller
 
 -- Step 10.
 pub refresh-controller-after : (c : Controller) (r : Registry) (g : Stage)
-    → stageOf g ≡ M.stageFor (statusOf (r .status)) → (s : State ℕ) → RegistryKnown r s
+    → stageOf g ≡ M.stageFor (statusOf (r .status)) → (s : RowState) → RegistryKnown r s
     → controllerOf (record { view = r .view; stage = g; heard = replicate 8 0; joined = replicate 8 0 })
     ≡ after c s refreshController
 refresh-controller-after c r g e s known = deaf-of (r .view) g ∙ rw (known, e)
@@ -40,21 +40,21 @@ module _ (c d : Controller) (b k n : ℕ) (seat : isReplica b ≡ true → k ≡
 module _ (c d : Controller) (k n : ℕ) where
   pub read-leader-after : (e : ℕ) → HasLeader c → (isReplica (c .view .leader) ≡ true → k ≡ c .view .leader)
       → controllerOf d ≡ heardOf (controllerOf c) M.boards k n 0 → Holds (readLeaderChecks (c .view) (c .stage) e)
-      → (s : State ℕ) → LeaderKnown c e n s → controllerOf d ≡ after c s readLeader
+      → (s : RowState) → LeaderKnown c e n s → controllerOf d ≡ after c s readLeader
   read-leader-after e has seat left h s known =
       let leading = eqb→eq (M.stageNumber (stageOf (c .stage))) 1 (h 15) in
       heard-after c d (c .view .leader) k n seat M.boards 0 left (has leading) _ 0 (known leading .1) refl
 
   module _ (b : ℕ) (seat : isReplica b ≡ true → k ≡ b) where
     pub read-after : (heard j : ℕ) → controllerOf d ≡ heardOf (controllerOf c) (stageOf (c .stage)) k n 0
-        → Holds (readChecks (c .view) (c .stage) heard j n k b) → (s : State ℕ) → ReadKnown b j n s
+        → Holds (readChecks (c .view) (c .stage) heard j n k b) → (s : RowState) → ReadKnown b j n s
         → controllerOf d ≡ after c s (read b)
     read-after heard j left h s known =
         let one = is-true (isReplica b) (h 1) in
         heard-after c d b k n seat (stageOf (c .stage)) 0 left one _ 0 (known one .1) refl
 
     pub hear-after : (heard e j : ℕ) → controllerOf d ≡ heardOf (controllerOf c) (stageOf (c .stage)) k n j
-        → Holds (hearChecks (c .view) (c .stage) heard e n k b) → (s : State ℕ) → HearKnown b e j n s
+        → Holds (hearChecks (c .view) (c .stage) heard e n k b) → (s : RowState) → HearKnown b e j n s
         → controllerOf d ≡ after c s (hear b)
     hear-after heard e j left h s known =
         let one = is-true (isReplica b) (h 1) in

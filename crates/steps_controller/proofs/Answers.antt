@@ -8,7 +8,7 @@ use lib.ListN.{getD}
 use borrow.Author.Tests.{eqb-true}
 use Rattle.model.specs.Prelude.{firstFailed}
 use Rattle.model.specs.Members.{isReplica}
-use Rattle.model.specs.State.{State, outline, stageNumber}
+use Rattle.model.specs.State.{RowState, outline, stageNumber}
 use Rattle.model.specs.Steps.{refreshController, readLeader, read, hear, answerOf}
 use Rattle.model.proofs.Tests.{of-true}
 use Rattle.cluster.specs.declared.Registry.{Registry}
@@ -20,12 +20,12 @@ use Rattle.steps_controller.specs.Checks.{refreshControllerChecks, readL
 use Rattle.steps_controller.specs.Known.{RegistryKnown, LeaderKnown, ReadKnown, HearKnown}
 
 module _ (c : Controller) where
-  pub refresh-controller-answer : (r : Registry) (s : State ℕ) → RegistryKnown r s
+  pub refresh-controller-answer : (r : Registry) (s : RowState) → RegistryKnown r s
       → firstFailed (refreshControllerChecks (c .view) (r .view))
       ≡ answerOf (outline (controllerIn c s)) refreshController
   refresh-controller-answer r s known = rw known
 
-  pub read-leader-answer : (e n : ℕ) (s : State ℕ) → LeaderKnown c e n s
+  pub read-leader-answer : (e n : ℕ) (s : RowState) → LeaderKnown c e n s
       → firstFailed (readLeaderChecks (c .view) (c .stage) e) ≡ answerOf (outline (controllerIn c s)) readLeader
   read-leader-answer e n s known =
       let stage = stageNumber (stageOf (c .stage)) in
@@ -39,10 +39,10 @@ module _ (c : Controller) where
     found : isReplica b ≡ true → heard ≡ at 0 (c .heard) b
     found t = at-seat 0 (c .heard) b k seat (of-true t)
 
-    pub read-answer : (j : ℕ) (s : State ℕ) → ReadKnown b j n s
+    pub read-answer : (j : ℕ) (s : RowState) → ReadKnown b j n s
         → firstFailed (readChecks (c .view) (c .stage) heard j n k b) ≡ answerOf (outline (controllerIn c s)) (read b)
     read-answer j s known = guarded (isReplica b) _ _ 1 (λ t. let f = known t in rw (found t, f .0, f .1, seat t))
 
-    pub hear-answer : (e j : ℕ) (s : State ℕ) → HearKnown b e j n s
+    pub hear-answer : (e j : ℕ) (s : RowState) → HearKnown b e j n s
         → firstFailed (hearChecks (c .view) (c .stage) heard e n k b) ≡ answerOf (outline (controllerIn c s)) (hear b)
     hear-answer e j s known = guarded (isReplica b) _ _ 1 (λ t. let f = known t in rw (found t, f .0, f .2, seat t))

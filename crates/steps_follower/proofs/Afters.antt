@@ -9,7 +9,7 @@ use lib.ListN.{length, getD, set}
 use Rattle.model.specs.Prelude.{upd}
 use Rattle.model.specs.Members.{isReplica}
 use Rattle.model.specs.State as M
-use Rattle.model.specs.State.{values}
+use Rattle.model.specs.State.{entries}
 use Rattle.model.specs.Steps.{refresh, join, receive, checks, accepted, next, shared}
 use Rattle.model.proofs.Tests.{facts, upd-idle, is-true, of-true}
 use Rattle.model.proofs.Quorum.{replica-range}
@@ -19,7 +19,7 @@ use Rattle.cluster.specs.declared.View.{View}
 use Rattle.cluster.specs.declared.Cluster.{Cluster}
 use Rattle.cluster.specs.Layout.{viewOf, at, atPair, noView, outlineOf}
 use Rattle.cluster.proofs.Laws.{at-index, at-set}
-use Rattle.refinement.specs.Memory.{abs}
+use Rattle.refinement.specs.Memory.{Places, lent, Full, abs, Short}
 use Rattle.refinement.proofs.Turning.{log-len, at-seat, logs-set, logs-grow}
 use Rattle.steps_follower.proofs.Answers.{leader-seat}
 
@@ -45,7 +45,9 @@ receive-place row b k hk v ev l hl small store t =
     let h = facts (checks (outlineOf row) (receive b)) (of-true t) in
     rw (at-seat 0 (row .len) b k hk (h 1), leader-seat row b k hk v ev l hl small (h 1) (h 9) .1, hk (is-true (isReplica b) (h 1)))
 
-module _ (row : Cluster) (eight : length (row .len) ≡ 8) (short : (b : ℕ) → at 0 (row .len) b ≤ 512) (store list : List ℕ) (full : length store ≡ 4096) where
+module _ (row : Cluster) (short : Short (row .len)) (p : Places) (full : Full p) where
+  open Places p using (store, list)
+
   -- Step 6.
   pub refresh-after : (b k j n : ℕ) (v : View) (acked : List ℕ) → (isReplica b ≡ true → k ≡ b) → v ≡ getD (row .views) (k - 1) noView → n ≡ getD (row .len) (k - 1) 0 → length (row .views) ≡ 8 → length (row .joined) ≡ 8
       → j ≡ cond (not (eqb (v .term) (row .registry .view .term)) && eqb (row .registry .view .leader) k) (row .registry .view .term) (getD (row .joined) (k - 1) 0)
@@ -59,8 +61,8 @@ module _ (row : Cluster) (eight : length (row .len) ≡ 8) (short : (b : ℕ) �
         acked = acked;
         len = row .len;
         issued = row .issued;
-      }) store list
-      ≡ next values (abs row store list) (refresh b)
+      }) p
+      ≡ next entries (abs row p) (refresh b)
   refresh-after b k j n v acked hk ev en lv lj ej ea t =
       let h = facts (checks (outlineOf row) (refresh b)) (of-true t) in
       let r = replica-range b (h 1) in
@@ -69,19 +71,19 @@ module _ (row : Cluster) (eight : length (row .len) ≡ 8) (short : (b : ℕ) �
       let views : (λ x. viewOf (at noView (set (row .views) (k - 1) (row .registry .view)) x)) ≡ upd (λ x. viewOf (at noView (row .views) x)) b (viewOf (row .registry .view)) =
       rw q (fun-ext (λ x. ap (λ f. viewOf (f x)) (at-set noView (row .views) b (row .registry .view) (r .0) (r .1) lv) ∙ cond-ap viewOf (eqb x b) (row .registry .view) (at noView (row .views) x))) in
       let nj : getD (row .joined) (b - 1) 0 ≡ at 0 (row .joined) b = sym (at-index 0 (row .joined) b (r .0)) in
-      let nb : getD (row .len) (b - 1) 0 ≡ length (logOf store b (at 0 (row .len) b)) = sym (log-len store full (row .len) eight short b ∙ at-index 0 (row .len) b (r .0)) in
-      let joined : at 0 (set (row .joined) (k - 1) j) ≡ next values (abs row store list) (refresh b) .joined =
+      let nb : getD (row .len) (b - 1) 0 ≡ length (logOf store b (at 0 (row .len) b)) = sym (log-len store (full .store) (row .len) short b ∙ at-index 0 (row .len) b (r .0)) in
+      let joined : at 0 (set (row .joined) (k - 1) j) ≡ next entries (abs row p) (refresh b) .joined =
       rw (ej, ev, q, vb, nj) (at-set 0 (row .joined) b _ (r .0) (r .1) lj) in
-      let counts : atPair acked ≡ next values (abs row store list) (refresh b) .acked =
+      let counts : atPair acked ≡ next entries (abs row p) (refresh b) .acked =
       ea ∙ rw (ev, en, q, vb, nb) (upd-cond (atPair (row .acked)) b (not (eqb (at noView (row .views) b .term) (row .registry .view .term))) (upd M.zeros b (length (logOf store b (at 0 (row .len) b))))) in
       λ i. record {
-        registry = abs row store list .registry;
-        controller = abs row store list .controller;
+        registry = abs row p .registry;
+        controller = abs row p .controller;
         view = views i;
         joined = joined i;
         acked = counts i;
-        log = abs row store list .log;
-        committed = abs row store list .committed;
+        log = abs row p .log;
+        committed = abs row p .committed;
       }
 
   -- Step 7.
@@ -97,8 +99,8 @@ module _ (row : Cluster) (eight : length (row .len) ≡ 8) (short : (b : ℕ) �
         acked = row .acked;
         len = set (row .len) (k - 1) n;
         issued = row .issued;
-      }) store list
-      ≡ next values (abs row store list) (join b)
+      }) p
+      ≡ next entries (abs row p) (join b)
   join-after b k l n v hk lj ev hl small en t =
       let h = facts (checks (outlineOf row) (join b)) (of-true t) in
       let r = replica-range b (h 1) in
@@ -114,15 +116,15 @@ module _ (row : Cluster) (eight : length (row .len) ≡ 8) (short : (b : ℕ) �
       let joined : at 0 (set (row .joined) (k - 1) (v .term)) ≡ upd (at 0 (row .joined)) b (at noView (row .views) b .term) =
       rw (ev, q, vb) (at-set 0 (row .joined) b (at noView (row .views) b .term) (r .0) (r .1) lj) in
       let logs : (λ x. logOf store x (at 0 (set (row .len) (k - 1) n) x)) ≡ upd (λ x. logOf store x (at 0 (row .len) x)) b (shared eqb (logOf store b m) other) =
-      rw q (logs-set (row .len) eight short b n (r .0) (r .1) store store (λ _ _ _. refl)) ∙ ap (upd (λ x. logOf store x (at 0 (row .len) x)) b) (ap (logOf store b) en′ ∙ log-joins store full b (r .0) (r .1) m other (short b)) in
+      rw q (logs-set (row .len) short b n (r .0) (r .1) store store (λ _ _ _. refl)) ∙ ap (upd (λ x. logOf store x (at 0 (row .len) x)) b) (ap (logOf store b) en′ ∙ log-joins store (full .store) b (r .0) (r .1) m other (short .most b)) in
       λ j. record {
-        registry = abs row store list .registry;
-        controller = abs row store list .controller;
-        view = abs row store list .view;
+        registry = abs row p .registry;
+        controller = abs row p .controller;
+        view = abs row p .view;
         joined = joined j;
-        acked = abs row store list .acked;
+        acked = abs row p .acked;
         log = logs j;
-        committed = abs row store list .committed;
+        committed = abs row p .committed;
       }
 
   -- Step 8.
@@ -138,8 +140,8 @@ module _ (row : Cluster) (eight : length (row .len) ≡ 8) (short : (b : ℕ) �
         acked = row .acked;
         len = set (row .len) (k - 1) (getD (row .len) (k - 1) 0 + 1);
         issued = row .issued;
-      }) store′ list
-      ≡ next values (abs row store list) (receive b)
+      }) (lent store′ list)
+      ≡ next entries (abs row p) (receive b)
   receive-after b k l v hk ev hl small store′ es t =
       let h = facts (checks (outlineOf row) (receive b)) (of-true t) in
       let r = replica-range b (h 1) in
@@ -149,15 +151,15 @@ module _ (row : Cluster) (eight : length (row .len) ≡ 8) (short : (b : ℕ) �
       let nb : getD (row .len) (b - 1) 0 ≡ n = sym (at-index 0 (row .len) b (r .0)) in
       let lt = ltb→lt n (at 0 (row .len) o) (h 12) in
       let e : getD store (place o n) 0 ≡ getD (logOf store o (at 0 (row .len) o)) (length (logOf store b n)) 0 =
-      sym (log-entry store o (at 0 (row .len) o) n lt) ∙ ap (λ x. getD (logOf store o (at 0 (row .len) o)) x 0) (sym (log-len store full (row .len) eight short b)) in
+      sym (log-entry store o (at 0 (row .len) o) n lt) ∙ ap (λ x. getD (logOf store o (at 0 (row .len) o)) x 0) (sym (log-len store (full .store) (row .len) short b)) in
       let logs : (λ x. logOf store′ x (at 0 (set (row .len) (k - 1) (getD (row .len) (k - 1) 0 + 1)) x)) ≡ upd (λ x. logOf store x (at 0 (row .len) x)) b (logOf store b n ++ (getD (logOf store o (at 0 (row .len) o)) (length (logOf store b n)) 0 ∷ [])) =
-      rw (es ∙ receive-place row b k hk v ev l hl small store t, q, nb) (logs-grow (row .len) eight short store full b _ (r .0) (r .1) (omega (arith, lt, short o))) ∙ ap (λ x. upd (λ x. logOf store x (at 0 (row .len) x)) b (logOf store b n ++ (x ∷ []))) e in
+      rw (es ∙ receive-place row b k hk v ev l hl small store t, q, nb) (logs-grow (row .len) short store (full .store) b _ (r .0) (r .1) (omega (arith, lt, short .most o))) ∙ ap (λ x. upd (λ x. logOf store x (at 0 (row .len) x)) b (logOf store b n ++ (x ∷ []))) e in
       λ j. record {
-        registry = abs row store list .registry;
-        controller = abs row store list .controller;
-        view = abs row store list .view;
-        joined = abs row store list .joined;
-        acked = abs row store list .acked;
+        registry = abs row p .registry;
+        controller = abs row p .controller;
+        view = abs row p .view;
+        joined = abs row p .joined;
+        acked = abs row p .acked;
         log = logs j;
-        committed = abs row store list .committed;
+        committed = abs row p .committed;
       }

@@ -12,7 +12,7 @@ ghost use Rattle.cluster.specs.declared.Registry.{Registry};
 ghost use Rattle.cluster.specs.declared.Controller.{Controller};
 ghost use Rattle.cluster.specs.declared.Status.{Status};
 ghost use Rattle.cluster.specs.Layout.{atPair};
-ghost use Rattle.refinement.specs.Memory.{rowOf, Short, Led, Leaves};
+ghost use Rattle.refinement.specs.Memory.{Places, lent, Full, rowOf, Short, Led, Leaves};
 ghost use Rattle.steps_follower.specs.Checks.{refreshChecks, joinChecks, receiveChecks};
 use cluster::View;
 use cluster::check;
@@ -92,7 +92,12 @@ pub fn refresh(
     b: u8,
 ) -> Taken
     requires { ⌜ (length (now joined) ≡ 8) × (length (now acked) ≡ 64) × Short (now len) ⌝ }
-    ensures { λ x. ⌜ (x .place < 8) × ((s : Status) (c : Controller) (issued : ℕ) (store list : List ℕ) → issued ≤ 512 → length store ≡ 4096 → length list ≡ 512 → Leaves (T.Step.refresh b) (rowOf (record { view = w; status = s }) c views (now (joined .entry)) (now (acked .entry)) (now (len .entry)) issued) store list (x .answer) (rowOf (record { view = w; status = s }) c (set views (x .place) (x .view)) (now (joined .exit)) (now (acked .exit)) (now (len .entry)) issued) store list) ⌝ }
+    ensures { λ x. ⌜ (x .place < 8) × (
+        (s : Status) (c : Controller) (issued : ℕ) (p : Places) → issued ≤ 512 → Full p
+        → Leaves (T.Step.refresh b)
+        (rowOf (record { view = w; status = s }) c views (now (joined .entry)) (now (acked .entry)) (now (len .entry)) issued) p
+        (x .answer) (rowOf (record { view = w; status = s }) c (set views (x .place) (x .view)) (now (joined .exit)) (now (acked .exit)) (now (len .entry)) issued) p
+        ) ⌝ }
 {
     let k = seat(b);
     let i = (k - 1) as usize;
@@ -138,7 +143,13 @@ fn may_join(v: View, w: View, j: u16, k: u8, b: u8) -> u8
 // Step 7, b joins. Inner layer: callers see to the lengths and the leaders.
 pub fn join(views: [View; 8], joined: &mut [u16], len: &mut [u16], store: &[u32], b: u8) -> u8
     requires { ⌜ Led views × (length (now joined) ≡ 8) × Short (now len) × (length (now store) ≡ 4096) ⌝ }
-    ensures { λ x. ⌜ ((g : Registry) (c : Controller) (acked : List ℕ) (issued : ℕ) (list : List ℕ) → issued ≤ 512 → length list ≡ 512 → Leaves (T.Step.join b) (rowOf g c views (now (joined .entry)) acked (now (len .entry)) issued) (now (store .entry)) list x (rowOf g c views (now (joined .exit)) acked (now (len .exit)) issued) (now (store .entry)) list) ⌝ }
+    ensures { λ x. ⌜ (
+        (g : Registry) (c : Controller) (acked : List ℕ) (issued : ℕ) (list : List ℕ) → issued ≤ 512
+        → Full (lent (now (store .entry)) list)
+        → Leaves (T.Step.join b)
+        (rowOf g c views (now (joined .entry)) acked (now (len .entry)) issued) (lent (now (store .entry)) list)
+        x (rowOf g c views (now (joined .exit)) acked (now (len .exit)) issued) (lent (now (store .entry)) list)
+        ) ⌝ }
 {
     let k = seat(b);
     let i = (k - 1) as usize;
@@ -183,7 +194,13 @@ fn may_receive(v: View, w: View, j: u16, n: u16, o: u16, k: u8, b: u8) -> u8
 // Step 8, b receives. Inner layer: callers see to the lengths and the leaders.
 pub fn receive(views: [View; 8], joined: &[u16], len: &mut [u16], store: &mut [u32], b: u8) -> u8
     requires { ⌜ Led views × (length (now joined) ≡ 8) × Short (now len) × (length (now store) ≡ 4096) ⌝ }
-    ensures { λ x. ⌜ ((g : Registry) (c : Controller) (acked : List ℕ) (issued : ℕ) (list : List ℕ) → issued ≤ 512 → length list ≡ 512 → Leaves (T.Step.receive b) (rowOf g c views (now (joined .entry)) acked (now (len .entry)) issued) (now (store .entry)) list x (rowOf g c views (now (joined .entry)) acked (now (len .exit)) issued) (now (store .exit)) list) ⌝ }
+    ensures { λ x. ⌜ (
+        (g : Registry) (c : Controller) (acked : List ℕ) (issued : ℕ) (list : List ℕ) → issued ≤ 512
+        → Full (lent (now (store .entry)) list)
+        → Leaves (T.Step.receive b)
+        (rowOf g c views (now (joined .entry)) acked (now (len .entry)) issued) (lent (now (store .entry)) list)
+        x (rowOf g c views (now (joined .entry)) acked (now (len .exit)) issued) (lent (now (store .exit)) list)
+        ) ⌝ }
 {
     let k = seat(b);
     let i = (k - 1) as usize;

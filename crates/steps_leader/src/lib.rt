@@ -11,7 +11,7 @@ ghost use Rattle.members.specs.Mask.{bits, under};
 ghost use Rattle.cluster.specs.declared.Registry.{Registry};
 ghost use Rattle.cluster.specs.declared.Controller.{Controller};
 ghost use Rattle.cluster.specs.Layout.{atPair};
-ghost use Rattle.refinement.specs.Memory.{rowOf, Short, Leaves};
+ghost use Rattle.refinement.specs.Memory.{Places, lent, Full, rowOf, Short, Leaves};
 ghost use Rattle.steps_leader.specs.Checks.{appendChecks, commitChecks, acknowledgeChecks};
 use cluster::View;
 use cluster::check;
@@ -50,7 +50,13 @@ pub fn append(
     value: u32,
 ) -> u8
     requires { ⌜ (length (now acked) ≡ 64) × Short (now len) × (length (now store) ≡ 4096) ⌝ }
-    ensures { λ x. ⌜ ((g : Registry) (c : Controller) (joined : List ℕ) (issued : ℕ) (list : List ℕ) → issued ≤ 512 → length list ≡ 512 → Leaves (T.Step.append b value) (rowOf g c views joined (now (acked .entry)) (now (len .entry)) issued) (now (store .entry)) list x (rowOf g c views joined (now (acked .exit)) (now (len .exit)) issued) (now (store .exit)) list) ⌝ }
+    ensures { λ x. ⌜ (
+        (g : Registry) (c : Controller) (joined : List ℕ) (issued : ℕ) (list : List ℕ) → issued ≤ 512
+        → Full (lent (now (store .entry)) list)
+        → Leaves (T.Step.append b value)
+        (rowOf g c views joined (now (acked .entry)) (now (len .entry)) issued) (lent (now (store .entry)) list)
+        x (rowOf g c views joined (now (acked .exit)) (now (len .exit)) issued) (lent (now (store .exit)) list)
+        ) ⌝ }
 {
     let k = seat(b);
     let i = (k - 1) as usize;
@@ -110,8 +116,13 @@ pub fn commit(
     list: &mut [u32],
     b: u8,
 ) -> Given
-    requires { ⌜ (issued ≤ 512) × (length (now acked) ≡ 64) × Short (now len) × (length (now store) ≡ 4096) × (length (now list) ≡ 512) ⌝ }
-    ensures { λ x. ⌜ ((g : Registry) (c : Controller) (joined : List ℕ) → Leaves (T.Step.commit b) (rowOf g c views joined (now (acked .entry)) (now (len .entry)) issued) (now (store .entry)) (now (list .entry)) (x .answer) (rowOf g c views joined (now (acked .entry)) (now (len .entry)) (x .issued)) (now (store .entry)) (now (list .exit))) ⌝ }
+    requires { ⌜ (issued ≤ 512) × (length (now acked) ≡ 64) × Short (now len) × Full (lent (now store) (now list)) ⌝ }
+    ensures { λ x. ⌜ (
+        (g : Registry) (c : Controller) (joined : List ℕ)
+        → Leaves (T.Step.commit b)
+        (rowOf g c views joined (now (acked .entry)) (now (len .entry)) issued) (lent (now (store .entry)) (now (list .entry)))
+        (x .answer) (rowOf g c views joined (now (acked .entry)) (now (len .entry)) (x .issued)) (lent (now (store .entry)) (now (list .exit)))
+        ) ⌝ }
 {
     let k = seat(b);
     let v = view(views, k);
@@ -163,7 +174,12 @@ pub fn acknowledge(
     b: u8,
 ) -> u8
     requires { ⌜ (length (now joined) ≡ 8) × (length (now acked) ≡ 64) × Short (now len) ⌝ }
-    ensures { λ x. ⌜ ((g : Registry) (c : Controller) (issued : ℕ) (store list : List ℕ) → issued ≤ 512 → length store ≡ 4096 → length list ≡ 512 → Leaves (T.Step.acknowledge a b) (rowOf g c views (now (joined .entry)) (now (acked .entry)) (now (len .entry)) issued) store list x (rowOf g c views (now (joined .entry)) (now (acked .exit)) (now (len .entry)) issued) store list) ⌝ }
+    ensures { λ x. ⌜ (
+        (g : Registry) (c : Controller) (issued : ℕ) (p : Places) → issued ≤ 512 → Full p
+        → Leaves (T.Step.acknowledge a b)
+        (rowOf g c views (now (joined .entry)) (now (acked .entry)) (now (len .entry)) issued) p
+        x (rowOf g c views (now (joined .entry)) (now (acked .exit)) (now (len .entry)) issued) p
+        ) ⌝ }
 {
     let h = seat(a);
     let k = seat(b);

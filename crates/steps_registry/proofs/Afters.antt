@@ -6,7 +6,7 @@ use lib.Dec.{T, ltb, eqb}
 use Rattle.model.specs.Prelude.{upd}
 use Rattle.model.specs.Members.{isReplica, size}
 use Rattle.model.specs.State as M
-use Rattle.model.specs.State.{State, values}
+use Rattle.model.specs.State.{RowState, entries}
 use Rattle.model.specs.Steps.{changeLeader, next, added, removed}
 use Rattle.model.proofs.Tests.{Holds, is-true}
 use Rattle.members.specs.Mask.{bits}
@@ -57,6 +57,6 @@ module _ (r : Registry) (e : ℕ)
   -- Step 5: m are left.
   pub change-after : (m : ℕ) (r′ : Registry) → bits m ≡ upd (bits (r .view .members)) (r .view .leader) false
       → registryOf r′ ≡ successionOf e (r .view .term) (bits m) → Holds (changeChecks r)
-      → (s : State ℕ) → registryOf r′ ≡ next values (registryIn r s) changeLeader .registry
+      → (s : RowState) → registryOf r′ ≡ next entries (registryIn r s) changeLeader .registry
   change-after m r′ em e′ h s =
       e′ ∙ ap₂ (λ u l. successionOf u (r .view .term) l) (raise-passed (r .view .epoch) e raised (h 7)) em

@@ -1,8 +1,11 @@
 //! compare [SHEETS [SEED]]
+//! compare --edges DIR
 //!
 //! Holds the proved program to the second one: each sheet goes through the C
 //! entry `run_sheet` in several slices, and the edge sheets and every fourth
 //! random one through the program that RUNSHEET names, over standard input.
+//! With --edges it compares nothing: it writes edge sheet N to DIR/N.sheet, and
+//! what the second program prints of it to DIR/N.printed.
 //!
 //! Exit status: 0 all agree; 1 a sheet differs; 2 bad usage, or the program does
 //! not run; 3 all agree, but something that a run can meet was not met (as may be
@@ -19,6 +22,8 @@ use std::{env, fs, iter};
 
 const SHEETS: u64 = 3000;
 const SEED: u64 = 1;
+/// With fewer random sheets something may not be met.
+const SHEETS_ENOUGH: u64 = 1000;
 /// A process takes longer to start than a sheet to run.
 const PROGRAM_EVERY: u64 = 4;
 
@@ -29,9 +34,20 @@ extern "C" {
 
 fn main() -> ExitCode {
     let args: Vec<String> = env::args().skip(1).collect();
+    if let [edges, dir] = &args[..] {
+        if edges == "--edges" {
+            return match write_edges(Path::new(dir)) {
+                Ok(()) => ExitCode::SUCCESS,
+                Err(error) => {
+                    eprintln!("compare: {error}");
+                    ExitCode::from(2)
+                }
+            };
+        }
+    }
     let number = |n: usize, default| args.get(n).map_or(Ok(default), |arg| arg.parse::<u64>());
     let (Ok(sheets), Ok(seed), 0..=2) = (number(0, SHEETS), number(1, SEED), args.len()) else {
-        eprintln!("usage: compare [SHEETS [SEED]]");
+        eprintln!("usage: compare [SHEETS [SEED]] | --edges DIR");
         return ExitCode::from(2);
     };
     let Some(program) = env::var_os("RUNSHEET") else {
@@ -86,7 +102,27 @@ fn compare(sheets: u64, seed: u64, program: &Path) -> io::Result<u8> {
     for fault in &faults {
         println!("{fault}");
     }
+    if !faults.is_empty() && sheets < SHEETS_ENOUGH {
+        println!(
+            "too few sheets: {sheets} random ones, and with {SHEETS_ENOUGH} all should be met"
+        );
+    }
     Ok(if faults.is_empty() { 0 } else { 3 })
+}
+
+/// Writes the edge sheets, each with what the second program prints.
+fn write_edges(dir: &Path) -> io::Result<()> {
+    fs::create_dir_all(dir)?;
+    for (n, sheet) in generate::edges().iter().enumerate() {
+        fs::write(dir.join(format!("{n}.sheet")), sheet)?;
+        fs::write(dir.join(format!("{n}.printed")), printed_by_peer(sheet))?;
+    }
+    Ok(())
+}
+
+/// What the second program prints.
+fn printed_by_peer(sheet: &[u8]) -> String {
+    peer::list(sheet).unwrap_or_else(|refusal| format!("refused {refusal}\n"))
 }
 
 /// The C entry on two slices.
@@ -149,7 +185,7 @@ fn printed_by(program: &Path, sheet: &[u8]) -> io::Result<Result<(), String>> {
         _ => {}
     }
     let output = child.wait_with_output()?;
-    let expected = peer::list(sheet).unwrap_or_else(|refusal| format!("refused {refusal}\n"));
+    let expected = printed_by_peer(sheet);
     Ok(if output.status.code().is_none() {
         Err(format!("the program ended by {}", output.status))
     } else if output.stdout != expected.as_bytes() {

@@ -3,7 +3,6 @@ use mathlib.Core.Path.{refl}
 use denote.Ref.{now}
 use borrow.Author.Needs.{needs}
 use Rattle.model.specs.Steps.{append, commit, add, remove, changeLeader, refresh, join, receive, acknowledge, refreshController, readLeader, read, setNormal, hear, install}
-use Rattle.refinement.specs.Memory.{Short}
 use Rattle.records.specs.Record.{recordOf}
 use Rattle.dispatch.proofs.Sending.{malformed-leaves, sends-kept, by-board, alone-taken, alone-refused, no-step}
 use Rattle.dispatch.proofs.send.Statement.{statement}
@@ -72,7 +71,7 @@ install-requires c κs = search needs
 returns : tie.Need-returns
 returns c =
     let p = c .before .before .before .before .before .before .before .before .before .pre in
-    rw (c .match .keys1) (sends-kept (malformed-leaves _ (p .0) _ _ (p .1) (p .2)))
+    rw (c .match .keys1) (sends-kept (malformed-leaves _ (p .0) _ (p .1)))
 
 same-length : tie.Need-same-length
 same-length c = search needs
@@ -87,7 +86,7 @@ returns-2 : tie.Need-returns-2
 returns-2 c =
     let a = c .before .before .before .before .before .before .before .before .before .before .before .before .before .before .before .before .before .before .before .before .args in
     let p = c .before .before .before .before .before .before .before .before .before .before .before .before .before .before .before .before .before .before .before .before .pre in
-    rw (c .before .before .before .before .before .before .before .before .before .before .before .match .keys2) (sends-kept (by-board _ _ _ _ _ _ (λ b. append b (a .r .value)) (a .r .board) (a .r .other) (a .r .spare) 0 _ (c .before .before .before .before .before .before .before .before .before .before .board2 .ensures) (λ m. refl) (λ m. refl) (c .before .before .before .before .before .before .append .ensures (a .g) (a .c) (now (a .joined)) (a .issued) (now (a .list)) (p .0 .issued) (p .2))))
+    rw (c .before .before .before .before .before .before .before .before .before .before .before .match .keys2) (sends-kept (by-board _ _ _ _ (λ b. append b (a .r .value)) (a .r .board) (a .r .other) (a .r .spare) 0 _ (c .before .before .before .before .before .before .before .before .before .before .board2 .ensures) (λ m. refl) (λ m. refl) (c .before .before .before .before .before .before .append .ensures (a .g) (a .c) (now (a .joined)) (a .issued) (now (a .list)) (p .0 .issued) (p .1))))
 
 same-length-4 : tie.Need-same-length-4
 same-length-4 c = search needs
@@ -105,34 +104,31 @@ returns-3 : tie.Need-returns-3
 returns-3 c =
     let a = c .before .before .before .before .before .before .before .before .before .before .before .before .before .before .before .before .args in
     let p = c .before .before .before .before .before .before .before .before .before .before .before .before .before .before .before .before .pre in
-    rw (c .before .before .before .before .before .before .before .match .keys3) (sends-kept (by-board _ _ _ _ _ _ commit (a .r .board) (a .r .other) (a .r .spare) (a .r .value) _ (c .before .before .before .before .before .before .before .before .before .before .board .ensures) (λ m. refl) (λ m. refl) (c .before .before .commit .ensures (a .g) (a .c) (now (a .joined)))))
+    rw (c .before .before .before .before .before .before .before .match .keys3) (sends-kept (by-board _ _ _ _ commit (a .r .board) (a .r .other) (a .r .spare) (a .r .value) _ (c .before .before .before .before .before .before .before .before .before .before .board .ensures) (λ m. refl) (λ m. refl) (c .before .before .commit .ensures (a .g) (a .c) (now (a .joined)))))
 
 returns-4 : tie.Need-returns-4
 returns-4 c =
     let a = c .before .before .before .before .before .before .before .before .before .before .args in
     let p = c .before .before .before .before .before .before .before .before .before .before .pre in
-    let s : Short (now (a .len)) = record { eight = p .0 .shape .len; most = p .0 .len } in
-    rw (c .before .match .keys4) (sends-kept (by-board _ _ _ _ _ _ add (a .r .board) (a .r .other) (a .r .spare) (a .r .value) _ (c .before .before .before .before .board .ensures) (λ m. refl) (λ m. refl) (c .add .ensures (a .t3) (now (a .joined)) (now (a .len)) s (now (a .acked)) (a .issued) (now (a .store)) (now (a .list)) (p .0 .issued) (p .1) (p .2))))
+    rw (c .before .match .keys4) (sends-kept (by-board _ _ _ _ add (a .r .board) (a .r .other) (a .r .spare) (a .r .value) _ (c .before .before .before .before .board .ensures) (λ m. refl) (λ m. refl) (c .add .ensures (a .t3) (now (a .joined)) (now (a .len)) (p .0 .short) (now (a .acked)) (a .issued) _ (p .0 .issued) (p .1))))
 
 returns-5 : tie.Need-returns-5
 returns-5 c =
     let a = c .before .before .before .before .before .before .before .before .before .before .args in
     let p = c .before .before .before .before .before .before .before .before .before .before .pre in
-    let s : Short (now (a .len)) = record { eight = p .0 .shape .len; most = p .0 .len } in
-    rw (c .before .match .keys5) (sends-kept (by-board _ _ _ _ _ _ remove (a .r .board) (a .r .other) (a .r .spare) (a .r .value) _ (c .before .before .before .before .board .ensures) (λ m. refl) (λ m. refl) (c .remove .ensures (a .t3) (now (a .joined)) (now (a .len)) s (now (a .acked)) (a .issued) (now (a .store)) (now (a .list)) (p .0 .issued) (p .1) (p .2))))
+    rw (c .before .match .keys5) (sends-kept (by-board _ _ _ _ remove (a .r .board) (a .r .other) (a .r .spare) (a .r .value) _ (c .before .before .before .before .board .ensures) (λ m. refl) (λ m. refl) (c .remove .ensures (a .t3) (now (a .joined)) (now (a .len)) (p .0 .short) (now (a .acked)) (a .issued) _ (p .0 .issued) (p .1))))
 
 returns-6 : tie.Need-returns-6
 returns-6 c =
     let a = c .before .before .before .before .before .before .before .before .before .before .before .args in
     let p = c .before .before .before .before .before .before .before .before .before .before .before .pre in
-    let s : Short (now (a .len)) = record { eight = p .0 .shape .len; most = p .0 .len } in
-    rw (c .before .before .match .keys6) (sends-kept (alone-taken _ _ _ _ _ _ changeLeader (a .r .board) (a .r .other) (a .r .spare) (a .r .value) (c .before .before .before .before .bare .ensures) (c .before .if1 .taken) (c .change .ensures (a .t3) (now (a .joined)) (now (a .len)) s (now (a .acked)) (a .issued) (now (a .store)) (now (a .list)) (p .0 .issued) (p .1) (p .2))))
+    rw (c .before .before .match .keys6) (sends-kept (alone-taken _ _ _ _ changeLeader (a .r .board) (a .r .other) (a .r .spare) (a .r .value) (c .before .before .before .before .bare .ensures) (c .before .if1 .taken) (c .change .ensures (a .t3) (now (a .joined)) (now (a .len)) (p .0 .short) (now (a .acked)) (a .issued) _ (p .0 .issued) (p .1))))
 
 returns-7 : tie.Need-returns-7
 returns-7 c =
     let a = c .before .before .before .before .before .before .before .before .before .before .args in
     let p = c .before .before .before .before .before .before .before .before .before .before .pre in
-    rw (c .before .match .keys6) (sends-kept (alone-refused _ _ _ _ _ _ changeLeader (a .r .board) (a .r .other) (a .r .spare) (a .r .value) (c .before .before .before .bare .ensures) (c .if1 .left) (malformed-leaves _ (p .0) _ _ (p .1) (p .2))))
+    rw (c .before .match .keys6) (sends-kept (alone-refused _ _ _ _ changeLeader (a .r .board) (a .r .other) (a .r .spare) (a .r .value) (c .before .before .before .bare .ensures) (c .if1 .left) (malformed-leaves _ (p .0) _ (p .1))))
 
 same-length-8 : tie.Need-same-length-8
 same-length-8 c = search needs
@@ -147,7 +143,7 @@ returns-8 : tie.Need-returns-8
 returns-8 c =
     let a = c .before .before .before .before .before .before .before .before .before .before .before .before .before .before .before .before .before .before .before .args in
     let p = c .before .before .before .before .before .before .before .before .before .before .before .before .before .before .before .before .before .before .before .pre in
-    rw (c .before .before .before .before .before .before .before .before .before .before .match .keys7) (record { place = c .before .before .before .before .before .refresh .ensures .0; leaves = by-board _ _ _ _ _ _ refresh (a .r .board) (a .r .other) (a .r .spare) (a .r .value) _ (c .before .before .before .before .before .before .before .before .before .before .before .before .before .board .ensures) (λ m. refl) (λ m. refl) (c .before .before .before .before .before .refresh .ensures .1 (a .g .status) (a .c) (a .issued) (now (a .store)) (now (a .list)) (p .0 .issued) (p .1) (p .2)) })
+    rw (c .before .before .before .before .before .before .before .before .before .before .match .keys7) (record { place = c .before .before .before .before .before .refresh .ensures .0; leaves = by-board _ _ _ _ refresh (a .r .board) (a .r .other) (a .r .spare) (a .r .value) _ (c .before .before .before .before .before .before .before .before .before .before .before .before .before .board .ensures) (λ m. refl) (λ m. refl) (c .before .before .before .before .before .refresh .ensures .1 (a .g .status) (a .c) (a .issued) _ (p .0 .issued) (p .1)) })
 
 same-length-11 : tie.Need-same-length-11
 same-length-11 c = search needs
@@ -162,7 +158,7 @@ returns-9 : tie.Need-returns-9
 returns-9 c =
     let a = c .before .before .before .before .before .before .before .before .before .before .before .before .before .before .before .before .before .args in
     let p = c .before .before .before .before .before .before .before .before .before .before .before .before .before .before .before .before .before .pre in
-    rw (c .before .before .before .before .before .before .before .before .match .keys8) (sends-kept (by-board _ _ _ _ _ _ join (a .r .board) (a .r .other) (a .r .spare) (a .r .value) _ (c .before .before .before .before .before .before .before .before .before .before .before .board .ensures) (λ m. refl) (λ m. refl) (c .before .before .before .before .join .ensures (a .g) (a .c) (now (a .acked)) (a .issued) (now (a .list)) (p .0 .issued) (p .2))))
+    rw (c .before .before .before .before .before .before .before .before .match .keys8) (sends-kept (by-board _ _ _ _ join (a .r .board) (a .r .other) (a .r .spare) (a .r .value) _ (c .before .before .before .before .before .before .before .before .before .before .before .board .ensures) (λ m. refl) (λ m. refl) (c .before .before .before .before .join .ensures (a .g) (a .c) (now (a .acked)) (a .issued) (now (a .list)) (p .0 .issued) (p .1))))
 
 same-length-14 : tie.Need-same-length-14
 same-length-14 c = search needs
@@ -177,7 +173,7 @@ returns-10 : tie.Need-returns-10
 returns-10 c =
     let a = c .before .before .before .before .before .before .before .before .before .before .before .before .before .before .before .before .before .args in
     let p = c .before .before .before .before .before .before .before .before .before .before .before .before .before .before .before .before .before .pre in
-    rw (c .before .before .before .before .before .before .before .before .match .keys9) (sends-kept (by-board _ _ _ _ _ _ receive (a .r .board) (a .r .other) (a .r .spare) (a .r .value) _ (c .before .before .before .before .before .before .before .before .before .before .before .board .ensures) (λ m. refl) (λ m. refl) (c .before .before .before .before .receive .ensures (a .g) (a .c) (now (a .acked)) (a .issued) (now (a .list)) (p .0 .issued) (p .2))))
+    rw (c .before .before .before .before .before .before .before .before .match .keys9) (sends-kept (by-board _ _ _ _ receive (a .r .board) (a .r .other) (a .r .spare) (a .r .value) _ (c .before .before .before .before .before .before .before .before .before .before .before .board .ensures) (λ m. refl) (λ m. refl) (c .before .before .before .before .receive .ensures (a .g) (a .c) (now (a .acked)) (a .issued) (now (a .list)) (p .0 .issued) (p .1))))
 
 same-length-17 : tie.Need-same-length-17
 same-length-17 c = search needs
@@ -192,20 +188,19 @@ returns-11 : tie.Need-returns-11
 returns-11 c =
     let a = c .before .before .before .before .before .before .before .before .before .before .before .before .before .before .before .before .args in
     let p = c .before .before .before .before .before .before .before .before .before .before .before .before .before .before .before .before .pre in
-    rw (c .before .before .before .before .before .before .before .match .keys10) (sends-kept (by-board _ _ _ _ _ _ (λ x. acknowledge x (a .r .other)) (a .r .board) 0 (a .r .spare) (a .r .value) _ (c .before .before .before .before .before .before .board3 .ensures) (λ m. refl) (λ m. refl) (c .before .before .acknowledge .ensures (a .g) (a .c) (a .issued) (now (a .store)) (now (a .list)) (p .0 .issued) (p .1) (p .2))))
+    rw (c .before .before .before .before .before .before .before .match .keys10) (sends-kept (by-board _ _ _ _ (λ x. acknowledge x (a .r .other)) (a .r .board) 0 (a .r .spare) (a .r .value) _ (c .before .before .before .before .before .before .board3 .ensures) (λ m. refl) (λ m. refl) (c .before .before .acknowledge .ensures (a .g) (a .c) (a .issued) _ (p .0 .issued) (p .1))))
 
 returns-12 : tie.Need-returns-12
 returns-12 c =
     let a = c .before .before .before .before .before .before .before .before .before .before .before .args in
     let p = c .before .before .before .before .before .before .before .before .before .before .before .pre in
-    let s : Short (now (a .len)) = record { eight = p .0 .shape .len; most = p .0 .len } in
-    rw (c .before .before .match .keys11) (sends-kept (alone-taken _ _ _ _ _ _ refreshController (a .r .board) (a .r .other) (a .r .spare) (a .r .value) (c .before .before .before .before .bare .ensures) (c .before .if2 .taken) (c .refresh-controller .ensures (a .t3) (now (a .joined)) (now (a .len)) s (now (a .acked)) (a .issued) (now (a .store)) (now (a .list)) (p .0 .issued) (p .1) (p .2))))
+    rw (c .before .before .match .keys11) (sends-kept (alone-taken _ _ _ _ refreshController (a .r .board) (a .r .other) (a .r .spare) (a .r .value) (c .before .before .before .before .bare .ensures) (c .before .if2 .taken) (c .refresh-controller .ensures (a .t3) (now (a .joined)) (now (a .len)) (p .0 .short) (now (a .acked)) (a .issued) _ (p .0 .issued) (p .1))))
 
 returns-13 : tie.Need-returns-13
 returns-13 c =
     let a = c .before .before .before .before .before .before .before .before .before .before .args in
     let p = c .before .before .before .before .before .before .before .before .before .before .pre in
-    rw (c .before .match .keys11) (sends-kept (alone-refused _ _ _ _ _ _ refreshController (a .r .board) (a .r .other) (a .r .spare) (a .r .value) (c .before .before .before .bare .ensures) (c .if2 .left) (malformed-leaves _ (p .0) _ _ (p .1) (p .2))))
+    rw (c .before .match .keys11) (sends-kept (alone-refused _ _ _ _ refreshController (a .r .board) (a .r .other) (a .r .spare) (a .r .value) (c .before .before .before .bare .ensures) (c .if2 .left) (malformed-leaves _ (p .0) _ (p .1))))
 
 same-length-20 : tie.Need-same-length-20
 same-length-20 c = search needs
@@ -214,13 +209,13 @@ returns-14 : tie.Need-returns-14
 returns-14 c =
     let a = c .before .before .before .before .before .before .before .before .before .before .before .before .args in
     let p = c .before .before .before .before .before .before .before .before .before .before .before .before .pre in
-    rw (c .before .before .before .match .keys12) (sends-kept (alone-taken _ _ _ _ _ _ readLeader (a .r .board) (a .r .other) (a .r .spare) (a .r .value) (c .before .before .before .before .before .bare .ensures) (c .before .before .if3 .taken) (c .read-leader .ensures (now (a .joined)) (now (a .acked)) (a .issued) (now (a .store)) (now (a .list)) (p .0 .issued) (p .1) (p .2))))
+    rw (c .before .before .before .match .keys12) (sends-kept (alone-taken _ _ _ _ readLeader (a .r .board) (a .r .other) (a .r .spare) (a .r .value) (c .before .before .before .before .before .bare .ensures) (c .before .before .if3 .taken) (c .read-leader .ensures (now (a .joined)) (now (a .acked)) (a .issued) _ (p .0 .issued) (p .1))))
 
 returns-15 : tie.Need-returns-15
 returns-15 c =
     let a = c .before .before .before .before .before .before .before .before .before .before .args in
     let p = c .before .before .before .before .before .before .before .before .before .before .pre in
-    rw (c .before .match .keys12) (sends-kept (alone-refused _ _ _ _ _ _ readLeader (a .r .board) (a .r .other) (a .r .spare) (a .r .value) (c .before .before .before .bare .ensures) (c .if3 .left) (malformed-leaves _ (p .0) _ _ (p .1) (p .2))))
+    rw (c .before .match .keys12) (sends-kept (alone-refused _ _ _ _ readLeader (a .r .board) (a .r .other) (a .r .spare) (a .r .value) (c .before .before .before .bare .ensures) (c .if3 .left) (malformed-leaves _ (p .0) _ (p .1))))
 
 same-length-21 : tie.Need-same-length-21
 same-length-21 c = search needs
@@ -232,20 +227,19 @@ returns-16 : tie.Need-returns-16
 returns-16 c =
     let a = c .before .before .before .before .before .before .before .before .before .before .before .before .args in
     let p = c .before .before .before .before .before .before .before .before .before .before .before .before .pre in
-    rw (c .before .before .before .match .keys13) (sends-kept (by-board _ _ _ _ _ _ read (a .r .board) (a .r .other) (a .r .spare) (a .r .value) _ (c .before .before .before .before .before .before .board .ensures) (λ m. refl) (λ m. refl) (c .read .ensures (a .t3) (now (a .acked)) (a .issued) (now (a .store)) (now (a .list)) (p .0 .issued) (p .1) (p .2))))
+    rw (c .before .before .before .match .keys13) (sends-kept (by-board _ _ _ _ read (a .r .board) (a .r .other) (a .r .spare) (a .r .value) _ (c .before .before .before .before .before .before .board .ensures) (λ m. refl) (λ m. refl) (c .read .ensures (a .t3) (now (a .acked)) (a .issued) _ (p .0 .issued) (p .1))))
 
 returns-17 : tie.Need-returns-17
 returns-17 c =
     let a = c .before .before .before .before .before .before .before .before .before .before .before .args in
     let p = c .before .before .before .before .before .before .before .before .before .before .before .pre in
-    let s : Short (now (a .len)) = record { eight = p .0 .shape .len; most = p .0 .len } in
-    rw (c .before .before .match .keys14) (sends-kept (alone-taken _ _ _ _ _ _ setNormal (a .r .board) (a .r .other) (a .r .spare) (a .r .value) (c .before .before .before .before .bare .ensures) (c .before .if4 .taken) (c .set-normal .ensures (a .t3) (now (a .joined)) (now (a .len)) s (now (a .acked)) (a .issued) (now (a .store)) (now (a .list)) (p .0 .issued) (p .1) (p .2))))
+    rw (c .before .before .match .keys14) (sends-kept (alone-taken _ _ _ _ setNormal (a .r .board) (a .r .other) (a .r .spare) (a .r .value) (c .before .before .before .before .bare .ensures) (c .before .if4 .taken) (c .set-normal .ensures (a .t3) (now (a .joined)) (now (a .len)) (p .0 .short) (now (a .acked)) (a .issued) _ (p .0 .issued) (p .1))))
 
 returns-18 : tie.Need-returns-18
 returns-18 c =
     let a = c .before .before .before .before .before .before .before .before .before .before .args in
     let p = c .before .before .before .before .before .before .before .before .before .before .pre in
-    rw (c .before .match .keys14) (sends-kept (alone-refused _ _ _ _ _ _ setNormal (a .r .board) (a .r .other) (a .r .spare) (a .r .value) (c .before .before .before .bare .ensures) (c .if4 .left) (malformed-leaves _ (p .0) _ _ (p .1) (p .2))))
+    rw (c .before .match .keys14) (sends-kept (alone-refused _ _ _ _ setNormal (a .r .board) (a .r .other) (a .r .spare) (a .r .value) (c .before .before .before .bare .ensures) (c .if4 .left) (malformed-leaves _ (p .0) _ (p .1))))
 
 same-length-23 : tie.Need-same-length-23
 same-length-23 c = search needs
@@ -257,20 +251,19 @@ returns-19 : tie.Need-returns-19
 returns-19 c =
     let a = c .before .before .before .before .before .before .before .before .before .before .before .before .args in
     let p = c .before .before .before .before .before .before .before .before .before .before .before .before .pre in
-    rw (c .before .before .before .match .keys15) (sends-kept (by-board _ _ _ _ _ _ hear (a .r .board) (a .r .other) (a .r .spare) (a .r .value) _ (c .before .before .before .before .before .before .board .ensures) (λ m. refl) (λ m. refl) (c .hear .ensures (now (a .acked)) (a .issued) (now (a .store)) (now (a .list)) (p .0 .issued) (p .1) (p .2))))
+    rw (c .before .before .before .match .keys15) (sends-kept (by-board _ _ _ _ hear (a .r .board) (a .r .other) (a .r .spare) (a .r .value) _ (c .before .before .before .before .before .before .board .ensures) (λ m. refl) (λ m. refl) (c .hear .ensures (now (a .acked)) (a .issued) _ (p .0 .issued) (p .1))))
 
 returns-20 : tie.Need-returns-20
 returns-20 c =
     let a = c .before .before .before .before .before .before .before .before .before .before .args in
     let p = c .before .before .before .before .before .before .before .before .before .before .pre in
-    let s : Short (now (a .len)) = record { eight = p .0 .shape .len; most = p .0 .len } in
-    rw (c .before .match .keys16) (sends-kept (by-board _ _ _ _ _ _ install (a .r .board) (a .r .other) (a .r .spare) (a .r .value) _ (c .before .before .before .before .board .ensures) (λ m. refl) (λ m. refl) (c .install .ensures (a .t3) (now (a .joined)) (now (a .len)) s (now (a .acked)) (a .issued) (now (a .store)) (now (a .list)) (p .0 .issued) (p .1) (p .2))))
+    rw (c .before .match .keys16) (sends-kept (by-board _ _ _ _ install (a .r .board) (a .r .other) (a .r .spare) (a .r .value) _ (c .before .before .before .before .board .ensures) (λ m. refl) (λ m. refl) (c .install .ensures (a .t3) (now (a .joined)) (now (a .len)) (p .0 .short) (now (a .acked)) (a .issued) _ (p .0 .issued) (p .1))))
 
 returns-21 : tie.Need-returns-21
 returns-21 c =
     let a = c .before .before .before .before .before .before .before .before .before .args in
     let p = c .before .before .before .before .before .before .before .before .before .pre in
-    rw (no-step (recordOf (a .r)) (a .r .step) (c .match .rest)) (sends-kept (malformed-leaves _ (p .0) _ _ (p .1) (p .2)))
+    rw (no-step (recordOf (a .r)) (a .r .step) (c .match .rest)) (sends-kept (malformed-leaves _ (p .0) _ (p .1)))
 
 pub send-spec : {M : Type 1} → statement M
 send-spec =

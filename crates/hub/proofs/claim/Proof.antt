@@ -2,9 +2,10 @@
 use Rattle.hub.proofs.claim.Statement.{statement}
 use Rattle.hub.proofs.claim.Tie as tie
 use Rattle.hub.proofs.Putting.{put-back}
+use Rattle.hub.proofs.Mixing.{links-safe}
 
 returns : tie.Need-returns
-returns c = put-back
+returns c = (put-back, links-safe)
 
 pub claim-spec : {M : Type 1} → statement M
 claim-spec = tie.close (tie.spec returns)

@@ -4,6 +4,7 @@ use Prim.Native.Nat.{_+_, _-_, _*_}
 use native.Mathlib.Omega.{arith}
 use borrow.Author.Tests.{eq-eqb, ne-eqb}
 use borrow.Author.Needs.{needs}
+use Rattle.logstore.proofs.Laws.{from-start}
 use Rattle.logstore.proofs.visible.Statement.{statement}
 use Rattle.logstore.proofs.visible.Tie as tie
 
@@ -20,9 +21,7 @@ returns : tie.Need-returns
 returns c =
     let a = c .before .before .args in
     let e : a .issued - 0 ≡ a .issued = omega arith in
-    let p = a .committed .ptr in
-    let o : 0 * 4 + p .1 ≡ p .1 = omega arith in
-    (rw (e, eq-eqb _ _ (c .before .if1 .taken)), rw (eq-eqb _ _ (c .before .if1 .taken)) (ap (λ i. (p .0, i)) o))
+    (rw (e, eq-eqb _ _ (c .before .if1 .taken)), rw (eq-eqb _ _ (c .before .if1 .taken)) (from-start (a .committed .ptr)))
 
 sub-start : tie.Need-sub-start
 sub-start c = search needs

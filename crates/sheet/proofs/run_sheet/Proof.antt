@@ -31,7 +31,7 @@ slice-aggregate-play-3 : tie.Need-slice-aggregate-play-3
 slice-aggregate-play-3 c = search needs
 
 play-requires : tie.Need-play-requires
-play-requires c κs = (sym (c .before .before .before .before .is-sheet .ensures) ∙ not-false _ (c .before .before .before .if1 .left), refl, refl, refl)
+play-requires c κs = (sym (c .before .before .before .before .is-sheet .ensures) ∙ not-false _ (c .before .before .before .if1 .left), record { store = refl; list = refl }, refl)
 
 slice-aggregate-put-ending : tie.Need-slice-aggregate-put-ending
 slice-aggregate-put-ending c = search needs
@@ -44,7 +44,7 @@ put-ending-requires c κs =
     let s = now (c .before .before .before .before .before .before .before .before .before .before .before .before .before .args .sheet) in
     let e = sym (c .before .before .before .before .before .before .before .before .before .before .is-sheet .ensures) ∙ not-false _ (c .before .before .before .before .before .before .before .before .before .if1 .left) in
     let h = c .before .before .before .before .before .play .ensures in
-    (ran-fits s e _ _ _ _ _ h, ran-issued s e _ _ _ _ _ h, omega arith)
+    (ran-fits s e _ _ _ _ h, ran-issued s e _ _ _ _ h, omega arith)
 
 slice-aggregate-deliver : tie.Need-slice-aggregate-deliver
 slice-aggregate-deliver c = search needs
@@ -65,7 +65,7 @@ deliver-requires c κs =
     let e = sym (c .before .before .before .before .before .before .before .before .before .before .before .before .before .before .before .is-sheet .ensures) ∙ not-false _ (c .before .before .before .before .before .before .before .before .before .before .before .before .before .before .if1 .left) in
     let h = c .before .before .before .before .before .before .before .before .before .before .play .ensures in
     let w = c .before .before .before .before .put-ending .ensures in
-    (sheet-most s e, omega (arith, sheet-most s e, h .room), omega (arith, w .1, length-take (c .before .before .before .before .put-ending .result) (c .before .before .before .before .put-ending .last .0)), λ i q. ran-small s e (length s / 8 - 1) _ _ _ _ h i (omega (arith, q)))
+    (sheet-most s e, omega (arith, sheet-most s e, h .room), omega (arith, w .1, length-take (c .before .before .before .before .put-ending .result) (c .before .before .before .before .put-ending .last .0)), λ i q. ran-small s e (length s / 8 - 1) _ _ _ h i (omega (arith, q)))
 
 same-length : tie.Need-same-length
 same-length c = search needs
@@ -76,7 +76,7 @@ returns-2 c =
     let e = sym (c .before .before .before .before .before .before .before .before .before .before .before .before .before .before .before .before .before .before .is-sheet .ensures) ∙ not-false _ (c .before .before .before .before .before .before .before .before .before .before .before .before .before .before .before .before .before .if1 .left) in
     let h = c .before .before .before .before .before .before .before .before .before .before .before .before .before .play .ensures in
     let w = c .before .before .before .before .before .before .before .put-ending .ensures in
-    delivered s e _ _ _ _ h (read-back (w .0) (omega (arith, w .1))) (c .before .before .deliver .ensures)
+    delivered s e _ _ _ h (read-back (w .0) (omega (arith, w .1))) (c .before .before .deliver .ensures)
 
 pub run-sheet-spec : {M : Type 1} → statement M
 run-sheet-spec =

@@ -1,10 +1,13 @@
 -- `steps::claim` meets its contract. Assumes nothing.
+use mathlib.Core.Path.{refl}
+use Rattle.steps.specs.Calls.{NamesHold}
 use Rattle.steps.proofs.claim.Statement.{statement}
 use Rattle.steps.proofs.claim.Tie as tie
 use Rattle.steps.proofs.Following.{calls-safe}
 
 returns : tie.Need-returns
-returns c = calls-safe
+unfolding NamesHold
+returns c = (calls-safe, λ a b v. refl)
 
 pub claim-spec : {M : Type 1} → statement M
 claim-spec = tie.close (tie.spec returns)

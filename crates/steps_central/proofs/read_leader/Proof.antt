@@ -32,16 +32,16 @@ shared-slice-read-n c = search needs
 read-leader-requires : tie.Need-read-leader-requires
 read-leader-requires c κs =
     let start = c .before .before .before .before .before in
-    (start .pre .0, short-at (now (start .args .len)) _ (start .pre .1 .most) (c .before .before .seat .ensures .0))
+    (start .pre .0, short-at (now (start .args .len)) _ (start .pre .1) (c .before .before .seat .ensures .0))
 
 returns : tie.Need-returns
 returns c =
     let a = c .before .before .before .before .before .before .before .args in
     let p = c .before .before .before .before .before .before .before .pre in
     let k = c .before .before .before .before .seat .ensures in
-    λ joined. tells-govern readLeader (a .g) (a .c) (a .t3) joined (now (a .len)) (p .1) (record { state = λ _. refl; store = λ _ _. refl; list = λ _ _ _. refl }) _ (c .before .read-leader .ensures)
-    (λ acked issued store list full t.
-    let f = seated (now (a .len)) (p .1) _ (k .0) (a .g) (a .c) (a .t3) joined acked issued (a .c .view .leader) (k .2) store list full (p .0 t) in
+    λ joined. tells-govern readLeader (a .g) (a .c) (a .t3) joined (now (a .len)) (p .1) (record { state = λ _. refl; places = refl }) _ (c .before .read-leader .ensures)
+    (λ acked issued q full t.
+    let f = seated (now (a .len)) (p .1) _ (k .0) (a .g) (a .c) (a .t3) joined acked issued (a .c .view .leader) (k .2) q full (p .0 t) in
     (f .0, f .2))
 
 pub read-leader-spec : {M : Type 1} → statement M

@@ -69,9 +69,8 @@ may-join-requires : tie.Need-may-join-requires
 may-join-requires c κs = search needs
 
 returns : tie.Need-returns
-returns c g k acked issued list few long =
-    let p = entry (c .before) .pre in
-    turns-refused (row (c .before) g k acked issued) (p .2 .eight) (p .2 .most) few _ list (p .3) long _ _ (answers (c .before) g k acked issued) (c .if1 .taken)
+returns c g k acked issued list few full =
+    turns-refused (row (c .before) g k acked issued) (entry (c .before) .pre .2) few _ full _ _ (answers (c .before) g k acked issued) (c .if1 .taken)
 
 mul-own : tie.Need-mul-own
 mul-own c = search needs
@@ -92,7 +91,7 @@ shared-requires c κs =
     let l = now (entry d .args .len) in
     let h = own d .seat in
     let o = other d .seat2 in
-    (p .3, h .ensures .0, h .ensures .1, short-at l (h .result) (p .2 .most) (h .ensures .0), o .ensures .0, o .ensures .1, short-at l (o .result) (p .2 .most) (o .ensures .0))
+    (p .3, h .ensures .0, h .ensures .1, short-at l (h .result) (p .2) (h .ensures .0), o .ensures .0, o .ensures .1, short-at l (o .result) (p .2) (o .ensures .0))
 
 mul-len : tie.Need-mul-len
 mul-len c = search needs
@@ -113,16 +112,16 @@ same-length-2 : tie.Need-same-length-2
 same-length-2 c = search needs
 
 returns-2 : tie.Need-returns-2
-returns-2 c g k acked issued list few long =
+returns-2 c g k acked issued list few full =
     let d = c .before .before .before .before in
     let a = entry d .args in
     let p = entry d .pre in
     let h = own d .seat .ensures in
-    turns-accepted (row d g k acked issued) (p .2 .eight) (p .2 .most) few _ list (p .3) long _ _ _ _ _ (answers d g k acked issued) (c .before .before .before .if1 .left)
-    (join-after (row d g k acked issued) (p .2 .eight) (p .2 .most) _ list (p .3) (a .b) _ _ _ _ (h .2) (p .1) (d .before .before .before .before .view .ensures) (other d .seat2 .ensures .2) (p .0) (c .shared .ensures))
-    (length-set (now (a .len)) _ _ ∙ p .2 .eight)
-    (len-short (now (a .len)) (p .2 .eight) (p .2 .most) _ _ (h .0) (h .1) (join-short _ _ _ _ _ (p .3) (h .0) (h .1) (short-at (now (a .len)) (own d .seat .result) (p .2 .most) (h .0)) (c .shared .ensures)))
-    few refl refl
+    let short = short-at (now (a .len)) (own d .seat .result) (p .2) (h .0) in
+    turns-accepted (row d g k acked issued) (p .2) few _ full _ _ _ _ (answers d g k acked issued) (c .before .before .before .if1 .left)
+    (join-after (row d g k acked issued) (p .2) _ full (a .b) _ _ _ _ (h .2) (p .1) (d .before .before .before .before .view .ensures) (other d .seat2 .ensures .2) (p .0) (c .shared .ensures))
+    (len-short (now (a .len)) (p .2) _ _ (h .0) (h .1) (join-short _ _ _ _ _ (p .3) (h .0) (h .1) short (c .shared .ensures)))
+    few refl
 
 pub join-spec : {M : Type 1} → statement M
 join-spec =

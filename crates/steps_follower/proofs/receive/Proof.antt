@@ -1,6 +1,6 @@
 -- `steps_follower::receive` meets its contract. Assumes nothing.
 use mathlib.Core.List.{List}
-use mathlib.Core.Path.{_≡_, refl, sym, _∙_}
+use mathlib.Core.Path.{_≡_, sym, ap, _∙_}
 use Prim.Native.Nat.{ℕ, _-_, _<_}
 use native.Mathlib.Omega.{arith}
 use lib.ListN.{getD, length-set}
@@ -12,7 +12,7 @@ use Rattle.cluster.specs.declared.Registry.{Registry}
 use Rattle.cluster.specs.declared.Controller.{Controller}
 use Rattle.cluster.specs.declared.Cluster.{Cluster}
 use Rattle.cluster.specs.Layout.{outlineOf}
-use Rattle.refinement.specs.Memory.{rowOf}
+use Rattle.refinement.specs.Memory.{lent, rowOf}
 use Rattle.refinement.proofs.Turning.{turns-refused, turns-accepted, short-at, fits-next, len-short}
 use Rattle.steps_follower.proofs.Answers.{receive-room, receive-answer}
 use Rattle.steps_follower.proofs.Afters.{receive-after, receive-place}
@@ -45,7 +45,7 @@ room c e =
     omega (
       arith,
       receive-room (c .before .before .before .before .before .before .view .result) (c .before .before .view2 .result) (c .before .before .before .before .before .lookup .result) (getD len (k - 1) 0) (getD len (l - 1) 0) k (a .b) (c .may-receive .ensures) e,
-      short-at len l (entry c .pre .2 .most) (other c .seat2 .ensures .0),
+      short-at len l (entry c .pre .2) (other c .seat2 .ensures .0),
     )
 
 seat-requires : tie.Need-seat-requires
@@ -91,9 +91,8 @@ may-receive-requires : tie.Need-may-receive-requires
 may-receive-requires c κs = search needs
 
 returns : tie.Need-returns
-returns c g k acked issued list few long =
-    let p = entry (c .before) .pre in
-    turns-refused (row (c .before) g k acked issued) (p .2 .eight) (p .2 .most) few _ list (p .3) long _ _ (answers (c .before) g k acked issued) (c .if1 .taken)
+returns c g k acked issued list few full =
+    turns-refused (row (c .before) g k acked issued) (entry (c .before) .pre .2) few _ full _ _ (answers (c .before) g k acked issued) (c .if1 .taken)
 
 receive-entry-requires : tie.Need-receive-entry-requires
 receive-entry-requires c κs =
@@ -117,7 +116,7 @@ same-length-2 : tie.Need-same-length-2
 same-length-2 c = search needs
 
 returns-2 : tie.Need-returns-2
-returns-2 c g k acked issued list few long =
+returns-2 c g k acked issued list few full =
     let d = c .before .before .before .before .before in
     let z = c .before .before .before .before .if1 .left in
     let a = entry d .args in
@@ -128,10 +127,10 @@ returns-2 c g k acked issued list few long =
     let e = answers d g k acked issued in
     let r = row d g k acked issued in
     let s = c .before .before .receive-entry .ensures in
-    turns-accepted r (p .2 .eight) (p .2 .most) few _ list (p .3) long _ _ _ _ _ e z
-    (receive-after r (p .2 .eight) (p .2 .most) _ list (p .3) (a .b) _ _ _ (h .2) v m (p .0) _ s)
-    (length-set (now (a .len)) _ _ ∙ p .2 .eight) (len-short (now (a .len)) (p .2 .eight) (p .2 .most) _ _ (h .0) (h .1) (omega (arith, room d z))) few
-    (s ∙ receive-place r (a .b) _ (h .2) _ v _ m (p .0) (now (a .store)) (zero-accepted (outlineOf r) (receive (a .b)) (sym e ∙ z))) refl
+    turns-accepted r (p .2) few _ full _ _ _ _ e z
+    (receive-after r (p .2) _ full (a .b) _ _ _ (h .2) v m (p .0) _ s)
+    (len-short (now (a .len)) (p .2) _ _ (h .0) (h .1) (omega (arith, room d z))) few
+    (ap (λ x. lent x list) (s ∙ receive-place r (a .b) _ (h .2) _ v _ m (p .0) (now (a .store)) (zero-accepted (outlineOf r) (receive (a .b)) (sym e ∙ z))))
 
 pub receive-spec : {M : Type 1} → statement M
 receive-spec =

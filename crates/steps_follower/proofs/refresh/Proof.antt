@@ -56,9 +56,9 @@ returns c =
     let p = entry (c .before) .pre in
     let i = own (c .before) .seat .result - 1 in (
       search needs,
-      λ s k issued store list few full long.
-          subst (λ vs. Leaves (refresh (a .b)) (row (c .before) s k (a .views) issued) store list (c .before .may-refresh .result) (row (c .before) s k vs issued) store list) (sym (ap (set (a .views) i) (c .before .before .view .ensures) ∙ set-idle noView (a .views) i))
-          (turns-refused _ (p .2 .eight) (p .2 .most) few store list full long _ _ (answers (c .before) s k issued) (c .if1 .taken)),
+      λ s k issued q few full.
+          subst (λ vs. Leaves (refresh (a .b)) (row (c .before) s k (a .views) issued) q (c .before .may-refresh .result) (row (c .before) s k vs issued) q) (sym (ap (set (a .views) i) (c .before .before .view .ensures) ∙ set-idle noView (a .views) i))
+          (turns-refused _ (p .2) few q full _ _ (answers (c .before) s k issued) (c .if1 .taken)),
     )
 
 lookup-requires : tie.Need-lookup-requires
@@ -94,10 +94,10 @@ returns-2 c =
     let a = entry d .args in
     let p = entry d .pre in (
       search needs,
-      λ s k issued store list few full long.
-          turns-accepted (row d s k (a .views) issued) (p .2 .eight) (p .2 .most) few store list full long _ _ _ _ _ (answers d s k issued) (c .before .before .before .before .before .before .before .if1 .left)
-          (refresh-after (row d s k (a .views) issued) (p .2 .eight) (p .2 .most) store list full (a .b) _ _ _ _ (c .before .before .counts .last .1 .1 .1 .0) (own d .seat .ensures .2) (d .before .view .ensures) (c .before .before .before .before .before .before .lookup .ensures) (eight (entry d)) (p .0) (c .before .before .before .before .joins .ensures) (c .before .before .counts .ensures))
-          (p .2 .eight) (p .2 .most) few refl refl,
+      λ s k issued q few full.
+          turns-accepted (row d s k (a .views) issued) (p .2) few q full _ _ _ _ (answers d s k issued) (c .before .before .before .before .before .before .before .if1 .left)
+          (refresh-after (row d s k (a .views) issued) (p .2) q full (a .b) _ _ _ _ (c .before .before .counts .last .1 .1 .1 .0) (own d .seat .ensures .2) (d .before .view .ensures) (c .before .before .before .before .before .before .lookup .ensures) (eight (entry d)) (p .0) (c .before .before .before .before .joins .ensures) (c .before .before .counts .ensures))
+          (p .2) few refl,
     )
 
 pub refresh-spec : {M : Type 1} → statement M

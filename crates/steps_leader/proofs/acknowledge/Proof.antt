@@ -66,9 +66,8 @@ may-acknowledge-requires : tie.Need-may-acknowledge-requires
 may-acknowledge-requires c κs = search needs
 
 returns : tie.Need-returns
-returns c g k issued store list few full long =
-    let p = entry (c .before) .pre in
-    turns-refused (row (c .before) g k issued) (p .2 .eight) (p .2 .most) few store list full long _ _ (answers (c .before) g k issued) (c .if1 .taken)
+returns c g k issued q few full =
+    turns-refused (row (c .before) g k issued) (entry (c .before) .pre .2) few q full _ _ (answers (c .before) g k issued) (c .if1 .taken)
 
 mul-acked : tie.Need-mul-acked
 mul-acked c = search needs
@@ -80,12 +79,12 @@ same-length : tie.Need-same-length
 same-length c = search needs
 
 returns-2 : tie.Need-returns-2
-returns-2 c g k issued store list few full long =
+returns-2 c g k issued q few full =
     let a = entry (c .before) .args in
     let p = entry (c .before) .pre in
-    turns-accepted (row (c .before) g k issued) (p .2 .eight) (p .2 .most) few store list full long _ _ _ _ _ (answers (c .before) g k issued) (c .if1 .left)
-    (acknowledge-after (row (c .before) g k issued) (p .2 .eight) (p .2 .most) store list full (a .a) (a .b) _ _ _ _ (one (c .before) .seat .ensures .2) (other (c .before) .seat2 .ensures .2) (c .before .before .before .before .before .before .before .pair .ensures) (c .before .before .lookup2 .ensures) (p .1))
-    (p .2 .eight) (p .2 .most) few refl refl
+    turns-accepted (row (c .before) g k issued) (p .2) few q full _ _ _ _ (answers (c .before) g k issued) (c .if1 .left)
+    (acknowledge-after (row (c .before) g k issued) (p .2) q full (a .a) (a .b) _ _ _ _ (one (c .before) .seat .ensures .2) (other (c .before) .seat2 .ensures .2) (c .before .before .before .before .before .before .before .pair .ensures) (c .before .before .lookup2 .ensures) (p .1))
+    (p .2) few refl
 
 pub acknowledge-spec : {M : Type 1} → statement M
 acknowledge-spec =

@@ -1,9 +1,9 @@
 -- `steps_leader::append` meets its contract. Assumes nothing.
 use mathlib.Core.List.{List}
-use mathlib.Core.Path.{_≡_, refl, sym, ap, _∙_}
+use mathlib.Core.Path.{_≡_, sym, ap, _∙_}
 use Prim.Native.Nat.{ℕ, _-_, _<_}
 use native.Mathlib.Omega.{arith}
-use lib.ListN.{getD, set, length-set}
+use lib.ListN.{getD, set}
 use denote.Ref.{now}
 use borrow.Author.Needs.{needs}
 use Rattle.model.specs.Steps.{append, answerOf}
@@ -12,7 +12,7 @@ use Rattle.cluster.specs.declared.Registry.{Registry}
 use Rattle.cluster.specs.declared.Controller.{Controller}
 use Rattle.cluster.specs.declared.Cluster.{Cluster}
 use Rattle.cluster.specs.Layout.{outlineOf}
-use Rattle.refinement.specs.Memory.{rowOf}
+use Rattle.refinement.specs.Memory.{lent, rowOf}
 use Rattle.refinement.proofs.Turning.{turns-refused, turns-accepted, fits-next, len-short}
 use Rattle.steps_leader.proofs.Answers.{append-room, append-answer}
 use Rattle.steps_leader.proofs.Afters.{append-after, append-place}
@@ -58,9 +58,8 @@ may-append-requires : tie.Need-may-append-requires
 may-append-requires c κs = search needs
 
 returns : tie.Need-returns
-returns c g k joined issued list few long =
-    let p = entry (c .before) .pre in
-    turns-refused (row (c .before) g k joined issued) (p .1 .eight) (p .1 .most) few _ list (p .2) long _ _ (answers (c .before) g k joined issued) (c .if1 .taken)
+returns c g k joined issued list few full =
+    turns-refused (row (c .before) g k joined issued) (entry (c .before) .pre .1) few _ full _ _ (answers (c .before) g k joined issued) (c .if1 .taken)
 
 append-entry-requires : tie.Need-append-entry-requires
 append-entry-requires c κs = (entry (c .before .before) .pre .2, search needs, search needs, room (c .before .before) (c .before .if1 .left))
@@ -93,7 +92,7 @@ same-length-3 : tie.Need-same-length-3
 same-length-3 c = search needs
 
 returns-2 : tie.Need-returns-2
-returns-2 c g k joined issued list few long =
+returns-2 c g k joined issued list few full =
     let d = c .before .before .before .before .before in
     let z = c .before .before .before .before .if1 .left in
     let a = entry d .args in
@@ -102,10 +101,10 @@ returns-2 c g k joined issued list few long =
     let e = answers d g k joined issued in
     let r = row d g k joined issued in
     let s = c .before .before .append-entry .ensures in
-    turns-accepted r (p .1 .eight) (p .1 .most) few _ list (p .2) long _ _ _ _ _ e z
-    (append-after r (p .1 .eight) (p .1 .most) _ list (p .2) (a .b) (a .value) _ (h .2) (p .0) _ s)
-    (length-set (now (a .len)) _ _ ∙ p .1 .eight) (len-short (now (a .len)) (p .1 .eight) (p .1 .most) _ _ (h .0) (h .1) (omega (arith, room d z))) few
-    (s ∙ ap (λ x. set (now (a .store)) x (a .value)) (append-place r (a .b) (a .value) _ (h .2) (zero-accepted (outlineOf r) (append (a .b) (a .value)) (sym e ∙ z)))) refl
+    turns-accepted r (p .1) few _ full _ _ _ _ e z
+    (append-after r (p .1) _ full (a .b) (a .value) _ (h .2) (p .0) _ s)
+    (len-short (now (a .len)) (p .1) _ _ (h .0) (h .1) (omega (arith, room d z))) few
+    (ap (λ x. lent x list) (s ∙ ap (λ x. set (now (a .store)) x (a .value)) (append-place r (a .b) (a .value) _ (h .2) (zero-accepted (outlineOf r) (append (a .b) (a .value)) (sym e ∙ z)))))
 
 pub append-spec : {M : Type 1} → statement M
 append-spec =

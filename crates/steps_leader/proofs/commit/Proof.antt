@@ -12,7 +12,7 @@ use Rattle.cluster.specs.declared.Registry.{Registry}
 use Rattle.cluster.specs.declared.Controller.{Controller}
 use Rattle.cluster.specs.declared.Cluster.{Cluster}
 use Rattle.cluster.specs.Layout.{outlineOf}
-use Rattle.refinement.specs.Memory.{rowOf}
+use Rattle.refinement.specs.Memory.{lent, rowOf}
 use Rattle.refinement.proofs.Turning.{turns-refused, turns-accepted, short-at}
 use Rattle.steps_leader.proofs.Answers.{commit-room, commit-answer}
 use Rattle.steps_leader.proofs.Afters.{commit-after, commit-entry}
@@ -41,7 +41,7 @@ room c e =
       arith,
       commit-room (c .before .before .before .view .result) (n .result) (a .issued) (c .before .counted .result) (a .b) (c .may-commit .ensures) e,
       n .ensures,
-      short-at (now (a .len)) (own c .seat .result) (entry c .pre .2 .most) (own c .seat .ensures .0),
+      short-at (now (a .len)) (own c .seat .result) (entry c .pre .2) (own c .seat .ensures .0),
     )
 
 seat-requires : tie.Need-seat-requires
@@ -62,15 +62,15 @@ may-commit-requires c κs = search needs
 returns : tie.Need-returns
 returns c g k joined =
     let p = entry (c .before) .pre in
-    turns-refused (row (c .before) g k joined) (p .2 .eight) (p .2 .most) (p .0) _ _ (p .3) (p .4) _ _ (answers (c .before) g k joined) (c .if1 .taken)
+    turns-refused (row (c .before) g k joined) (p .2) (p .0) _ (p .3) _ _ (answers (c .before) g k joined) (c .if1 .taken)
 
 entry-requires : tie.Need-entry-requires
 entry-requires c κs =
     let h = own (c .before) .seat .ensures in
-    (entry (c .before) .pre .3, h .0, h .1, room (c .before) (c .if1 .left))
+    (entry (c .before) .pre .3 .store, h .0, h .1, room (c .before) (c .if1 .left))
 
 commit-requires : tie.Need-commit-requires
-commit-requires c κs = subst (λ n. entry (c .before .before .before) .args .issued < n) (sym (entry (c .before .before .before) .pre .4)) (room (c .before .before .before) (c .before .before .if1 .left))
+commit-requires c κs = subst (λ n. entry (c .before .before .before) .args .issued < n) (sym (entry (c .before .before .before) .pre .3 .list)) (room (c .before .before .before) (c .before .before .if1 .left))
 
 add-t18 : tie.Need-add-t18
 add-t18 c = search needs
@@ -88,8 +88,8 @@ returns-2 c g k joined =
     let r = row d g k joined in
     let l = c .before .before .commit .ensures ∙ ap (set (now (a .list)) (a .issued)) (c .before .before .before .before .entry .ensures ∙ commit-entry r (a .b) _ (own d .seat .ensures .2) (now (a .store)) (zero-accepted (outlineOf r) (commit (a .b)) (sym e ∙ z))) in
     let n = room d z in
-    turns-accepted r (p .2 .eight) (p .2 .most) (p .0) _ _ (p .3) (p .4) _ _ _ _ _ e z
-    (commit-after r (p .2 .eight) (p .2 .most) (now (a .store)) (now (a .list)) (p .3) (p .4) (a .b) _ l n) (p .2 .eight) (p .2 .most) (omega (arith, n)) refl l
+    turns-accepted r (p .2) (p .0) _ (p .3) _ _ _ _ e z
+    (commit-after r (p .2) _ (p .3) (a .b) _ l n) (p .2) (omega (arith, n)) (ap (lent (now (a .store))) l)
 
 pub commit-spec : {M : Type 1} → statement M
 commit-spec =

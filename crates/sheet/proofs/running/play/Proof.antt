@@ -40,7 +40,7 @@ walk-requires c κs =
     let e = c .before .before .before .before .before .before .before .before .before .before .before .before .before .before .before .before .before in
     let a = e .args in
     let b = c .before .before .before .before .before .before .before .before .before .before .before .before in
-    (e .pre .0, shape b, ran-none (now (a .sheet)) (b .begin .result) (b .begin .ensures) (now (a .store)) (now (a .list)) (now (a .answers)) (e .pre .1) (e .pre .2) (e .pre .3))
+    (e .pre .0, shape b, ran-none (now (a .sheet)) (b .begin .result) (b .begin .ensures) _ (e .pre .1) (now (a .answers)) (e .pre .2))
 
 same-length : tie.Need-same-length
 same-length c = search needs

@@ -5,7 +5,7 @@ use native.Mathlib.Omega.{arith}
 use lib.ListN.{length, length-set}
 use denote.Ref.{now}
 use borrow.Author.Needs.{needs}
-use Rattle.refinement.specs.Memory.{rowOf, Shape}
+use Rattle.refinement.specs.Memory.{lent, rowOf, Shape}
 use Rattle.sheet.specs.Running.{Ran}
 use Rattle.records.proofs.Decoding.{room}
 use Rattle.sheet.proofs.Playing.{sheet-whole, sheet-most, ran-ready, ran-more}
@@ -13,11 +13,11 @@ use Rattle.sheet.proofs.running.walk.Statement.{statement}
 use Rattle.sheet.proofs.running.walk.Tie as tie
 
 abbrev Inv-loop : tie.InvT-loop
-Inv-loop sheet joined₀ acked₀ len₀ store₀ list₀ answers₀ n g₀ c₀ views₀ count₀ k₀ joined acked len store list answers g c views issued k =
-    (k ≤ n) × Shape (rowOf g c views joined acked len issued) × Ran sheet k (rowOf g c views joined acked len issued) store list answers
+Inv-loop sheet joined₀ acked₀ len₀ store₀ list₀ answers₀ n g₀ c₀ views₀ issued₀ k₀ joined acked len store list answers g c views issued k =
+    (k ≤ n) × Shape (rowOf g c views joined acked len issued) × Ran sheet k (rowOf g c views joined acked len issued) (lent store list) answers
 
 abbrev μ-loop : tie.MeasureT-loop
-μ-loop sheet joined₀ acked₀ len₀ store₀ list₀ answers₀ n g₀ c₀ views₀ count₀ k₀ joined acked len store list answers g c views issued k = n - k
+μ-loop sheet joined₀ acked₀ len₀ store₀ list₀ answers₀ n g₀ c₀ views₀ issued₀ k₀ joined acked len store list answers g c views issued k = n - k
 
 -- At a record's turn there is room for its answer.
 small : (c : tie.In-loop Inv-loop μ-loop) → c .before .loop .k + 1 < 4096
@@ -42,7 +42,7 @@ send-requires : tie.Need-send-requires Inv-loop μ-loop
 send-requires c κs =
     let l = c .before .before .before .before .before .before .before .loop in
     let h = l .inv .2 in
-    (ran-ready (now (c .before .before .before .before .before .before .before .before .before .before .before .before .before .before .before .before .before .before .args .sheet)) (c .before .before .before .before .before .before .before .before .before .before .before .before .before .before .before .before .before .before .pre .0) (l .k) _ (l .store) (l .list) (l .answers) h (l .inv .1), h .full, h .long)
+    (ran-ready (now (c .before .before .before .before .before .before .before .before .before .before .before .before .before .before .before .before .before .before .args .sheet)) (c .before .before .before .before .before .before .before .before .before .before .before .before .before .before .before .before .before .before .pre .0) (l .k) _ (lent (l .store) (l .list)) (l .answers) h (l .inv .1), h .full)
 
 add-answers : tie.Need-add-answers Inv-loop μ-loop
 add-answers c = omega (arith, small (c .before .before .before .before .before .before .before .before .before .before .before .before .before .before .before .before .before .before))
@@ -70,7 +70,7 @@ loop-again c =
     let same = c .before .before .before .before .before .before .before .before .before .before .before .before .before .before .send .kept .1 .1 .1 .1 in (
       omega (arith, c .before .before .before .before .before .before .before .before .before .before .before .before .before .before .before .before .before .before .before .before .before .loop-test .taken),
       record { views = length-set (l .views) _ _ ∙ l .inv .1 .views; joined = same .0 ∙ l .inv .1 .joined; acked = same .1 .0 ∙ l .inv .1 .acked; len = same .1 .1 .0 ∙ l .inv .1 .len },
-      ran-more (now (e .args .sheet)) (e .pre .0) (l .k) (rowOf (l .g) (l .c) (l .views) (l .joined) (l .acked) (l .len) (l .issued)) (l .store) (l .list) (l .answers) h _
+      ran-more (now (e .args .sheet)) (e .pre .0) (l .k) (rowOf (l .g) (l .c) (l .views) (l .joined) (l .acked) (l .len) (l .issued)) (lent (l .store) (l .list)) (l .answers) h _
           (c .before .before .before .before .before .before .before .before .before .before .before .before .before .before .before .before .before .before .before .before .decode .ensures) (c .before .before .before .before .before .before .before .before .before .before .before .before .before .before .send .ensures .leaves) (omega (arith, small (c .before .before .before .before .before .before .before .before .before .before .before .before .before .before .before .before .before .before .before .before .before), h .room)),
     )
 
@@ -97,7 +97,7 @@ returns c =
     let l = c .before .loop in
     let s = now (c .before .before .before .before .before .before .before .before .before .before .before .before .args .sheet) in
     let e : l .k ≡ length s / 8 - 1 = omega arith in
-    subst (λ m. Ran s m (rowOf (l .g) (l .c) (l .views) (l .joined) (l .acked) (l .len) (l .issued)) (l .store) (l .list) (l .answers)) e (l .inv .2)
+    subst (λ m. Ran s m (rowOf (l .g) (l .c) (l .views) (l .joined) (l .acked) (l .len) (l .issued)) (lent (l .store) (l .list)) (l .answers)) e (l .inv .2)
 
 pub walk-spec : {M : Type 1} → statement M
 walk-spec =

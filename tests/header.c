@@ -1,0 +1,79 @@
+/*
+ * The header by itself, as C99, C11 and C++: its numbers are document 01's, its
+ * lengths stand in #if, and the call links. Exits with 0 if all is right.
+ */
+#include "row.h"
+
+#if ROW_LISTING_LEN(100) > 6000 && ROW_LISTING_LEN(ROW_RECORDS_MAX) == 55230
+enum { LISTING_LEN = ROW_LISTING_LEN(4) };
+#endif
+#if ROW_RECORD_LEN * ROW_RECORDS_MAX != 32760
+#error "the longest sheet has 32,760 bytes"
+#endif
+#if ROW_BAD_SHEET != 2 || ROW_SHORT_LISTING != 3
+#error "the refusals of a sheet are 2 and 3"
+#endif
+
+/* C99 has no static assertion: an array of a negative length does not compile. */
+#define SAME(name, number) typedef char same_##name[(name) == (number) ? 1 : -1]
+
+SAME(ROW_STEP_OPENING, 0);
+SAME(ROW_STEP_APPEND, 1);
+SAME(ROW_STEP_RECEIPT, 2);
+SAME(ROW_STEP_ADD, 3);
+SAME(ROW_STEP_REMOVE, 4);
+SAME(ROW_STEP_CHANGE_LEADER, 5);
+SAME(ROW_STEP_TAKE_NEWS, 6);
+SAME(ROW_STEP_JOIN, 7);
+SAME(ROW_STEP_RECEIVE, 8);
+SAME(ROW_STEP_COUNT, 9);
+SAME(ROW_STEP_CONTROLLER_NEWS, 10);
+SAME(ROW_STEP_READ_LEADER, 11);
+SAME(ROW_STEP_READ, 12);
+SAME(ROW_STEP_SET_NORMAL, 13);
+SAME(ROW_STEP_HEAR, 14);
+SAME(ROW_STEP_INSTALL, 15);
+
+SAME(ROW_ACCEPTED, 0);
+SAME(ROW_REFUSED_FIELD, 1);
+SAME(ROW_REFUSED_STATUS, 4);
+SAME(ROW_REFUSED_MEMBERSHIP, 5);
+SAME(ROW_REFUSED_LEADER, 6);
+SAME(ROW_REFUSED_EPOCHS_USED_UP, 7);
+SAME(ROW_REFUSED_NOT_LEADER, 8);
+SAME(ROW_REFUSED_FOLLOWS_NO_OTHER, 9);
+SAME(ROW_REFUSED_LEADER_EPOCHS_DIFFER, 10);
+SAME(ROW_REFUSED_JOINING, 11);
+SAME(ROW_REFUSED_NOTHING_DUE, 12);
+SAME(ROW_REFUSED_LOG_FULL, 13);
+SAME(ROW_REFUSED_NO_MAJORITY, 14);
+SAME(ROW_REFUSED_STAGE, 15);
+SAME(ROW_REFUSED_EPOCHS_DIFFER, 16);
+
+/* The sample's listing in document 01 has so many bytes. */
+enum { SAMPLE_LISTING = 285 };
+
+int main(void)
+{
+    static const uint8_t sheet[4 * ROW_RECORD_LEN] = {
+        ROW_STEP_OPENING, 1, 0, 0, 0, 0, 0, 0,
+        ROW_STEP_APPEND, 1, 0, 0, 41, 0, 0, 0,
+        ROW_STEP_RECEIPT, 1, 0, 0, 0, 0, 0, 0,
+        ROW_STEP_ADD, 2, 0, 0, 0, 0, 0, 0,
+    };
+    static uint8_t listing[LISTING_LEN];
+    size_t n = 4;
+
+    /* A length of another type is as good. */
+    if (ROW_LISTING_LEN(n) != sizeof listing)
+        return 1;
+    if (run_sheet(sheet, 0, listing, sizeof listing) != ROW_BAD_SHEET)
+        return 2;
+    if (run_sheet(sheet, sizeof sheet, listing, SAMPLE_LISTING - 1) != ROW_SHORT_LISTING)
+        return 3;
+    if (listing[0] != 0)
+        return 4;
+    if (run_sheet(sheet, sizeof sheet, listing, SAMPLE_LISTING) != SAMPLE_LISTING)
+        return 5;
+    return listing[SAMPLE_LISTING - 1] == '\n' ? 0 : 6;
+}

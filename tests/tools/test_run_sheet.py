@@ -1,0 +1,577 @@
+#!/usr/bin/env python3
+"""Tests of tools/run-sheet, with the program that RUNSHEET names.
+
+What a row answers is taken from document 01: its sample, its trials, its rules.
+"""
+
+import os
+import pty
+import re
+import shutil
+import subprocess
+import sys
+import tempfile
+import unittest
+from pathlib import Path
+
+ROOT = Path(__file__).resolve().parents[2]
+TOOL = ROOT / "tools" / "run-sheet"
+PROGRAM = os.environ.get("RUNSHEET") or str(ROOT / "target" / "bin" / "runsheet")
+sys.dont_write_bytecode = True
+sys.path.insert(0, str(TOOL.parent))
+
+import phrases  # noqa: E402  (from tools/)
+import sheet  # noqa: E402
+
+LISTED, REFUSED, NOT_RUN, FAILED = range(4)
+WORDS = b"open 1\nappend 1 41\nreceipt 1\nadd 2\n"
+RECORDS = bytes([0, 1, 0, 0, 0, 0, 0, 0, 1, 1, 0, 0, 41, 0, 0, 0, 2, 1, 0, 0, 0, 0, 0, 0, 3, 2, 0, 0, 0, 0, 0, 0])
+# The sample's listing in document 01.
+LISTING = b"""\
+1 0 0
+2 1 0
+3 2 0
+4 3 0
+registry 2 1 1 12 waiting
+control 1 1 1 1 idle
+board 1 1 1 1 1 1 1 late
+board 2 1 1 1 1 1 0 late
+board 3 1 1 1 1 1 0 late
+board 4 1 1 1 1 1 0 late
+board 5 1 1 1 1 1 0 late
+board 6 1 1 1 1 1 0 late
+board 7 1 1 1 1 1 0 late
+board 8 1 1 1 1 1 0 late
+receipts 1 41
+"""
+# The refusals in each step's text, in its order.
+CHECKS = {
+    1: [8, 13],
+    2: [8, 12, 14],
+    3: [4, 5, 7],
+    4: [4, 5, 6, 7],
+    5: [4, 6, 7],
+    6: [12],
+    7: [9, 5, 10, 11],
+    8: [9, 5, 10, 11, 12],
+    9: [8, 5, 10, 11, 12],
+    10: [12],
+    11: [15, 16],
+    12: [15, 6, 5, 11, 12],
+    13: [15, 16, 14, 7],
+    14: [15, 5, 16, 12],
+    15: [15, 5, 16, 14, 7],
+}
+
+
+def run(*words, given=b"", tool=TOOL, program=PROGRAM, **more):
+    """Runs the tool. What it wrote is there as bytes on standard output and as text on standard error."""
+    env = os.environ | {"RUNSHEET": str(program)}
+    more = {"stdout": subprocess.PIPE, "stderr": subprocess.PIPE, "env": env} | more
+    done = subprocess.run([tool, *words], input=given, check=False, **more)
+    if done.stderr is not None:
+        done.stderr = done.stderr.decode()
+    return done
+
+
+class InFolder(unittest.TestCase):
+    def setUp(self):
+        folder = tempfile.TemporaryDirectory()
+        self.addCleanup(folder.cleanup)
+        self.folder = Path(folder.name)
+
+    def file(self, name, data):
+        path = self.folder / name
+        path.parent.mkdir(parents=True, exist_ok=True)
+        path.write_bytes(data)
+        return path
+
+    def script(self, name, text):
+        path = self.file(name, b"#!/bin/sh\n" + text.encode())
+        path.chmod(0o755)
+        return path
+
+    def listed(self, done, listing=LISTING):
+        self.assertEqual((done.stdout, done.stderr, done.returncode), (listing, "", LISTED))
+
+    def not_run(self, done, *said):
+        self.assertEqual((done.stdout, done.returncode), (b"", NOT_RUN), done.stderr)
+        for words in said:
+            self.assertIn(words, done.stderr)
+        self.assertNotIn("Traceback", done.stderr)
+
+
+class Sheets(InFolder):
+    def test_words_and_records_are_told_apart_by_what_they_hold(self):
+        for name, data in [("sheet", WORDS), ("words.bin", WORDS), ("records.txt", RECORDS), ("records", RECORDS)]:
+            with self.subTest(name):
+                self.listed(run(self.file(name, data)))
+                self.listed(run("-", given=data))
+
+    def test_names_with_spaces_and_a_dash(self):
+        self.listed(run(self.file("two words", WORDS)))
+        self.file("-h", WORDS)
+        self.listed(run("--", "-h", cwd=self.folder))
+
+    def test_no_name_is_the_sample(self):
+        self.listed(run())
+
+    def test_texts_of_other_systems(self):
+        for mark in [b"", b"\xef\xbb\xbf"]:
+            for end in [b"\r\n", b"\r", b"\n\n"]:
+                self.listed(run("-", given=mark + WORDS.replace(b"\n", end)))
+        self.listed(run("-", given="# für 売上\n".encode() + WORDS))
+
+    def test_texts_that_are_not_utf8(self):
+        for code in ["utf-16", "utf-16-le", "utf-16-be"]:
+            self.not_run(run("-", given=WORDS.decode().encode(code)), "UTF-16", "save the text as UTF-8")
+        self.not_run(run("-", given=b"open 1\n# f\xfcr\n"), "line 2: byte 252 is not UTF-8")
+
+    def test_binary_rubbish(self):
+        rubbish = [b"\x89PNG\r\n\x1a\n\0\0\0\rIHDR", b"\x7fELF\2\1\1\0", b"\x1f\x8b\x08\0\0\0\0\0", b"open 1\0\n"]
+        for data in rubbish:
+            self.not_run(run("-", given=data), "standard input: binary data, neither words nor records")
+
+    def test_files_that_cannot_be_read(self):
+        self.not_run(run(self.folder / "none.txt"), "none.txt cannot be read: No such file")
+        self.not_run(run(self.folder), "cannot be read: Is a directory")
+        # It can be opened, and no byte of it can be read.
+        self.not_run(run("/proc/self/mem"), "/proc/self/mem cannot be read")
+        self.not_run(run("-", preexec_fn=lambda: os.close(0), given=None), "standard input cannot be read")
+
+    @unittest.skipIf(os.geteuid() == 0, "root may read every file")
+    def test_a_file_without_leave(self):
+        path = self.file("closed", WORDS)
+        path.chmod(0)
+        self.not_run(run(path), "closed cannot be read: Permission denied")
+
+    def test_an_endless_file(self):
+        self.not_run(run("/dev/zero"), "which no sheet has")
+
+    def test_usage(self):
+        for words in [["-h"], ["--help"]]:
+            done = run(*words)
+            self.assertEqual((done.returncode, done.stderr), (0, ""))
+            text = done.stdout.decode()
+            for said in ["docs/FORMATS.md", "Exit status", "--words", "--ask", "four minutes"]:
+                self.assertIn(said, text)
+            for form in sheet.FORMS:
+                self.assertIn("  " + " ".join(form), text)
+        for words in [["--list"], ["one", "two"], ["--words", "--ask"], ["--ask", "-"]]:
+            self.not_run(run(*words))
+
+    def test_a_link_to_the_tool(self):
+        link = self.folder / "bin" / "row"
+        link.parent.mkdir()
+        link.symlink_to(TOOL)
+        self.listed(run(tool=link))
+        self.listed(run(tool="./row", cwd=link.parent))
+
+
+class Refused(InFolder):
+    def refused(self, data, *said):
+        for words in [[], ["--words"]]:
+            done = run(*words, "-", given=data)
+            self.assertEqual((done.stdout, done.returncode), (b"refused 2\n", REFUSED))
+            self.assertEqual(done.stderr, f"run-sheet: refused 2: {''.join(said)}\n")
+
+    def test_why(self):
+        add = bytes([3, 2, 0, 0, 0, 0, 0, 0])
+        self.refused(b"", "the sheet is empty")
+        self.refused(b"# nothing\n\n", "the sheet is empty")
+        self.refused(RECORDS[:-1], "31 bytes are no whole records of 8 bytes")
+        self.refused(b"open 1\nraw 1 2 3\n", "11 bytes are no whole records of 8 bytes")
+        self.refused(RECORDS[8:], "no opening first: record 1 is 'append 1 41'")
+        self.refused(b"# late\nappend 1 41\nopen 1\n", "no opening first: line 2 is 'append 1 41'")
+        self.refused(bytes([0, 9, 0, 0, 0, 0, 0, 0]), "no opening first: record 1 is 'raw 0 9 0 0 0 0 0 0'")
+        self.refused(RECORDS + add * 4092, "4,096 records are more than 4,095")
+        self.refused(RECORDS + add * 100_000, "100,004 records are more than 4,095")
+
+    def test_the_longest_sheet_is_listed(self):
+        add = bytes([3, 2, 0, 0, 0, 0, 0, 0])
+        done = run("-", given=RECORDS + add * 4091)
+        # Adding a member again is refused 5.
+        answers = LISTING.partition(b"registry")[0] + b"".join(b"%d 3 5\n" % n for n in range(5, 4096))
+        self.listed(done, answers + LISTING[LISTING.index(b"registry") :])
+
+
+class Errors(InFolder):
+    def test_all_errors_with_their_lines(self):
+        text = b"open 1\n\nOpen 1\nread the leader\nadd 9 # who\nreceipt 1\njion 2\n"
+        done = run(self.file("story", text), cwd=self.folder)
+        story = self.folder / "story"
+        self.not_run(done)
+        self.assertEqual(
+            done.stderr.splitlines(),
+            [
+                f"run-sheet: {story}, line 3: unknown step 'Open'; did you mean 'open 1'?",
+                f"run-sheet: {story}, line 4: 'read the leader' is not 'read BOARD'; did you mean 'read leader'?",
+                f"run-sheet: {story}, line 5: board '9' is not a number from 1 to 8",
+                f"run-sheet: {story}, line 7: unknown step 'jion'; did you mean 'join 2'?",
+                "run-sheet: run-sheet --help has every step in words",
+            ],
+        )
+
+    def test_many_errors_are_counted(self):
+        done = run("-", given=b"open 1\n" + b"bogus\n" * 25)
+        self.not_run(done, "line 2: unknown step 'bogus'", "line 11:", "and 15 more lines that are no steps")
+        self.assertNotIn("line 12:", done.stderr)
+
+
+class Writing(InFolder):
+    WAYS = [([], b""), (["--words"], b""), (["--ask"], b"open 1\n"), (["-"], b"")]
+
+    def failed(self, done, said):
+        self.assertEqual(done.returncode, FAILED)
+        self.assertEqual(done.stderr, f"run-sheet: writing failed: {said}\n")
+
+    def test_a_full_device(self):
+        for words, given in self.WAYS:
+            with open("/dev/full", "wb") as full, self.subTest(words):
+                self.failed(run(*words, given=given, stdout=full), "No space left on device")
+
+    def test_a_closed_pipe(self):
+        for words, given in self.WAYS:
+            reading, writing = os.pipe()
+            os.close(reading)
+            with os.fdopen(writing, "wb") as pipe, self.subTest(words):
+                self.failed(run(*words, given=given, stdout=pipe), "Broken pipe")
+
+    def test_no_standard_output(self):
+        done = run(preexec_fn=lambda: os.close(1), stdout=None)
+        self.failed(done, "Bad file descriptor")
+
+
+class InWords(InFolder):
+    def test_the_sample(self):
+        """Each field of document 01's listing stands under its name."""
+        done = run("--words", self.file("story", b"# first\n" + WORDS))
+        self.assertEqual((done.returncode, done.stderr), (LISTED, ""))
+        parts = [part.splitlines() for part in done.stdout.decode().split("\n\n")]
+        steps, views, boards, receipts = [[re.split(r"  +", line.strip()) for line in part] for part in parts]
+        self.assertEqual(steps[0], ["record", "line", "step", "answer"])
+        words = WORDS.decode().splitlines()
+        self.assertEqual(steps[1:], [[str(n), str(n + 1), line, "accepted"] for n, line in enumerate(words, 1)])
+        view = ["epoch", "leader epoch", "leader", "members"]
+        self.assertEqual(views[0], [*view, "status or stage"])
+        self.assertEqual(views[1], ["registry", "2", "1", "1", "1 2", "waiting"])
+        self.assertEqual(views[2], ["controller", "1", "1", "1", "1", "idle"])
+        self.assertEqual(boards[0], ["board", *view, "joined", "length", "news"])
+        self.assertEqual(boards[1], ["1", "1", "1", "1", "1", "1", "1", "late"])
+        self.assertEqual(boards[2:], [[str(b), "1", "1", "1", "1", "1", "0", "late"] for b in range(2, 9)])
+        self.assertEqual(receipts, [["receipts: 1, of 41"]])
+
+    def test_columns_stand_below_their_names(self):
+        lines = run("--words").stdout.decode().splitlines()
+        names = next(line for line in lines if line.startswith("board"))
+        board = lines[lines.index(names) + 1]
+        end = names.index("leader epoch") + len("leader epoch")
+        self.assertEqual(board[end - 1 : end + 1], "1 ")
+        self.assertEqual(board[names.index("members")], "1")
+        self.assertEqual(board[names.index("news") :], "late")
+
+    def test_records_have_no_lines(self):
+        lines = run("--words", "-", given=RECORDS + bytes([200, 1, 2, 3, 4, 5, 6, 7])).stdout.decode().splitlines()
+        self.assertEqual(lines[0].split(), ["record", "step", "answer"])
+        self.assertEqual(lines[2].split(), ["2", "append", "1", "41", "accepted"])
+        raw = ["5", "raw", "200", "1", "2", "3", "4", "5", "6", "7"]
+        self.assertEqual(lines[5].split(), [*raw, *"refused 1: a field is outside its values".split()])
+
+    def test_the_refusals_that_the_samples_tell_of(self):
+        """The comments of the samples say which lines are refused, and with what."""
+        told = 0
+        for sample in (ROOT / "examples").glob("*.txt"):
+            shown = {}
+            for line in run("--words", sample).stdout.decode().split("\n\n")[0].splitlines()[1:]:
+                _, number, _, answer = re.split(r"  +", line.strip())
+                shown[int(number)] = answer
+            for number, line in enumerate(sample.read_text().splitlines(), 1):
+                if sheet.line_words(line):
+                    refusal = re.search(r"# Refused (\d+)", line)
+                    told += refusal is not None
+                    expected = rf"refused {refusal[1]}: .+" if refusal else "accepted"
+                    self.assertRegex(shown[number], f"^{expected}$")
+        self.assertEqual(told, 5)
+
+
+class Phrases(unittest.TestCase):
+    def test_every_refusal_of_a_step_has_its_reason(self):
+        pairs = {(step, answer) for step, answers in CHECKS.items() for answer in answers}
+        self.assertEqual(set(phrases.REASONS), pairs | {(0, 1)})
+        self.assertEqual(set(phrases.ANSWERS), {*range(17)} - {2, 3})
+
+    def test_phrases(self):
+        self.assertEqual(phrases.phrase(3, 0), "accepted")
+        self.assertEqual(phrases.phrase(12, 1), "refused 1: a field is outside its values")
+        self.assertEqual(phrases.phrase(200, 1), "refused 1: a field is outside its values")
+        self.assertRegex(phrases.phrase(4, 6), "^refused 6: .*leader")
+
+
+class Formats(unittest.TestCase):
+    """docs/FORMATS.md, the header and the tools say the same."""
+
+    page = (ROOT / "docs" / "FORMATS.md").read_text()
+    header = (ROOT / "include" / "row.h").read_text()
+
+    def rows(self, title):
+        part = self.page.split(f"\n## {title}\n")[1].split("\n## ")[0]
+        rows = [line.strip("| ").split(" | ") for line in part.splitlines() if line.startswith("|")]
+        return [[cell.strip() for cell in row] for row in rows[2:]]
+
+    def test_the_steps(self):
+        rows = self.rows("The steps")
+        self.assertEqual(len(rows), 16)
+        for step, (words, number, fields, asks, _) in enumerate(rows):
+            self.assertEqual(int(number), step)
+            form = [word if word.islower() else word[0] for word in sheet.FORMS[step]]
+            shown = ["B" if word in "AB" else word[0] if word.isupper() else word for word in words.strip("`").split()]
+            self.assertEqual(shown, form)
+            answers = [int(answer) for answer in re.findall(r"\[(\d+)\]", asks)]
+            self.assertEqual(answers, CHECKS.get(step, [1]), words)
+            self.assertEqual(fields.count("board"), form.count("B"))
+            self.assertEqual(fields.count("value"), form.count("V"))
+
+    def test_the_answers(self):
+        rows = self.rows("The answers")
+        self.assertEqual([int(row[0]) for row in rows], list(range(17)))
+        for number, *_, name in rows:
+            self.assertRegex(self.header, rf"{name.strip('`')}(?: =)? {number}\b")
+        for number, phrase in phrases.ANSWERS.items():
+            if number > 1 and number != 7:
+                self.assertEqual(rows[number][1].replace(",", ""), phrase.replace(",", ""))
+
+    def test_the_steps_of_the_header(self):
+        steps = re.findall(r"ROW_STEP_(\w+) = (\d+),? +/\* ([\w, ]+?)  ", self.header)
+        self.assertEqual([int(number) for _, number, _ in steps], list(range(16)))
+        for (name, _, fields), form in zip(steps, sheet.FORMS):
+            # Two names of the header are longer than the words: opening, take_news.
+            for word in [word for word in form if word.islower()]:
+                self.assertIn(word, name.lower())
+            kinds = {"none": [], "board": ["BOARD"], "second": ["BOARD"], "value": ["VALUE"]}
+            used = [kind for field in fields.split(", ") for kind in kinds[field]]
+            self.assertEqual(used, [word for word in form if word.isupper()])
+
+
+class Asking(InFolder):
+    def ask(self, lines, *words):
+        """What the prompt says to each line, without the first that it says by itself."""
+        done = run("--ask", *words, given="".join(line + "\n" for line in lines).encode())
+        self.assertEqual((done.returncode, done.stderr), (LISTED, ""))
+        return done.stdout.decode().splitlines()[1:]
+
+    def test_trials_of_document_01(self):
+        """P6 to P9: each step with its answer and what the paper says has changed."""
+        said = self.ask(
+            ["open 1", "add 2", "add 2", "change leader", "read leader", "controller news", "read leader"]
+            + ["news 1", "read leader", "set normal", "read 2", "set normal", "change leader"]
+        )
+        answers = [re.match(r"accepted|refused \d+", line)[0] for line in said if not line.startswith(" ")]
+        expected = ["accepted", "accepted", "refused 5", "refused 4", "refused 15", "accepted", "refused 16"]
+        expected += ["accepted", "accepted", "refused 14", "accepted", "accepted", "accepted"]
+        self.assertEqual(answers, expected)
+        self.assertIn("  registry: epoch 1 -> 2, members 1 -> 1 2, status normal -> waiting", said)
+        self.assertIn("  registry: epoch 2 -> 3, status waiting -> normal", said)
+        change = "  registry: epoch 3 -> 4, leader epoch 1 -> 4, leader 1 -> 2, members 1 2 -> 2"
+        self.assertEqual(said[said.index(change) - 1], "accepted")
+        self.assertIn("  nothing that a listing shows has changed", said)
+
+    def test_what_changed(self):
+        said = self.ask(["open 1", "receipt 1", "append 1 41", "receipt 1", "add 2", "news 2"])
+        self.assertEqual(
+            said,
+            [
+                "accepted",
+                "  registry: epoch 1, leader epoch 1, leader 1, members 1, status normal",
+                "refused 12: its log is not longer than the receipts",
+                "accepted",
+                "  board 1: length 0 -> 1",
+                "accepted",
+                "  receipts: 0 -> 1, 41",
+                "accepted",
+                "  registry: epoch 1 -> 2, members 1 -> 1 2, status normal -> waiting",
+                "  boards 1 2 3 4 5 6 7 8: news current -> late",
+                "accepted",
+                "  board 2: epoch 1 -> 2, members 1 -> 1 2, news late -> current",
+            ],
+        )
+
+    def test_undo(self):
+        said = self.ask(["undo", "open 1", "add 2", "undo", "add 2", "undo", "undo", "show"])
+        self.assertEqual(said[0], "there is no step to take back")
+        self.assertEqual(said.count("  registry: epoch 2 -> 1, members 1 2 -> 1, status waiting -> normal"), 2)
+        self.assertEqual(said[-2:], ["taken back: open 1", "no step so far"])
+
+    def test_no_opening_first(self):
+        said = self.ask(["add 2", "open 9", "open 1", "open 1"])
+        self.assertEqual(said[0], "refused 2: no opening first: record 1 is 'add 2'")
+        self.assertIn("board '9' is not a number from 1 to 8", said[1])
+        self.assertEqual(said[2], "accepted")
+        self.assertEqual(said[4], "refused 1: an opening stands first and nowhere else")
+
+    def test_a_full_sheet(self):
+        path = self.file("long", RECORDS + RECORDS[24:] * 4091)
+        self.assertEqual(self.ask(["add 3"], path), ["refused 2: 4,096 records are more than 4,095"])
+
+    def test_show_and_save(self):
+        path = self.folder / "a story"
+        said = self.ask(["open 1", "append 1 41", "receipt 1", "add 2", f"save {path}", "show"])
+        shown = run("--words", "-", given=RECORDS).stdout.decode().splitlines()
+        self.assertEqual(said[-len(shown) :], shown)
+        self.assertIn(f"4 steps saved as {path}", said)
+        self.assertEqual(path.read_bytes(), WORDS)
+        self.listed(run(path))
+
+    def test_saving_spares_files_of_others(self):
+        theirs, ours = self.file("theirs", b"# A story.\n" + WORDS), self.folder / "ours"
+        lines = [f"save {ours}", "undo", f"save {ours}", f"save {theirs}", "save", f"save {self.folder}/no/where"]
+        said = self.ask([*lines, "save \0"], theirs)
+        self.assertEqual(theirs.read_bytes(), b"# A story.\n" + WORDS)
+        self.assertEqual(ours.read_bytes(), WORDS.replace(b"add 2\n", b""))
+        self.assertIn(f"{theirs} is there already: choose another name", said)
+        self.assertIn("save takes the name of a file", said)
+        self.assertIn("is not saved: No such file", said[-2])
+        self.assertIn("is not saved: ", said[-1])
+
+    def test_help_quit_and_wrong_lines(self):
+        said = self.ask(["help", "", "# nothing", "undo 3", "read the leader", "\xff", "quit", "open 1"])
+        for form in sheet.FORMS:
+            self.assertTrue(any(line.startswith("  " + " ".join(form)) for line in said), form)
+        for command in ["show", "undo", "save FILE", "help", "quit"]:
+            self.assertTrue(any(line.startswith("  " + command) for line in said), command)
+        self.assertEqual(said[-3], "undo stands alone on its line")
+        self.assertIn("did you mean 'read leader'? (help has every step)", said[-2])
+        self.assertIn("unknown step", said[-1])
+
+    def test_a_sheet_to_begin_with(self):
+        story = self.file("story", b"\n" + WORDS)
+        said = self.ask(["add 2", "show"], story)
+        self.assertEqual(said[0], "refused 5: the board is a member already")
+        self.assertEqual(said[5].split(), ["4", "5", "add", "2", "accepted"])
+        self.assertEqual(said[6].split()[:5], ["5", "add", "2", "refused", "5:"])
+        done = run("--ask", self.file("late", WORDS[7:]), given=b"open 1\n")
+        self.assertEqual(done.stdout, b"refused 2: no opening first: line 1 is 'append 1 41'\n")
+        self.assertEqual(done.returncode, REFUSED)
+
+    def test_a_prompt_at_a_terminal(self):
+        leader, follower = pty.openpty()
+        os.write(leader, b"open 1\nadd 2\n\x04")
+        done = run("--ask", stdin=follower, given=None)
+        os.close(follower)
+        os.close(leader)
+        self.assertEqual((done.returncode, done.stderr.replace("row> ", "")), (LISTED, ""))
+        said = done.stdout + done.stderr.encode()
+        self.assertEqual((said.count(b"row> "), said.count(b"accepted")), (3, 2))
+
+
+# Proves what is not stamped, one crate after the other, as slowly as is needed to be seen.
+PROVER = """
+echo "$*" >>called
+mkdir -p target/stamp target/bin
+for crate in rules runsheet; do
+    if [ -f target/stamp/$crate ]; then
+        echo "rt: $crate proved (unchanged since it was last proved)"
+    elif [ -f refuse ]; then
+        echo "fn $crate::claim: proved"
+        echo "rt: $crate NOT PROVED"
+        exit 1
+    else
+        sleep 1.5
+        echo "fn $crate::claim: proved"
+        echo "rt: $crate proved (1 s)"
+        touch target/stamp/$crate
+    fi
+done
+cp "$PROVED" target/bin/runsheet
+"""
+
+
+class Building(InFolder):
+    """The first run, in a copy of the tools beside a prover that only takes its time."""
+
+    def setUp(self):
+        super().setUp()
+        self.root = self.folder / "a row"
+        shutil.copytree(TOOL.parent, self.root / "tools")
+        shutil.copytree(ROOT / "examples", self.root / "examples")
+        self.file("a row/crates.txt", b"# NAME: DEPENDENCIES\nrunsheet: rules io libc\nother: rules\nrules:\n")
+        self.file("a row/crates/rules/src/lib.rt", b"// The rules of a row. And more.\n")
+        self.file("a row/crates/runsheet/src/main.rt", b"use libc;\n")
+        self.script("bin/rt", PROVER)
+        self.env = {name: value for name, value in os.environ.items() if name != "RUNSHEET"}
+        self.env |= {"PATH": f"{self.folder}/bin:{self.env['PATH']}", "PROVED": PROGRAM}
+
+    def run_copy(self, *words, **more):
+        return run(*words, tool=self.root / "tools" / "run-sheet", **({"env": self.env} | more))
+
+    def called(self):
+        return (self.root / "called").read_text().splitlines() if (self.root / "called").exists() else []
+
+    def test_the_first_run_and_the_next(self):
+        done = self.run_copy()
+        self.assertEqual((done.stdout, done.returncode), (LISTING, LISTED))
+        told = "run-sheet: proving and building the program; about four minutes the first time\n"
+        self.assertEqual(done.stderr, told)
+        log = (self.root / "target" / "log" / "run-sheet.log").read_text()
+        self.assertIn("fn rules::claim: proved\n", log)
+        self.listed(self.run_copy())
+        self.assertEqual(self.called(), ["check runsheet"] * 2)
+        # A crate that has changed since is proved without those words.
+        (self.root / "target" / "stamp" / "runsheet").unlink()
+        done = self.run_copy()
+        self.assertEqual((done.stdout, done.stderr), (LISTING, "run-sheet: proving and building the program\n"))
+
+    def test_one_line_of_progress_at_a_terminal(self):
+        leader, follower = pty.openpty()
+        done = self.run_copy(stderr=follower)
+        self.assertEqual((done.stdout, done.returncode), (LISTING, LISTED))
+        os.close(follower)
+        shown = b""
+        try:
+            while part := os.read(leader, 65536):
+                shown += part
+        except OSError:
+            # The other end is closed, and all was read.
+            pass
+        os.close(leader)
+        first, *lines, last = shown.decode().replace("\r\n", "\n").split("\r\033[K")
+        self.assertEqual(first, "run-sheet: proving and building the program; about four minutes the first time\n")
+        self.assertRegex(lines[0], r"^ +\d s  crate 1 of 2: rules, The rules of a row$")
+        self.assertRegex(lines[-1], r"^ +\d s  crate 2 of 2: runsheet$")
+        self.assertEqual(last, "")
+        self.assertNotIn("\n", "".join(lines))
+
+    def test_nothing_is_proved_for_a_sheet_that_is_none(self):
+        self.not_run(self.run_copy(self.folder / "none"))
+        self.not_run(self.run_copy(self.folder))
+        self.not_run(self.run_copy("-", given=b"opne 1\n"))
+        self.not_run(self.run_copy("--list"))
+        self.assertEqual(self.called(), [])
+
+    def failed(self, done, *said):
+        self.assertEqual((done.stdout, done.returncode), (b"", FAILED))
+        for words in said:
+            self.assertIn(words, done.stderr)
+        self.assertNotIn("Traceback", done.stderr)
+
+    def test_a_program_that_is_not_proved(self):
+        self.file("a row/refuse", b"")
+        done = self.run_copy()
+        self.failed(done, "the program is not proved; target/log/run-sheet.log ends with", "rt: rules NOT PROVED")
+        self.assertNotIn("claim: proved", done.stderr)
+
+    def test_no_prover(self):
+        # A PATH with the interpreter alone.
+        (self.folder / "bin" / "rt").unlink()
+        (self.folder / "bin" / "python3").symlink_to(sys.executable)
+        env = self.env | {"PATH": f"{self.folder}/bin"}
+        self.failed(self.run_copy(env=env), "rt, the toolchain, is not on the PATH")
+
+    def test_programs_that_fail(self):
+        name = self.folder / "none"
+        self.failed(run(program=name), f"{name} does not run: No such file")
+        self.failed(run(program=self.script("ends", "exit 7")), "ended with status 7")
+        self.failed(run("--words", program=self.script("other", "echo hello")), "printed is no listing")
+
+
+if __name__ == "__main__":
+    unittest.main()
