@@ -15,6 +15,8 @@ use Rattle.cluster.specs.declared.Controller.{Controller}
 use Rattle.cluster.specs.declared.Told.{Told}
 use Rattle.cluster.specs.Layout.{stageOf, controllerOf}
 use Rattle.cluster.specs.Parts.{Tells}
+use Rattle.cluster.specs.Stages.{HasLeader}
+use Rattle.steps_controller.specs.Known.{LeaderKnown}
 use Rattle.hub.specs.declared.Report.{Report}
 use Rattle.hub.specs.Lent.{controllerFits, reportRanges, reportFits, leaderFits, Reported, Lends}
 
@@ -26,6 +28,15 @@ module _ (st : Step) (only : (s : RowState) → next entries s st ≡ withContro
       go : (t : Bool) → withController s (cond t (next entries s st) s .controller) ≡ cond t (next entries s st) s
       go true = sym (only s)
       go false = refl
+
+-- Refusal 1, which leaves c.
+pub turned-away : (st : Step) (c : Controller) (fits : Bool) → fits ≡ false → (Known : RowState → Type 0) (t : Told)
+    → t .answer ≡ 1 → t .controller ≡ c → Lends fits Known st c (t .answer) (t .controller)
+turned-away st c fits unfit Known t ea ec = record {
+  answer = λ s f. ea ∙ rw unfit;
+  state = λ s f. rw (unfit, ec);
+  refused = λ _. ec;
+}
 
 -- The core's step of c, which is st, gave a; refusal 1 is checked before it, and what is refused leaves c.
 module _ (st : Step) (only : (s : RowState) → next entries s st ≡ withController s (next entries s st .controller)) (c : Controller) (Known′ : RowState → Type 0) (core : Step) (a : Told) (by-core : Tells Known′ core c a) (same-step : core ≡ st) where
@@ -46,27 +57,43 @@ module _ (st : Step) (only : (s : RowState) → next entries s st ≡ withContro
       same true q = refl
       same false q = sym (h .refused (λ y. eqb-false n 0 q (e ∙ y)))
   lends false Known k n e t ea ec =
-      let left : t .controller ≡ c = ec ∙ ap (λ m. cond (eqb m 0) (a .controller) c) e in
-      record { answer = λ s f. ea ∙ e; state = λ s f. ap (λ d. withController s (controllerOf d)) left; refused = λ _. left }
+      turned-away st c false refl Known t (ea ∙ e) (ec ∙ ap (λ m. cond (eqb m 0) (a .controller) c) e)
 
 -- What the core's steps are told of the board b in place of the report x: the length l, which is a length in any case.
 module _ (b : ℕ) (x : Report) (l : ℕ) (s : RowState) where
-  abbrev pub LeaderTold : Controller → Type 0
-  LeaderTold c = stageNumber (stageOf (c .stage)) ≡ 1 → (isReplica b ≡ true) × (s .view b .epoch ≡ x .epoch) × (length (s .log b) ≡ l)
-
   abbrev pub ReadTold : Type 0
   ReadTold = isReplica b ≡ true → (s .joined b ≡ x .joined) × (length (s .log b) ≡ l)
 
   abbrev pub HearTold : Type 0
   HearTold = isReplica b ≡ true → (s .view b .epoch ≡ x .epoch) × (s .joined b ≡ x .joined) × (length (s .log b) ≡ l)
 
--- It is so, where the report fits and is so.
-module _ (c : Controller) (x : Report) (l : ℕ) (short : leb (x .len) 512 ≡ true → l ≡ x .len) (s : RowState) where
+-- A report that fits.
+module _ (c : Controller) (x : Report) where
   fields : reportFits c x ≡ true → AllTrue (reportRanges x)
   fields t = of-every (reportRanges x) (split-and (controllerFits c) (every (reportRanges x)) (of-true t) .1)
 
+  -- Of the controller's leader: at stage leader it is the leader's.
+  module _ (t : leaderFits c x ≡ true) where
+    abbrev stage : ℕ
+    stage = stageNumber (stageOf (c .stage))
+
+    both : T (reportFits c x) × T (not (eqb stage 1) || eqb (x .board) (c .view .leader))
+    both = split-and (reportFits c x) (not (eqb stage 1) || eqb (x .board) (c .view .leader)) (of-true t)
+
+    fit : reportFits c x ≡ true
+    fit = is-true (reportFits c x) (both .0)
+
+    leaders : stage ≡ 1 → x .board ≡ c .view .leader
+    leaders g = eqb→eq (x .board) (c .view .leader)
+        (subst (λ u. T (not u || eqb (x .board) (c .view .leader))) (eq-eqb stage 1 g) (both .1))
+
+    pub leader-fits : HasLeader c
+    leader-fits g = subst (λ b. isReplica b ≡ true) (leaders g) (is-true (isReplica (x .board)) (fields fit .0))
+
+-- What the core's steps are told is so, where the report fits and is so.
+module _ (c : Controller) (x : Report) (l : ℕ) (short : leb (x .len) 512 ≡ true → l ≡ x .len) (s : RowState) where
   len-told : reportFits c x ≡ true → Reported x s → length (s .log (x .board)) ≡ l
-  len-told t k = k .len ∙ sym (short (is-true (leb (x .len) 512) (fields t .1 .1 .1 .0)))
+  len-told t k = k .len ∙ sym (short (is-true (leb (x .len) 512) (fields c x t .1 .1 .1 .0)))
 
   pub read-told : reportFits c x ≡ true → Reported x s → ReadTold (x .board) x l s
   read-told t k _ = (k .joined, len-told t k)
@@ -74,11 +101,7 @@ module _ (c : Controller) (x : Report) (l : ℕ) (short : leb (x .len) 512 ≡ t
   pub hear-told : reportFits c x ≡ true → Reported x s → HearTold (x .board) x l s
   hear-told t k _ = (k .epoch, k .joined, len-told t k)
 
-  -- At stage leader the report is the controller's leader's.
-  pub leader-told : leaderFits c x ≡ true → Reported x s → LeaderTold (c .view .leader) x l s c
+  pub leader-told : leaderFits c x ≡ true → Reported x s → LeaderKnown c (x .epoch) l s
   leader-told t k g =
-      let a = split-and (reportFits c x) (not (eqb (stageNumber (stageOf (c .stage))) 1) || eqb (x .board) (c .view .leader)) (of-true t) in
-      let f = is-true (reportFits c x) (a .0) in
-      let q : T (eqb (x .board) (c .view .leader)) = subst (λ u. T (not u || eqb (x .board) (c .view .leader))) (eq-eqb (stageNumber (stageOf (c .stage))) 1 g) (a .1) in
-      subst (λ b. (isReplica b ≡ true) × (s .view b .epoch ≡ x .epoch) × (length (s .log b) ≡ l)) (eqb→eq (x .board) (c .view .leader) q)
-      (is-true (isReplica (x .board)) (fields f .0), k .epoch, len-told f k)
+      subst (λ b. (s .view b .epoch ≡ x .epoch) × (length (s .log b) ≡ l)) (leaders c x t g)
+      (k .epoch, len-told (fit c x t) k)

@@ -38,16 +38,17 @@ pub fn refresh_controller(c: Controller, g: Registry) -> Told
     ended(n, c, d)
 }
 
-// Step 11.
+// Step 11. The core's step asks for a leader at stage leader, so it is called only with what fits.
 pub fn read_leader(c: Controller, x: Report) -> Told
     ensures { λ t. ⌜ ReadsLeader c x (t .answer) (t .controller) ⌝ }
 {
-    let ok = fits::leader(c, x);
+    if !fits::leader(c, x) {
+        return ended(1, c, c);
+    }
     let l = fits::length(x.len);
     let a = steps_controller::read_leader(c, x.epoch, l);
     let d = a.controller;
-    let n = check(ok, a.answer, 1);
-    ended(n, c, d)
+    ended(a.answer, c, d)
 }
 
 // Step 12.

@@ -1,6 +1,6 @@
 -- Masks and the sets that they stand for. A law over all masks is one test that antt computes, over 256 masks and 8 replicas. Assumes nothing.
 use mathlib.Core.Bool.{Bool, true, false, cond, _&&_, and-eq-true-iff, Bool·beq}
-use mathlib.Core.Path.{_≡_, refl, sym, ap, _∙_, fun-ext}
+use mathlib.Core.Path.{_≡_, refl, sym, ap, ap₂, _∙_, fun-ext}
 use Prim.Native.Nat.{ℕ, _+_, _-_, _*_, _/_, _%_, _^_, _<_, _≤_}
 use native.Mathlib.Omega.{arith}
 use lib.Bits.{bitAnd, bitOr, and-shr, and-mod}
@@ -161,6 +161,11 @@ module _ (p : Members) where
   under-more b h k =
       same-members (upd (under b p) b (p b)) (under (b + 1) p) (λ x e. rw (ne-eqb x b (apart b x h k e), e))
       (λ x hx kx. rw (replica x hx kx) (more b x (eqb x b) refl))
+
+  -- The mask q of those before b becomes q′ as the outcome t of b's test is put.
+  pub gathered : (b q q′ : ℕ) (t : Bool) → 1 ≤ b → b ≤ 8 → bits q ≡ under b p → bits q′ ≡ upd (bits q) b t → t ≡ p b
+      → bits q′ ≡ under (b + 1) p
+  gathered b q q′ t h k eq eq′ et = eq′ ∙ ap₂ (λ m u. upd m b u) eq et ∙ under-more b h k
 
   -- A majority among those gathered is a majority among those that pass.
   pub under-quorum : (m : Members) → hasQuorum m (under 9 p) ≡ hasQuorum m p

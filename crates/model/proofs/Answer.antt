@@ -1,15 +1,16 @@
--- A step is accepted just where its answer is 0, and no answer is above 16: refusals have the numbers 1 to 16. Assumes nothing.
-use mathlib.Core.Bool.{Bool, true, false, _&&_}
+-- A step is accepted just where its answer is 0, and no answer is above 16: refusals have the numbers 1 to 16. What a list of checks
+-- that answers as the step's own do says of what the step leaves. Assumes nothing.
+use mathlib.Core.Bool.{Bool, true, false, cond, _&&_}
 use mathlib.Core.List.{List, [], _∷_}
-use mathlib.Core.Logic.{_≢_}
-use mathlib.Core.Path.{_≡_, refl}
+use mathlib.Core.Logic.{⊎-elim, _≢_}
+use mathlib.Core.Path.{_≡_, refl, sym, ap, _∙_}
 use Prim.Native.Nat.{ℕ, _≤_}
 use native.Mathlib.Omega.{arith}
 use lib.Dec.{T, leb, leb→le}
 use Rattle.model.specs.Prelude.{Check, _else_, firstFailed, passes}
-use Rattle.model.specs.State.{Outline}
-use Rattle.model.specs.Steps.{Step, append, commit, add, remove, changeLeader, refresh, join, receive, acknowledge, refreshController, readLeader, read, setNormal, hear, install, malformed, checks, accepted, answerOf}
-use Rattle.model.proofs.Tests.{split-and, ne-fact}
+use Rattle.model.specs.State.{Entries, State, Outline, outline}
+use Rattle.model.specs.Steps.{Step, append, commit, add, remove, changeLeader, refresh, join, receive, acknowledge, refreshController, readLeader, read, setNormal, hear, install, malformed, checks, accepted, answerOf, next, step}
+use Rattle.model.proofs.Tests.{split-and, ne-fact, eq-or-ne, of-true, Holds, facts}
 
 -- Refusals have the numbers 1 to 16.
 abbrev pub numbered : List Check → Bool
@@ -21,6 +22,10 @@ pub zero-passes : (cs : List Check) → T (numbered cs) → firstFailed cs ≡ 0
 zero-passes [] t e = refl
 zero-passes ((true else n) ∷ cs) t e = zero-passes cs (split-and (leb 1 n && leb n 16) (numbered cs) t .1) e
 zero-passes ((false else n) ∷ cs) t e = absurd (omega (arith, leb→le 1 n (split-and (leb 1 n) (leb n 16) (split-and (leb 1 n && leb n 16) (numbered cs) t .0) .0), e))
+
+-- So each of them holds, and is found by its refusal.
+pub zero-holds : (cs : List Check) → T (numbered cs) → firstFailed cs ≡ 0 → Holds cs
+zero-holds cs t e = facts cs (of-true (zero-passes cs t e))
 
 first-most : (cs : List Check) → T (numbered cs) → firstFailed cs ≤ 16
 first-most [] t = omega arith
@@ -62,3 +67,19 @@ nonzero-refused m st n = go (accepted m st) refl
     go : (t : Bool) → accepted m st ≡ t → t ≡ false
     go true e = absurd (n (passes-zero (checks m st) e))
     go false e = refl
+
+-- The checks cs answer n, and so does the step st of the state s. What is left of a part of s: refused that part, accepted what the
+-- model leaves of it.
+module _ (𝓔 : Entries) (s : State (𝓔 .Entry)) (st : Step) (cs : List Check) (own : T (numbered cs))
+    (same : firstFailed cs ≡ answerOf (outline s) st) (n : ℕ) (e : n ≡ firstFailed cs) {P : Type 0} (part : State (𝓔 .Entry) → P) (p : P) where
+  pub part-left : (n ≢ 0 → p ≡ part s) → (n ≡ 0 → Holds cs → p ≡ part (next 𝓔 s st)) → p ≡ part (step 𝓔 s st)
+  part-left refused taken = ⊎-elim yes no (eq-or-ne n 0)
+    where
+      left : {t : Bool} → accepted (outline s) st ≡ t → part (cond t (next 𝓔 s st) s) ≡ part (step 𝓔 s st)
+      left q = ap (λ t. part (cond t (next 𝓔 s st) s)) (sym q)
+
+      yes : n ≡ 0 → p ≡ part (step 𝓔 s st)
+      yes z = taken z (zero-holds cs own (sym e ∙ z)) ∙ left (zero-accepted (outline s) st (sym (e ∙ same) ∙ z))
+
+      no : n ≢ 0 → p ≡ part (step 𝓔 s st)
+      no h = refused h ∙ left (nonzero-refused (outline s) st (λ z. h (e ∙ same ∙ z)))

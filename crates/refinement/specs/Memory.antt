@@ -1,13 +1,11 @@
 -- A row together with the lent places as a state of the model, and what a step makes of them. Cited by the contracts of leader,
 -- follower, control, dispatch, steps, hub and sheet. Assumes nothing.
-use mathlib.Core.Bool.{Bool, true, cond}
+use mathlib.Core.Bool.{cond}
 use mathlib.Core.List.{List}
 use mathlib.Core.Logic.{_≢_}
 use mathlib.Core.Path.{_≡_}
 use Prim.Native.Nat.{ℕ, _≤_}
 use lib.ListN.{length, take, getD, set}
-use Rattle.model.specs.Members.{isReplica}
-use Rattle.model.specs.State as M
 use Rattle.model.specs.State.{RowState, entries}
 use Rattle.model.specs.Steps.{Step, Writes, appends, commits, receives, nothing, writes, accepted, answerOf, step}
 use Rattle.logstore.specs.Log.{place, logOf}
@@ -17,7 +15,8 @@ use Rattle.cluster.specs.declared.Controller.{Controller}
 use Rattle.cluster.specs.declared.Cluster.{Cluster}
 use Rattle.cluster.specs.declared.Outcome.{Outcome}
 use Rattle.cluster.specs.declared.Settled.{Settled}
-use Rattle.cluster.specs.Layout.{registryOf, controllerOf, stageOf, viewOf, at, atPair, noView, outlineOf}
+use Rattle.cluster.specs.Layout.{registryOf, controllerOf, viewOf, at, atPair, noView, outlineOf}
+pub use Rattle.cluster.specs.Stages.{HasLeader}
 
 -- The lent places of a call: the log store and the committed list (document 01: the receipts).
 pub record Places : Type 0 where
@@ -56,10 +55,6 @@ pub record Short (len : List ℕ) : Type 0 where
 -- Views whose leaders are replicas, or none.
 abbrev pub Led : List View → Type 0
 Led views = (b : ℕ) → at noView views b .leader ≤ 8
-
--- A controller at stage leader has one.
-abbrev pub HasLeader : Controller → Type 0
-HasLeader c = M.stageNumber (stageOf (c .stage)) ≡ 1 → isReplica (c .view .leader) ≡ true
 
 -- The lengths of the arrays that a row holds beside the controller's, which its type fixes.
 pub record Shape (row : Cluster) : Type 0 where

@@ -1,4 +1,4 @@
--- Those heard that count for a majority. Cited by the contracts of settling. Assumes nothing.
+-- Those heard that count for a majority. Cited by the contracts of the loops that gather them. Assumes nothing.
 use mathlib.Core.Bool.{not, _&&_, _||_}
 use mathlib.Core.List.{List}
 use Prim.Native.Nat.{ℕ}
@@ -12,4 +12,5 @@ longEnough heard low x = leb 1 (at 0 heard x) && leb low (at 0 heard x)
 
 -- Step 15: those heard that do not rank above length l and joined epoch k.
 unfoldable pub notAbove : List ℕ → List ℕ → ℕ → ℕ → Members
-notAbove heard joined l k x = leb 1 (at 0 heard x) && not (ltb k (at 0 joined x) || (eqb k (at 0 joined x) && ltb l (at 0 heard x)))
+notAbove heard joined l k x =
+    leb 1 (at 0 heard x) && not (ltb k (at 0 joined x) || (eqb k (at 0 joined x) && ltb l (at 0 heard x)))

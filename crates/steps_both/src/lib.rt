@@ -1,13 +1,17 @@
-// The steps of registry and controller: set normal (13), install (15).
-// Tests are joined by `&` and `|`, which make no branch: the result is then the contract's term by computation.
+// The steps of registry and controller: set normal (13), install (15). A step is answered by its `may_` function,
+// which makes the checks of specs/Checks.antt; refused it gives both back. Tests are joined by `&` and `|`, which
+// make no branch: the result is then the contract's term by computation.
 
 ghost use mathlib.Core.Path.{_≡_};
 ghost use mathlib.Core.Bool.{not, _&&_, _||_};
+ghost use Prim.Native.Nat.{_≤_};
 ghost use lib.Dec.{leb, ltb, eqb};
+ghost use Rattle.model.specs.Prelude.{firstFailed};
 ghost use Rattle.model.specs.Steps as T;
 ghost use Rattle.members.specs.Mask.{bits, under};
 ghost use Rattle.cluster.specs.Layout.{at};
 ghost use Rattle.cluster.specs.Parts.{Settles};
+ghost use Rattle.steps_both.specs.Checks.{setNormalChecks, installChecks};
 ghost use Rattle.steps_both.specs.Heard.{longEnough, notAbove};
 use cluster::Controller;
 use cluster::Registry;
@@ -56,7 +60,8 @@ fn heard_enough(heard: [u16; 8], low: u16) -> u8
     q
 }
 
-// Step 15: whether what is heard at length h, 0 for none, and joined epoch j does not rank above length l and joined epoch k.
+// Step 15: whether what is heard at length h, 0 for none, and joined epoch j does not rank above length l and joined
+// epoch k.
 fn not_above(h: u16, j: u16, l: u16, k: u16) -> bool
     ensures { λ r. ⌜ r ≡ (leb 1 h && not (ltb k j || (eqb k j && ltb l h))) ⌝ }
 {
@@ -77,6 +82,18 @@ fn ranked_not_above(heard: [u16; 8], joined: [u16; 8], l: u16, k: u16) -> u8
     q
 }
 
+// Step 13: what is answered: the registry r, the controller's view v and stage g, those heard at a length not below the
+// leader's heard one, q.
+fn may_set_normal(r: Registry, v: View, g: Stage, q: u8) -> u8
+    ensures { λ x. ⌜ x ≡ firstFailed (setNormalChecks r v g q) ⌝ }
+{
+    let w = r.view;
+    let n7 = check(w.epoch < 4000, 0, 7);
+    let n14 = check(members::has_quorum(v.members, q), n7, 14);
+    let n16 = check(v.epoch == w.epoch, n14, 16); // Lengths heard in an earlier epoch do not count.
+    check(number(g) == 2, n16, 15)
+}
+
 // Step 13, the registry goes normal on the controller's word.
 pub fn set_normal(r: Registry, c: Controller) -> Settled
     ensures { λ x. ⌜ Settles T.Step.setNormal r c x ⌝ }
@@ -87,10 +104,7 @@ pub fn set_normal(r: Registry, c: Controller) -> Settled
     let heard = c.heard;
     let low = heard_at(heard, v.leader);
     let q = heard_enough(heard, low);
-    let n7 = check(w.epoch < 4000, 0, 7);
-    let n14 = check(members::has_quorum(v.members, q), n7, 14);
-    let n16 = check(v.epoch == w.epoch, n14, 16); // Lengths heard in an earlier epoch do not count.
-    let n = check(number(g) == 2, n16, 15);
+    let n = may_set_normal(r, v, g, q);
     if n != 0 {
         return Settled {
             answer: n,
@@ -126,6 +140,21 @@ pub fn set_normal(r: Registry, c: Controller) -> Settled
     }
 }
 
+// Step 15: what is answered about b, whose seat is k: the registry r, the controller's view v and stage g, the length
+// l heard of b, 0 for none, those heard and not ranked above b, q.
+fn may_install(r: Registry, v: View, g: Stage, l: u16, q: u8, k: u8, b: u8) -> u8
+    requires { ⌜ (1 ≤ k) × (k ≤ 8) ⌝ }
+    ensures { λ x. ⌜ x ≡ firstFailed (installChecks r v g l q k b) ⌝ }
+{
+    let w = r.view;
+    let n7 = check(w.epoch < 4000, 0, 7);
+    let n14 = check((1 <= l) & members::has_quorum(v.members, q), n7, 14);
+    let n16 = check(v.epoch == w.epoch, n14, 16);
+    let n5 = check(members::has(v.members, k), n16, 5);
+    let n15 = check(number(g) == 3, n5, 15);
+    check(replica(b), n15, 1)
+}
+
 // Step 15, the controller installs b.
 pub fn install(r: Registry, c: Controller, b: u8) -> Settled
     ensures { λ x. ⌜ Settles (T.Step.install b) r c x ⌝ }
@@ -139,12 +168,7 @@ pub fn install(r: Registry, c: Controller, b: u8) -> Settled
     let i = (k - 1) as usize;
     let l = heard[i];
     let q = ranked_not_above(heard, joined, l, joined[i]);
-    let n7 = check(w.epoch < 4000, 0, 7);
-    let n14 = check((1 <= l) & members::has_quorum(v.members, q), n7, 14);
-    let n16 = check(v.epoch == w.epoch, n14, 16);
-    let n5 = check(members::has(v.members, k), n16, 5);
-    let n15 = check(number(g) == 3, n5, 15);
-    let n = check(replica(b), n15, 1);
+    let n = may_install(r, v, g, l, q, k, b);
     if n != 0 {
         return Settled {
             answer: n,

@@ -1,1 +1,2 @@
-pub mod Tellings
+pub mod Afters
+pub mod Answers

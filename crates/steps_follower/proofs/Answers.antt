@@ -8,22 +8,19 @@ use lib.ListN.{getD}
 use Rattle.model.specs.Prelude.{firstFailed}
 use Rattle.model.specs.Members.{isReplica}
 use Rattle.model.specs.Steps.{refresh, join, receive, answerOf}
-use Rattle.model.proofs.Tests.{facts, split-and, ne-fact, is-true, of-true}
+use Rattle.model.proofs.Tests.{split-and, ne-fact, is-true, of-true}
 use Rattle.model.proofs.Quorum.{replica-range}
-use Rattle.model.proofs.Answer.{zero-passes}
+use Rattle.model.proofs.Answer.{zero-holds}
 use Rattle.members.proofs.Laws.{replica}
 use Rattle.cluster.specs.declared.View.{View}
 use Rattle.cluster.specs.declared.Cluster.{Cluster}
 use Rattle.cluster.specs.Layout.{at, noView, outlineOf}
-use Rattle.cluster.proofs.Laws.{guarded}
-use Rattle.refinement.proofs.Turning.{at-seat}
+use Rattle.cluster.proofs.Laws.{guarded, at-seat}
 use Rattle.steps_follower.specs.Checks.{refreshChecks, joinChecks, receiveChecks}
 
 -- Step 8 finds an entry.
 pub receive-room : (v w : View) (j n o k b : ℕ) {x : ℕ} → x ≡ firstFailed (receiveChecks v w j n o k b) → x ≡ 0 → n < o
-receive-room v w j n o k b e z =
-    let cs = receiveChecks v w j n o k b in
-    ltb→lt n o (facts cs (of-true (zero-passes cs tt (sym e ∙ z))) 12)
+receive-room v w j n o k b e z = ltb→lt n o (zero-holds (receiveChecks v w j n o k b) tt (sym e ∙ z) 12)
 
 -- The replica b, found at the place k - 1 if it is one, and the view there.
 module _ (row : Cluster) (b k : ℕ) (hk : isReplica b ≡ true → k ≡ b) (v : View) (ev : v ≡ getD (row .views) (k - 1) noView) where

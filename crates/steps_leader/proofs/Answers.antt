@@ -7,24 +7,23 @@ use lib.ListN.{getD}
 use Rattle.model.specs.Prelude.{firstFailed}
 use Rattle.model.specs.Members.{isReplica}
 use Rattle.model.specs.Steps.{append, commit, acknowledge, countedAbove, answerOf}
-use Rattle.model.proofs.Tests.{facts, split-and, is-true, of-true}
-use Rattle.model.proofs.Answer.{zero-passes}
+use Rattle.model.proofs.Tests.{split-and, is-true, of-true}
+use Rattle.model.proofs.Answer.{zero-holds}
 use Rattle.members.specs.Mask.{bits, under}
 use Rattle.members.proofs.Laws.{under-quorum}
 use Rattle.cluster.specs.declared.View.{View}
 use Rattle.cluster.specs.declared.Cluster.{Cluster}
 use Rattle.cluster.specs.Layout.{atPair, noView, outlineOf}
-use Rattle.cluster.proofs.Laws.{guarded}
-use Rattle.refinement.proofs.Turning.{at-seat}
+use Rattle.cluster.proofs.Laws.{guarded, at-seat}
 use Rattle.steps_leader.specs.Checks.{appendChecks, commitChecks, acknowledgeChecks}
 
 -- Step 1 finds room.
 pub append-room : (v : View) (n b : ℕ) {x : ℕ} → x ≡ firstFailed (appendChecks v n b) → x ≡ 0 → n < 512
-append-room v n b e z = ltb→lt n 512 (facts (appendChecks v n b) (of-true (zero-passes (appendChecks v n b) tt (sym e ∙ z))) 13)
+append-room v n b e z = ltb→lt n 512 (zero-holds (appendChecks v n b) tt (sym e ∙ z) 13)
 
 -- Step 2 finds an entry.
 pub commit-room : (v : View) (n issued q b : ℕ) {x : ℕ} → x ≡ firstFailed (commitChecks v n issued q b) → x ≡ 0 → issued < n
-commit-room v n issued q b e z = ltb→lt issued n (facts (commitChecks v n issued q b) (of-true (zero-passes (commitChecks v n issued q b) tt (sym e ∙ z))) 12)
+commit-room v n issued q b e z = ltb→lt issued n (zero-holds (commitChecks v n issued q b) tt (sym e ∙ z) 12)
 
 module _ (row : Cluster) where
   -- The replica b, found at the place k - 1 if it is one.

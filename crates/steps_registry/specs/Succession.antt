@@ -1,4 +1,4 @@
--- What a change of leader leaves. Cited by the contracts of ruling. Assumes nothing.
+-- What a change of leader leaves. Cited by the contract of `succession`. Assumes nothing.
 use mathlib.Core.Bool.{cond}
 use Prim.Native.Nat.{ℕ}
 use lib.Dec.{eqb}

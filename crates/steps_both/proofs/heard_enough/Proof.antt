@@ -1,11 +1,11 @@
 -- `steps_both::heard_enough` meets its contract: the loop gathers one replica after the other. Assumes nothing.
 use native.Mathlib.Omega.{arith}
-use Rattle.steps_both.proofs.Settlings.{gathered, long-enough-at}
 use mathlib.Core.Path.{_≡_, _∙_}
 use Prim.Native.Nat.{_≤_, _-_}
 use borrow.Author.Needs.{needs}
 use Rattle.members.specs.Mask.{bits, under}
-use Rattle.members.proofs.Laws.{under-none}
+use Rattle.members.proofs.Laws.{under-none, gathered}
+use Rattle.cluster.proofs.Laws.{at-index}
 use Rattle.steps_both.specs.Heard.{longEnough}
 use Rattle.steps_both.proofs.heard_enough.Statement.{statement}
 use Rattle.steps_both.proofs.heard_enough.Tie as tie
@@ -44,13 +44,15 @@ loop-less : tie.Need-loop-less Inv-loop μ-loop
 loop-less c = search needs
 
 loop-again : tie.Need-loop-again Inv-loop μ-loop
+unfolding longEnough
 loop-again c =
     let l = c .before .before .before .loop in
-    let a = c .before .before .before .before .args in (
+    let a = c .before .before .before .before .args in
+    let p = longEnough (a .t1) (a .low) in (
       search needs,
       search needs,
-      gathered _ (l .b) (l .q) _ _ (l .inv .0) (search needs) (l .inv .2) (c .put .ensures)
-          (long-enough-at (a .t1) (a .low) (l .b) _ (l .inv .0) (c .before .long-enough .ensures)),
+      gathered p (l .b) (l .q) _ _ (l .inv .0) (search needs) (l .inv .2) (c .put .ensures)
+          (rw (at-index 0 (a .t1) (l .b) (l .inv .0)) (c .before .long-enough .ensures)),
     )
 
 returns : tie.Need-returns Inv-loop μ-loop

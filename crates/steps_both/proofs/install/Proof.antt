@@ -1,12 +1,37 @@
--- `steps_both::install` meets its contract: the chain of checks is the model's, and so are registry and controller. Assumes nothing.
-use mathlib.Core.Path.{_≡_, _∙_}
-use Rattle.model.specs.Members.{hasQuorum}
+-- `steps_both::install` meets its contract. Assumes nothing.
+use mathlib.Core.List.{List}
+use mathlib.Core.Path.{refl, sym}
+use Prim.Native.Nat.{_-_}
+use lib.ListN.{getD}
+use Rattle.model.specs.Prelude.{Check}
 use Rattle.model.specs.Steps.{install}
-use Rattle.members.specs.Mask.{bits}
-use Rattle.steps_both.proofs.Settlings.{Answers, settles-refused, settles-accepted, install-answer, install-after}
+use Rattle.cluster.specs.declared.Status.the-variants.{Waiting}
+use Rattle.cluster.specs.declared.Stage.the-variants.{Leader}
+use Rattle.cluster.proofs.Steps.{settles}
+use Rattle.steps_both.specs.Checks.{installChecks}
+use Rattle.steps_both.proofs.Answers.{install-answer}
+use Rattle.steps_both.proofs.Afters.{installedView, both-after}
 use borrow.Author.Needs.{needs}
 use Rattle.steps_both.proofs.install.Statement.{statement}
 use Rattle.steps_both.proofs.install.Tie as tie
+
+-- the entry, where b is found, and those who do not rank above it
+abbrev entry : tie.After-may-install → tie.Start
+entry c = c .before .before .before .before .before .before .before
+
+abbrev own : tie.After-may-install → tie.After-seat
+own c = c .before .before
+
+abbrev those : tie.After-may-install → tie.After-ranked-not-above
+those c = c .before
+
+-- the checks made
+abbrev made : tie.After-may-install → List Check
+made c =
+    let a = entry c .args in
+    let k = own c .seat .result in
+    let q = those c .ranked-not-above .result in
+    installChecks (a .r) (a .c .view) (a .c .stage) (getD (a .c .heard) (k - 1) 0) q k (a .b)
 
 seat-requires : tie.Need-seat-requires
 seat-requires c κs = search needs
@@ -32,58 +57,30 @@ array-read-ranked-not-above c = search needs
 ranked-not-above-requires : tie.Need-ranked-not-above-requires
 ranked-not-above-requires c κs = search needs
 
-check-requires : tie.Need-check-requires
-check-requires c κs = search needs
-
-has-quorum-requires : tie.Need-has-quorum-requires
-has-quorum-requires c κs = search needs
-
-check-requires-2 : tie.Need-check-requires-2
-check-requires-2 c κs = search needs
-
-check-requires-3 : tie.Need-check-requires-3
-check-requires-3 c κs = search needs
-
-has-requires : tie.Need-has-requires
-has-requires c κs = search needs
-
-check-requires-4 : tie.Need-check-requires-4
-check-requires-4 c κs = search needs
-
-number-requires : tie.Need-number-requires
-number-requires c κs = search needs
-
-check-requires-5 : tie.Need-check-requires-5
-check-requires-5 c κs = search needs
-
-replica-requires : tie.Need-replica-requires
-replica-requires c κs = search needs
-
-check-requires-6 : tie.Need-check-requires-6
-check-requires-6 c κs = search needs
-
--- The check that a majority of the controller's members is heard and ranked not above.
-quorum : (c : tie.After-has-quorum) → c .has-quorum .result ≡ hasQuorum (bits (c .before .before .before .before .before .before .before .before .before .args .c .view .members)) (bits (c .before .before .before .ranked-not-above .result))
-quorum c = c .has-quorum .ensures
-
--- The checks, the last one called first.
-answers : (c : tie.After-check6) → Answers (c .before .before .before .before .before .before .before .before .before .before .before .before .before .before .before .before .before .before .before .args .r) (c .before .before .before .before .before .before .before .before .before .before .before .before .before .before .before .before .before .before .before .args .c) (install (c .before .before .before .before .before .before .before .before .before .before .before .before .before .before .before .before .before .before .before .args .b)) (c .check6 .result)
-answers c =
-    let seat = c .before .before .before .before .before .before .before .before .before .before .before .before .before .before .seat .ensures in
-    let a = c .before .before .before .before .before .before .before .before .before .before .before .before .before .before .before .before .before .before .before .args in
-    install-answer (a .r) (a .c) (a .b) _ _ _ (seat .0) (seat .2) (c .before .before .before .before .before .before .before .before .before .before .before .before .before .ranked-not-above .ensures)
-    (c .check6 .ensures ∙ rw (c .before .replica .ensures, c .before .before .check5 .ensures, c .before .before .before .number .ensures, c .before .before .before .before .check4 .ensures, c .before .before .before .before .before .has .ensures, c .before .before .before .before .before .before .check3 .ensures, c .before .before .before .before .before .before .before .before .before .check2 .ensures, quorum (c .before .before .before .before .before .before .before .before .before .before), c .before .before .before .before .before .before .before .before .before .before .before .check .ensures))
+may-install-requires : tie.Need-may-install-requires
+may-install-requires c κs = search needs
 
 returns : tie.Need-returns
-returns c = settles-refused _ _ _ _ (answers (c .before)) (c .if1 .taken)
+returns c =
+    let d = c .before in
+    let a = entry d .args in
+    let seat = own d .seat .ensures .2 in
+    settles (install (a .b)) (made d) tt (a .r) (a .c)
+    (install-answer (a .r) (a .c) (a .b) _ _ seat (those d .ranked-not-above .ensures)) _
+    (d .may-install .ensures) refl (λ _. (refl, refl)) (λ z. absurd (c .if1 .taken z))
 
 raised-requires : tie.Need-raised-requires
 raised-requires c κs = search needs
 
 returns-2 : tie.Need-returns-2
 returns-2 c =
-    let a = c .before .before .before .before .before .before .before .before .before .before .before .before .before .before .before .before .before .before .before .before .before .args in
-    settles-accepted _ _ _ _ _ _ (answers (c .before .before)) (c .before .if1 .left) (install-after (a .r) (a .c) (a .b) _ (c .raised .ensures))
+    let d = c .before .before in
+    let a = entry d .args in
+    let seat = own d .seat .ensures .2 in
+    settles (install (a .b)) (made d) tt (a .r) (a .c)
+    (install-answer (a .r) (a .c) (a .b) _ _ seat (those d .ranked-not-above .ensures)) _
+    (d .may-install .ensures) (sym (c .before .if1 .left)) (λ h. absurd (h refl))
+    (λ _ h s. both-after (a .r) (a .c) _ (c .raised .ensures) (installedView (a .b)) Waiting Leader (h 7))
 
 pub install-spec : {M : Type 1} → statement M
 install-spec =
@@ -97,16 +94,7 @@ install-spec =
     mul-ranked-not-above
     array-read-ranked-not-above
     ranked-not-above-requires
-    check-requires
-    has-quorum-requires
-    check-requires-2
-    check-requires-3
-    has-requires
-    check-requires-4
-    number-requires
-    check-requires-5
-    replica-requires
-    check-requires-6
+    may-install-requires
     returns
     raised-requires
     returns-2)

@@ -1,11 +1,11 @@
 -- `steps_both::ranked_not_above` meets its contract: the loop gathers one replica after the other. Assumes nothing.
 use native.Mathlib.Omega.{arith}
-use Rattle.steps_both.proofs.Settlings.{gathered, not-above-at}
 use mathlib.Core.Path.{_≡_, _∙_}
 use Prim.Native.Nat.{_≤_, _-_}
 use borrow.Author.Needs.{needs}
 use Rattle.members.specs.Mask.{bits, under}
-use Rattle.members.proofs.Laws.{under-none}
+use Rattle.members.proofs.Laws.{under-none, gathered}
+use Rattle.cluster.proofs.Laws.{at-index}
 use Rattle.steps_both.specs.Heard.{notAbove}
 use Rattle.steps_both.proofs.ranked_not_above.Statement.{statement}
 use Rattle.steps_both.proofs.ranked_not_above.Tie as tie
@@ -50,13 +50,17 @@ loop-less : tie.Need-loop-less Inv-loop μ-loop
 loop-less c = search needs
 
 loop-again : tie.Need-loop-again Inv-loop μ-loop
+unfolding notAbove
 loop-again c =
     let l = c .before .before .before .loop in
-    let a = c .before .before .before .before .args in (
+    let a = c .before .before .before .before .args in
+    let heard = at-index 0 (a .t1) (l .b) (l .inv .0) in
+    let joined = at-index 0 (a .t2) (l .b) (l .inv .0) in
+    let p = notAbove (a .t1) (a .t2) (a .l) (a .k) in (
       search needs,
       search needs,
-      gathered _ (l .b) (l .q) _ _ (l .inv .0) (search needs) (l .inv .2) (c .put .ensures)
-          (not-above-at (a .t1) (a .t2) (a .l) (a .k) (l .b) _ (l .inv .0) (c .before .not-above .ensures)),
+      gathered p (l .b) (l .q) _ _ (l .inv .0) (search needs) (l .inv .2) (c .put .ensures)
+          (rw (heard, joined) (c .before .not-above .ensures)),
     )
 
 returns : tie.Need-returns Inv-loop μ-loop

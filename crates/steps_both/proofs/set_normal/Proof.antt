@@ -1,12 +1,22 @@
--- `steps_both::set_normal` meets its contract: the chain of checks is the model's, and so are registry and controller. Assumes nothing.
-use mathlib.Core.Bool.{cond}
-use mathlib.Core.Path.{_≡_, _∙_}
-use lib.Dec.{eqb}
+-- `steps_both::set_normal` meets its contract. Assumes nothing.
+use mathlib.Core.Path.{refl, sym}
 use Rattle.model.specs.Steps.{setNormal}
-use Rattle.steps_both.proofs.Settlings.{Answers, settles-refused, settles-accepted, normal-answer, normal-after}
+use Rattle.cluster.specs.declared.Status.the-variants.{Normal}
+use Rattle.cluster.specs.declared.Stage.the-variants.{Idle}
+use Rattle.cluster.proofs.Steps.{settles}
+use Rattle.steps_both.specs.Checks.{setNormalChecks}
+use Rattle.steps_both.proofs.Answers.{set-normal-answer}
+use Rattle.steps_both.proofs.Afters.{normalView, both-after}
 use borrow.Author.Needs.{needs}
 use Rattle.steps_both.proofs.set_normal.Statement.{statement}
 use Rattle.steps_both.proofs.set_normal.Tie as tie
+
+-- the entry, and those who are heard enough
+abbrev entry : tie.After-may-set-normal → tie.Start
+entry c = c .before .before .before .before .before .before
+
+abbrev those : tie.After-may-set-normal → tie.After-heard-enough
+those c = c .before
 
 heard-at-requires : tie.Need-heard-at-requires
 heard-at-requires c κs = search needs
@@ -14,46 +24,30 @@ heard-at-requires c κs = search needs
 heard-enough-requires : tie.Need-heard-enough-requires
 heard-enough-requires c κs = search needs
 
-check-requires : tie.Need-check-requires
-check-requires c κs = search needs
-
-has-quorum-requires : tie.Need-has-quorum-requires
-has-quorum-requires c κs = search needs
-
-check-requires-2 : tie.Need-check-requires-2
-check-requires-2 c κs = search needs
-
-check-requires-3 : tie.Need-check-requires-3
-check-requires-3 c κs = search needs
-
-number-requires : tie.Need-number-requires
-number-requires c κs = search needs
-
-check-requires-4 : tie.Need-check-requires-4
-check-requires-4 c κs = search needs
-
--- The check that what was heard was heard in this epoch.
-heard-now : (c : tie.After-check3)
-    → c .check3 .result ≡ cond (eqb (c .before .before .before .before .before .before .before .before .before .before .before .before .args .c .view .epoch) (c .before .before .before .before .before .before .before .before .before .before .before .before .args .r .view .epoch)) (c .before .before .before .check2 .result) 16
-heard-now c = c .check3 .ensures
-
--- The checks, the last one called first.
-answers : (c : tie.After-check4) → Answers (c .before .before .before .before .before .before .before .before .before .before .before .before .before .before .args .r) (c .before .before .before .before .before .before .before .before .before .before .before .before .before .before .args .c) setNormal (c .check4 .result)
-answers c =
-    let a = c .before .before .before .before .before .before .before .before .before .before .before .before .before .before .args in
-    normal-answer (a .r) (a .c) _ _ _ (c .before .before .before .before .before .before .before .before .before .before .heard-at .ensures) (c .before .before .before .before .before .before .before .before .before .heard-enough .ensures)
-    (c .check4 .ensures ∙ rw (c .before .number .ensures, heard-now (c .before .before), c .before .before .before .before .before .check2 .ensures, c .before .before .before .before .before .before .has-quorum .ensures, c .before .before .before .before .before .before .before .check .ensures))
+may-set-normal-requires : tie.Need-may-set-normal-requires
+may-set-normal-requires c κs = search needs
 
 returns : tie.Need-returns
-returns c = settles-refused _ _ _ _ (answers (c .before)) (c .if1 .taken)
+returns c =
+    let d = c .before in
+    let a = entry d .args in
+    let q = those d .heard-enough in
+    settles setNormal (setNormalChecks (a .r) (a .c .view) (a .c .stage) (q .result)) tt (a .r) (a .c)
+    (set-normal-answer (a .r) (a .c) _ _ (those d .before .heard-at .ensures) (q .ensures)) _
+    (d .may-set-normal .ensures) refl (λ _. (refl, refl)) (λ z. absurd (c .if1 .taken z))
 
 raised-requires : tie.Need-raised-requires
 raised-requires c κs = search needs
 
 returns-2 : tie.Need-returns-2
 returns-2 c =
-    let a = c .before .before .before .before .before .before .before .before .before .before .before .before .before .before .before .before .args in
-    settles-accepted _ _ _ _ _ _ (answers (c .before .before)) (c .before .if1 .left) (normal-after (a .r) (a .c) _ (c .raised .ensures))
+    let d = c .before .before in
+    let a = entry d .args in
+    let q = those d .heard-enough in
+    settles setNormal (setNormalChecks (a .r) (a .c .view) (a .c .stage) (q .result)) tt (a .r) (a .c)
+    (set-normal-answer (a .r) (a .c) _ _ (those d .before .heard-at .ensures) (q .ensures)) _
+    (d .may-set-normal .ensures) (sym (c .before .if1 .left)) (λ h. absurd (h refl))
+    (λ _ h s. both-after (a .r) (a .c) _ (c .raised .ensures) normalView Normal Idle (h 7))
 
 pub set-normal-spec : {M : Type 1} → statement M
 set-normal-spec =
@@ -61,12 +55,7 @@ set-normal-spec =
     (tie.spec
     heard-at-requires
     heard-enough-requires
-    check-requires
-    has-quorum-requires
-    check-requires-2
-    check-requires-3
-    number-requires
-    check-requires-4
+    may-set-normal-requires
     returns
     raised-requires
     returns-2)

@@ -30,7 +30,9 @@ shared-slice-read-n : tie.Need-shared-slice-read-n
 shared-slice-read-n c = search needs
 
 read-leader-requires : tie.Need-read-leader-requires
-read-leader-requires c κs = short-at (now (c .before .before .before .before .before .args .len)) _ (c .before .before .before .before .before .pre .1) (c .before .before .seat .ensures .0)
+read-leader-requires c κs =
+    let start = c .before .before .before .before .before in
+    (start .pre .0, short-at (now (start .args .len)) _ (start .pre .1) (c .before .before .seat .ensures .0))
 
 returns : tie.Need-returns
 returns c =
@@ -38,7 +40,9 @@ returns c =
     let p = c .before .before .before .before .before .before .before .pre in
     let k = c .before .before .before .before .seat .ensures in
     λ joined. tells-govern readLeader (a .g) (a .c) (a .t3) joined (now (a .len)) (p .1) (record { state = λ _. refl; places = refl }) _ (c .before .read-leader .ensures)
-    (λ acked issued q full t. let r = p .0 t in let f = seated (now (a .len)) (p .1) _ (k .0) (a .g) (a .c) (a .t3) joined acked issued (a .c .view .leader) (k .2) q full r in (r, f .0, f .2))
+    (λ acked issued q full t.
+    let f = seated (now (a .len)) (p .1) _ (k .0) (a .g) (a .c) (a .t3) joined acked issued (a .c .view .leader) (k .2) q full (p .0 t) in
+    (f .0, f .2))
 
 pub read-leader-spec : {M : Type 1} → statement M
 read-leader-spec =

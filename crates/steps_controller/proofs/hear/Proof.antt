@@ -1,9 +1,32 @@
 -- `steps_controller::hear` meets its contract. Assumes nothing.
-use mathlib.Core.Path.{_≡_, _∙_}
-use Rattle.steps_controller.proofs.Tellings.{tells-refused, tells-accepted, hear-answer, hear-after, hearChain}
+use mathlib.Core.List.{List}
+use mathlib.Core.Path.{refl, sym}
+use Prim.Native.Nat.{_-_}
+use lib.ListN.{getD}
+use Rattle.model.specs.Prelude.{Check}
+use Rattle.model.specs.Steps.{hear}
+use Rattle.cluster.proofs.Steps.{tells}
+use Rattle.steps_controller.specs.Checks.{hearChecks}
+use Rattle.steps_controller.specs.Known.{HearKnown}
+use Rattle.steps_controller.proofs.Answers.{hear-answer}
+use Rattle.steps_controller.proofs.Afters.{hear-after}
 use borrow.Author.Needs.{needs}
 use Rattle.steps_controller.proofs.hear.Statement.{statement}
 use Rattle.steps_controller.proofs.hear.Tie as tie
+
+-- the entry, and where b is found
+abbrev entry : tie.After-may-hear → tie.Start
+entry c = c .before .before .before .before
+
+abbrev own : tie.After-may-hear → tie.After-seat
+own c = c .before .before
+
+-- the checks made
+abbrev made : tie.After-may-hear → List Check
+made c =
+    let a = entry c .args in
+    let k = own c .seat .result in
+    hearChecks (a .t1 .view) (a .t1 .stage) (getD (a .t1 .heard) (k - 1) 0) (a .e) (a .n) k (a .b)
 
 seat-requires : tie.Need-seat-requires
 seat-requires c κs = search needs
@@ -20,57 +43,30 @@ mul-h c = search needs
 element-copy-out-h : tie.Need-element-copy-out-h
 element-copy-out-h c = search needs
 
-check-requires : tie.Need-check-requires
-check-requires c κs = search needs
-
-check-requires-2 : tie.Need-check-requires-2
-check-requires-2 c κs = search needs
-
-has-requires : tie.Need-has-requires
-has-requires c κs = search needs
-
-check-requires-3 : tie.Need-check-requires-3
-check-requires-3 c κs = search needs
-
-number-requires : tie.Need-number-requires
-number-requires c κs = search needs
-
-check-requires-4 : tie.Need-check-requires-4
-check-requires-4 c κs = search needs
-
-replica-requires : tie.Need-replica-requires
-replica-requires c κs = search needs
-
-check-requires-5 : tie.Need-check-requires-5
-check-requires-5 c κs = search needs
-
--- The checks.
-chain : (c : tie.After-check5) → let a = c .before .before .before .before .before .before .before .before .before .before .before .before .args in c .check5 .result ≡ hearChain (a .t1) (a .b) (c .before .before .before .before .before .before .before .before .before .before .seat .result) (a .e) (a .n)
-chain c =
-    c .check5 .ensures
-    ∙ rw (
-      c .before .replica .ensures,
-      c .before .before .check4 .ensures,
-      c .before .before .before .number .ensures,
-      c .before .before .before .before .check3 .ensures,
-      c .before .before .before .before .before .has .ensures,
-      c .before .before .before .before .before .before .check2 .ensures,
-      c .before .before .before .before .before .before .before .before .check .ensures,
-    )
+may-hear-requires : tie.Need-may-hear-requires
+may-hear-requires c κs = search needs
 
 returns : tie.Need-returns
 returns c =
-    let a = c .before .before .before .before .before .before .before .before .before .before .before .before .before .args in
-    tells-refused _ _ _ _ (λ s k. hear-answer (a .t1) (a .b) _ _ (c .before .before .before .before .before .before .before .before .before .before .before .seat .ensures .2) s _ _ k _ (chain (c .before))) (c .if1 .taken)
+    let d = c .before in
+    let a = entry d .args in
+    let seat = own d .seat .ensures .2 in
+    tells (hear (a .b)) (made d) tt (HearKnown (a .b) (a .e) (a .j) (a .n)) (a .t1)
+    (hear-answer (a .t1) (a .b) _ (a .n) seat (a .e) (a .j)) _
+    (d .may-hear .ensures) refl (λ _. refl) (λ z. absurd (c .if1 .taken z))
 
 heard-requires : tie.Need-heard-requires
 heard-requires c κs = search needs
 
 returns-2 : tie.Need-returns-2
 returns-2 c =
-    let a = c .before .before .before .before .before .before .before .before .before .before .before .before .before .before .args in
-    let seat = c .before .before .before .before .before .before .before .before .before .before .before .before .seat .ensures .2 in
-    tells-accepted _ _ _ _ _ (λ s k. hear-answer (a .t1) (a .b) _ _ seat s _ _ k _ (chain (c .before .before))) (c .before .if1 .left) (λ s k. hear-after (a .t1) (a .b) _ _ seat s _ _ k (c .heard .result) (c .heard .ensures))
+    let d = c .before .before in
+    let a = entry d .args in
+    let seat = own d .seat .ensures .2 in
+    tells (hear (a .b)) (made d) tt (HearKnown (a .b) (a .e) (a .j) (a .n)) (a .t1)
+    (hear-answer (a .t1) (a .b) _ (a .n) seat (a .e) (a .j)) _
+    (d .may-hear .ensures) (sym (c .before .if1 .left)) (λ h. absurd (h refl))
+    (λ _. hear-after (a .t1) (c .heard .result) _ (a .n) (a .b) seat _ (a .e) (a .j) (c .heard .ensures))
 
 pub hear-spec : {M : Type 1} → statement M
 hear-spec =
@@ -81,14 +77,7 @@ hear-spec =
     cast-i
     mul-h
     element-copy-out-h
-    check-requires
-    check-requires-2
-    has-requires
-    check-requires-3
-    number-requires
-    check-requires-4
-    replica-requires
-    check-requires-5
+    may-hear-requires
     returns
     heard-requires
     returns-2)

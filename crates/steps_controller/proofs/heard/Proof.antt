@@ -1,5 +1,6 @@
--- `steps_controller::heard` meets its contract: the writes at the place of k are the model's point updates. Assumes nothing.
-use Rattle.steps_controller.proofs.Tellings.{heard-left}
+-- `steps_controller::heard` meets its contract: the writes at the place of k are the model's point updates. Assumes
+-- nothing.
+use Rattle.steps_controller.proofs.Afters.{heard-left}
 use borrow.Author.Needs.{needs}
 use Rattle.steps_controller.proofs.heard.Statement.{statement}
 use Rattle.steps_controller.proofs.heard.Tie as tie
@@ -27,7 +28,9 @@ array-write-joined c = search needs
 
 returns : tie.Need-returns
 returns c =
-    let a = c .before .before .before .args in heard-left (a .c) (a .g) (a .k) (a .n) (a .j) (c .before .before .before .pre .0) (c .before .before .before .pre .1) (search needs) (search needs)
+    let start = c .before .before .before in
+    let a = start .args in
+    heard-left (a .c) (a .g) (a .k) (a .n) (a .j) (start .pre .0) (start .pre .1) (search needs) (search needs)
 
 pub heard-spec : {M : Type 1} → statement M
 heard-spec =

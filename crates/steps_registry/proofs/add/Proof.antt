@@ -1,44 +1,34 @@
--- `steps_registry::add` meets its contract: the chain of checks is the model's, and so is the registry left. Assumes nothing.
-use mathlib.Core.Bool.{cond}
-use mathlib.Core.Path.{_≡_, _∙_}
-use lib.Dec.{ltb}
-use Rattle.steps_registry.proofs.Rulings.{rules-refused, rules-accepted, add-answer, add-after}
+-- `steps_registry::add` meets its contract. Assumes nothing.
+use mathlib.Core.Path.{refl, sym}
+use Rattle.model.specs.Steps.{add}
+use Rattle.cluster.proofs.Steps.{rules}
+use Rattle.steps_registry.specs.Checks.{addChecks}
+use Rattle.steps_registry.proofs.Answers.{add-answer}
+use Rattle.steps_registry.proofs.Afters.{add-after}
 use borrow.Author.Needs.{needs}
 use Rattle.steps_registry.proofs.add.Statement.{statement}
 use Rattle.steps_registry.proofs.add.Tie as tie
 
+-- the entry, and where b is found
+abbrev entry : tie.After-may-add → tie.Start
+entry c = c .before .before .before
+
+abbrev own : tie.After-may-add → tie.After-seat
+own c = c .before
+
 seat-requires : tie.Need-seat-requires
 seat-requires c κs = search needs
 
-check-requires : tie.Need-check-requires
-check-requires c κs = search needs
-
-has-requires : tie.Need-has-requires
-has-requires c κs = search needs
-
-check-requires-2 : tie.Need-check-requires-2
-check-requires-2 c κs = search needs
-
-choosing-requires : tie.Need-choosing-requires
-choosing-requires c κs = search needs
-
-check-requires-3 : tie.Need-check-requires-3
-check-requires-3 c κs = search needs
-
-replica-requires : tie.Need-replica-requires
-replica-requires c κs = search needs
-
-check-requires-4 : tie.Need-check-requires-4
-check-requires-4 c κs = search needs
-
--- The check of "raise".
-raise : (c : tie.After-check) → c .check .result ≡ cond (ltb (c .before .before .before .before .args .r .view .epoch) 4000) 0 7
-raise c = c .check .ensures
+may-add-requires : tie.Need-may-add-requires
+may-add-requires c κs = search needs
 
 returns : tie.Need-returns
 returns c =
-    let a = c .before .before .before .before .before .before .before .before .before .before .before .args in
-    rules-refused _ _ _ (add-answer (a .r) (a .b) _ (c .before .before .before .before .before .before .before .before .before .seat .ensures .2) _ (c .before .check4 .ensures ∙ rw (c .before .before .replica .ensures, c .before .before .before .check3 .ensures, c .before .before .before .before .choosing .ensures, c .before .before .before .before .before .check2 .ensures, c .before .before .before .before .before .before .has .ensures, raise (c .before .before .before .before .before .before .before)))) (c .if1 .taken)
+    let d = c .before in
+    let a = entry d .args in
+    let seat = own d .seat .ensures .2 in
+    rules (add (a .b)) (addChecks (a .r) _ (a .b)) tt (a .r) (add-answer (a .r) (a .b) _ seat) _
+    (d .may-add .ensures) refl (λ _. refl) (λ z. absurd (c .if1 .taken z))
 
 raised-requires : tie.Need-raised-requires
 raised-requires c κs = search needs
@@ -48,22 +38,14 @@ insert-requires c κs = search needs
 
 returns-2 : tie.Need-returns-2
 returns-2 c =
-    let a = c .before .before .before .before .before .before .before .before .before .before .before .before .before .args in
-    rules-accepted _ _ _ _ (add-answer (a .r) (a .b) _ (c .before .before .before .before .before .before .before .before .before .before .before .seat .ensures .2) _ (c .before .before .before .check4 .ensures ∙ rw (c .before .before .before .before .replica .ensures, c .before .before .before .before .before .check3 .ensures, c .before .before .before .before .before .before .choosing .ensures, c .before .before .before .before .before .before .before .check2 .ensures, c .before .before .before .before .before .before .before .before .has .ensures, raise (c .before .before .before .before .before .before .before .before .before)))) (c .before .before .if1 .left) (add-after (a .r) (a .b) _ (c .before .before .before .before .before .before .before .before .before .before .before .seat .ensures .2) _ _ (c .before .raised .ensures) (c .insert .ensures))
+    let d = c .before .before .before in
+    let a = entry d .args in
+    let seat = own d .seat .ensures .2 in
+    rules (add (a .b)) (addChecks (a .r) _ (a .b)) tt (a .r) (add-answer (a .r) (a .b) _ seat) _
+    (d .may-add .ensures) (sym (c .before .before .if1 .left)) (λ h. absurd (h refl))
+    (λ _ h s. add-after (a .r) _ (c .before .raised .ensures) (a .b) _ _ seat (c .insert .ensures) h)
 
 pub add-spec : {M : Type 1} → statement M
 add-spec =
     tie.close
-    (tie.spec
-    seat-requires
-    check-requires
-    has-requires
-    check-requires-2
-    choosing-requires
-    check-requires-3
-    replica-requires
-    check-requires-4
-    returns
-    raised-requires
-    insert-requires
-    returns-2)
+    (tie.spec seat-requires may-add-requires returns raised-requires insert-requires returns-2)

@@ -1,28 +1,26 @@
--- `steps_registry::change` meets its contract: the chain of checks is the model's, and so is the registry left. Assumes nothing.
-use mathlib.Core.Path.{_∙_}
-use Rattle.steps_registry.proofs.Rulings.{rules-refused, rules-accepted, change-answer, change-after}
+-- `steps_registry::change` meets its contract. Assumes nothing.
+use mathlib.Core.Path.{refl, sym}
+use Rattle.model.specs.Steps.{changeLeader}
+use Rattle.cluster.proofs.Steps.{rules}
+use Rattle.steps_registry.specs.Checks.{changeChecks}
+use Rattle.steps_registry.proofs.Answers.{change-answer}
+use Rattle.steps_registry.proofs.Afters.{change-after}
 use borrow.Author.Needs.{needs}
 use Rattle.steps_registry.proofs.change.Statement.{statement}
 use Rattle.steps_registry.proofs.change.Tie as tie
 
-check-requires : tie.Need-check-requires
-check-requires c κs = search needs
+-- the entry
+abbrev entry : tie.After-may-change → tie.Start
+entry c = c .before .before
 
-size-requires : tie.Need-size-requires
-size-requires c κs = search needs
-
-check-requires-2 : tie.Need-check-requires-2
-check-requires-2 c κs = search needs
-
-normal-requires : tie.Need-normal-requires
-normal-requires c κs = search needs
-
-check-requires-3 : tie.Need-check-requires-3
-check-requires-3 c κs = search needs
+may-change-requires : tie.Need-may-change-requires
+may-change-requires c κs = search needs
 
 returns : tie.Need-returns
 returns c =
-    rules-refused _ _ _ (change-answer (c .before .before .before .before .before .before .before .before .args .r) _ (c .before .check3 .ensures ∙ rw (c .before .before .normal .ensures, c .before .before .before .check2 .ensures, c .before .before .before .before .size .ensures, c .before .before .before .before .before .check .ensures))) (c .if1 .taken)
+    let r = entry (c .before) .args .r in
+    rules changeLeader (changeChecks r) tt r (change-answer r) _
+    (c .before .may-change .ensures) refl (λ _. refl) (λ z. absurd (c .if1 .taken z))
 
 raised-requires : tie.Need-raised-requires
 raised-requires c κs = search needs
@@ -35,19 +33,18 @@ succession-requires c κs = search needs
 
 returns-2 : tie.Need-returns-2
 returns-2 c =
-    let r = c .before .before .before .before .before .before .before .before .before .before .before .args .r in
-    rules-accepted _ _ _ _ (change-answer r _ (c .before .before .before .before .check3 .ensures ∙ rw (c .before .before .before .before .before .normal .ensures, c .before .before .before .before .before .before .check2 .ensures, c .before .before .before .before .before .before .before .size .ensures, c .before .before .before .before .before .before .before .before .check .ensures))) (c .before .before .before .if1 .left)
-    (change-after r _ _ (c .succession .result) (c .before .before .raised .ensures) (c .before .without .ensures) (c .succession .ensures))
+    let d = c .before .before .before .before in
+    let r = entry d .args .r in
+    rules changeLeader (changeChecks r) tt r (change-answer r) _
+    (d .may-change .ensures) (sym (c .before .before .before .if1 .left)) (λ h. absurd (h refl))
+    (λ _. change-after r _ (c .before .before .raised .ensures) _ (c .succession .result)
+    (c .before .without .ensures) (c .succession .ensures))
 
 pub change-spec : {M : Type 1} → statement M
 change-spec =
     tie.close
     (tie.spec
-    check-requires
-    size-requires
-    check-requires-2
-    normal-requires
-    check-requires-3
+    may-change-requires
     returns
     raised-requires
     without-requires

@@ -15,10 +15,12 @@ replica-requires c κs = search needs
 returns : tie.Need-returns
 returns c =
     let a = c .before .before .args in
-    sym (upd-idle (bits (a .m)) (a .l) false (bits-out (a .m) (a .l) (sym (c .before .replica .ensures) ∙ not-true _ (c .if1 .taken))))
+    let out = sym (c .before .replica .ensures) ∙ not-true _ (c .if1 .taken) in
+    sym (upd-idle (bits (a .m)) (a .l) false (bits-out (a .m) (a .l) out))
 
 remove-requires : tie.Need-remove-requires
-remove-requires c κs = replica-range (c .before .before .args .l) (sym (c .before .replica .ensures) ∙ not-false _ (c .if1 .left))
+remove-requires c κs =
+    replica-range (c .before .before .args .l) (sym (c .before .replica .ensures) ∙ not-false _ (c .if1 .left))
 
 returns-2 : tie.Need-returns-2
 returns-2 c = search needs
