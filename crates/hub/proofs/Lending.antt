@@ -16,7 +16,7 @@ use Rattle.cluster.specs.declared.Told.{Told}
 use Rattle.cluster.specs.Layout.{stageOf, controllerOf}
 use Rattle.cluster.specs.Parts.{Tells}
 use Rattle.cluster.specs.Stages.{HasLeader}
-use Rattle.steps_controller.specs.Known.{LeaderKnown}
+use Rattle.steps_controller.specs.Known.{LeaderKnown, ReadKnown, HearKnown}
 use Rattle.hub.specs.declared.Report.{Report}
 use Rattle.hub.specs.Lent.{controllerFits, reportRanges, reportFits, leaderFits, Reported, Lends}
 
@@ -59,14 +59,6 @@ module _ (st : Step) (only : (s : RowState) → next entries s st ≡ withContro
   lends false Known k n e t ea ec =
       turned-away st c false refl Known t (ea ∙ e) (ec ∙ ap (λ m. cond (eqb m 0) (a .controller) c) e)
 
--- What the core's steps are told of the board b in place of the report x: the length l, which is a length in any case.
-module _ (b : ℕ) (x : Report) (l : ℕ) (s : RowState) where
-  abbrev pub ReadTold : Type 0
-  ReadTold = isReplica b ≡ true → (s .joined b ≡ x .joined) × (length (s .log b) ≡ l)
-
-  abbrev pub HearTold : Type 0
-  HearTold = isReplica b ≡ true → (s .view b .epoch ≡ x .epoch) × (s .joined b ≡ x .joined) × (length (s .log b) ≡ l)
-
 -- A report that fits.
 module _ (c : Controller) (x : Report) where
   fields : reportFits c x ≡ true → AllTrue (reportRanges x)
@@ -90,15 +82,16 @@ module _ (c : Controller) (x : Report) where
     pub leader-fits : HasLeader c
     leader-fits g = subst (λ b. isReplica b ≡ true) (leaders g) (is-true (isReplica (x .board)) (fields fit .0))
 
--- What the core's steps are told is so, where the report fits and is so.
+-- What the core's steps are told is so, where the report fits and is so. In place of the report's length they are told l, which is a
+-- length in any case.
 module _ (c : Controller) (x : Report) (l : ℕ) (short : leb (x .len) 512 ≡ true → l ≡ x .len) (s : RowState) where
   len-told : reportFits c x ≡ true → Reported x s → length (s .log (x .board)) ≡ l
   len-told t k = k .len ∙ sym (short (is-true (leb (x .len) 512) (fields c x t .1 .1 .1 .0)))
 
-  pub read-told : reportFits c x ≡ true → Reported x s → ReadTold (x .board) x l s
+  pub read-told : reportFits c x ≡ true → Reported x s → ReadKnown (x .board) (x .joined) l s
   read-told t k _ = (k .joined, len-told t k)
 
-  pub hear-told : reportFits c x ≡ true → Reported x s → HearTold (x .board) x l s
+  pub hear-told : reportFits c x ≡ true → Reported x s → HearKnown (x .board) (x .epoch) (x .joined) l s
   hear-told t k _ = (k .epoch, k .joined, len-told t k)
 
   pub leader-told : leaderFits c x ≡ true → Reported x s → LeaderKnown c (x .epoch) l s

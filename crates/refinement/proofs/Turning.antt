@@ -22,7 +22,7 @@ use Rattle.model.proofs.Tests.{at-or, by-test, by-cond, eqb-same, upd-same, upd
 use Rattle.model.proofs.Quorum.{replica-range}
 use Rattle.model.proofs.Answer.{zero-accepted, nonzero-refused}
 use Rattle.members.specs.Mask.{bits, under}
-use Rattle.members.proofs.Laws.{replica, under-more}
+use Rattle.members.proofs.Laws.{replica, gathered}
 use Rattle.logstore.specs.Log.{place, logOf}
 use Rattle.logstore.proofs.Laws.{log-length, log-other, log-gains}
 use Rattle.cluster.specs.declared.Cluster.{Cluster}
@@ -102,10 +102,6 @@ set-idle d (x ∷ xs) (suc i) = ap (λ ys. x ∷ ys) (set-idle d xs i)
 -- The length at the place of a replica.
 pub short-at : (len : List ℕ) (k : ℕ) → Short len → 1 ≤ k → getD len (k - 1) 0 ≤ 512
 short-at len k short h = subst (λ m. m ≤ 512) (at-index 0 len k h) (short .most k)
-
--- What stands at the place of b.
-pub at-seat : {A : Type 0} (d : A) (xs : List A) (b k : ℕ) → (isReplica b ≡ true → k ≡ b) → T (isReplica b) → getD xs (k - 1) d ≡ at d xs b
-at-seat d xs b k hk t = ap (λ x. getD xs (x - 1) d) (hk (is-true (isReplica b) t)) ∙ sym (at-index d xs b (replica-range b t .0))
 
 -- One entry more fits its type.
 pub fits-next : {n : ℕ} → n < 512 → Fits w16 (n + 1)
@@ -224,6 +220,4 @@ module _ (acked : List ℕ) (b n : ℕ) (low : 1 ≤ b) (high : b ≤ 8) (all : 
 -- One more replica is looked at for the quorum of a receipt.
 pub counted-more : (acked : List ℕ) (b n x q q′ : ℕ) → 1 ≤ b → b ≤ 8 → 1 ≤ x → x ≤ 8 → bits q ≡ under x (countedAbove (atPair acked b) n)
     → bits q′ ≡ upd (bits q) x (ltb n (getD acked (8 * (b - 1) + (x - 1)) 0)) → bits q′ ≡ under (x + 1) (countedAbove (atPair acked b) n)
-counted-more acked b n x q q′ hb kb hx kx e f =
-    let t : ltb n (getD acked (8 * (b - 1) + (x - 1)) 0) ≡ countedAbove (atPair acked b) n x = rw (replica b hb kb, replica x hx kx) in
-    f ∙ rw (e, t) (under-more (countedAbove (atPair acked b) n) x hx kx)
+counted-more acked b n x q q′ hb kb hx kx e f = gathered (countedAbove (atPair acked b) n) x q q′ _ hx kx e f (rw (replica b hb kb, replica x hx kx))

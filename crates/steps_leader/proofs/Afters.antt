@@ -17,9 +17,9 @@ use Rattle.logstore.specs.Log.{place, logOf}
 use Rattle.logstore.proofs.Laws.{list-gains, log-entry}
 use Rattle.cluster.specs.declared.Cluster.{Cluster}
 use Rattle.cluster.specs.Layout.{at, atPair, outlineOf}
-use Rattle.cluster.proofs.Laws.{at-index}
+use Rattle.cluster.proofs.Laws.{at-index, at-seat}
 use Rattle.refinement.specs.Memory.{Places, lent, Full, abs, Short}
-use Rattle.refinement.proofs.Turning.{log-len, at-seat, logs-grow, pair-set}
+use Rattle.refinement.proofs.Turning.{log-len, logs-grow, pair-set}
 
 -- The place that step 1 writes.
 pub append-place : (row : Cluster) (b value k : ℕ) → (isReplica b ≡ true → k ≡ b) → accepted (outlineOf row) (append b value) ≡ true

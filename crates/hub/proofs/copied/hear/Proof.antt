@@ -3,7 +3,8 @@ use mathlib.Core.Path.{refl, _∙_}
 use borrow.Author.Needs.{needs}
 use Rattle.model.specs.Steps.{hear}
 use Rattle.hub.specs.Lent.{reportFits, Reported}
-use Rattle.hub.proofs.Lending.{lends, HearTold, hear-told}
+use Rattle.steps_controller.specs.Known.{HearKnown}
+use Rattle.hub.proofs.Lending.{lends, hear-told}
 use Rattle.hub.proofs.copied.hear.Statement.{statement}
 use Rattle.hub.proofs.copied.hear.Tie as tie
 
@@ -27,7 +28,7 @@ returns c =
     let a = c .before .before .before .before .before .before .args in
     let ok = c .before .before .before .before .before .report .ensures in
     let l = c .before .before .before .before .length .ensures in
-    lends (hear (a .x .board)) (λ s. refl) (a .c) (HearTold _ (a .x) _) _ _ (c .before .before .before .hear .ensures) refl (reportFits (a .c) (a .x)) (Reported (a .x))
+    lends (hear (a .x .board)) (λ s. refl) (a .c) (HearKnown (a .x .board) (a .x .epoch) (a .x .joined) _) _ _ (c .before .before .before .hear .ensures) refl (reportFits (a .c) (a .x)) (Reported (a .x))
     (hear-told (a .c) (a .x) _ (l .1)) _ (c .before .check .ensures ∙ rw ok) _ (c .ended .ensures .0) (c .ended .ensures .1)
 
 pub hear-spec : {M : Type 1} → statement M

@@ -3,7 +3,8 @@ use mathlib.Core.Path.{refl, _∙_}
 use borrow.Author.Needs.{needs}
 use Rattle.model.specs.Steps.{read}
 use Rattle.hub.specs.Lent.{reportFits, Reported}
-use Rattle.hub.proofs.Lending.{lends, ReadTold, read-told}
+use Rattle.steps_controller.specs.Known.{ReadKnown}
+use Rattle.hub.proofs.Lending.{lends, read-told}
 use Rattle.hub.proofs.copied.read.Statement.{statement}
 use Rattle.hub.proofs.copied.read.Tie as tie
 
@@ -27,7 +28,7 @@ returns c =
     let a = c .before .before .before .before .before .before .args in
     let ok = c .before .before .before .before .before .report .ensures in
     let l = c .before .before .before .before .length .ensures in
-    lends (read (a .x .board)) (λ s. refl) (a .c) (ReadTold _ (a .x) _) _ _ (c .before .before .before .read .ensures) refl (reportFits (a .c) (a .x)) (Reported (a .x))
+    lends (read (a .x .board)) (λ s. refl) (a .c) (ReadKnown (a .x .board) (a .x .joined) _) _ _ (c .before .before .before .read .ensures) refl (reportFits (a .c) (a .x)) (Reported (a .x))
     (read-told (a .c) (a .x) _ (l .1)) _ (c .before .check .ensures ∙ rw ok) _ (c .ended .ensures .0) (c .ended .ensures .1)
 
 pub read-spec : {M : Type 1} → statement M
