@@ -1,4 +1,5 @@
--- From the call of a step to the record that stands for it: unused fields and numbers that are no step. Assumes nothing.
+-- From the call of a step to the record that stands for it: unused fields and numbers that are no step. Assumes
+-- nothing.
 use mathlib.Core.Bool.{Bool, true, false, cond, _&&_, false≢true}
 use mathlib.Core.List.{List, [], _∷_}
 use mathlib.Core.Path.{_≡_, refl, sym, subst, ap, _∙_}
@@ -26,22 +27,29 @@ pub malformed-leaves : (row : Cluster) → Ready row → (p : Places) → Full p
 malformed-leaves row r p full = turns-refused row (r .short) (r .issued) p full malformed 1 refl (λ e. omega arith)
 
 -- A step that leaves the views.
-pub sends-kept : {st : Step} {g : Registry} {c : Controller} {views : List View} {issued issued′ : ℕ} {joined acked len joined′ acked′ len′ : List ℕ}
+pub sends-kept : {st : Step} {g : Registry} {c : Controller} {views : List View} {issued issued′ : ℕ}
+    {joined acked len joined′ acked′ len′ : List ℕ}
     {p p′ : Places} {s : Settled}
-    → Leaves st (rowOf g c views joined acked len issued) p (s .answer) (rowOf (s .registry) (s .controller) views joined′ acked′ len′ issued′) p′
-    → Sends st g c views issued joined acked len p (record { issued = issued′; place = 0; view = getD views 0 noView; central = s }) joined′ acked′ len′ p′
-sends-kept {st} {g} {c} {views} {issued} {issued′} {joined} {acked} {len} {joined′} {acked′} {len′} {p} {p′} {s} h = record {
-  place = omega arith;
-  leaves = subst (λ vs. Leaves st (rowOf g c views joined acked len issued) p (s .answer) (rowOf (s .registry) (s .controller) vs joined′ acked′ len′ issued′) p′)
-      (sym (set-idle noView views 0)) h;
-}
+    → Leaves st (rowOf g c views joined acked len issued) p (s .answer)
+    (rowOf (s .registry) (s .controller) views joined′ acked′ len′ issued′) p′
+    → Sends st g c views issued joined acked len p
+    (record { issued = issued′; place = 0; view = getD views 0 noView; central = s }) joined′ acked′ len′ p′
+sends-kept {st} {g} {c} {views} {issued} {issued′} {joined} {acked} {len} {joined′} {acked′} {len′} {p} {p′} {s} h =
+    record {
+      place = omega arith;
+      leaves =
+          subst (λ vs. Leaves st (rowOf g c views joined acked len issued) p (s .answer)
+          (rowOf (s .registry) (s .controller) vs joined′ acked′ len′ issued′) p′)
+          (sym (set-idle noView views 0)) h;
+    }
 
 module _ (row : Cluster) (p : Places) (x : Outcome) (p′ : Places) where
   abbrev P : Step → Type 0
   P st = Turns st row p x p′
 
   -- A step that every row answers 1 is as good as none.
-  as-malformed : (st : Step) → ((m : Outline) → answerOf m st ≡ 1) → ((m : Outline) → accepted m st ≡ false) → P st → P malformed
+  as-malformed : (st : Step) → ((m : Outline) → answerOf m st ≡ 1) → ((m : Outline) → accepted m st ≡ false) → P st
+      → P malformed
   as-malformed st one never k = record {
     answer = k .answer ∙ one (outlineOf row);
     state = k .state ∙ ap (λ t. cond t (next entries (abs row p) st) (abs row p)) (never (outline (abs row p)));
@@ -51,12 +59,15 @@ module _ (row : Cluster) (p : Places) (x : Outcome) (p′ : Places) where
     refused = k .refused;
   }
 
-  -- A record with a board and the unused fields o, s and v: its step at the board, or what is no step, which board 0 answers alike.
+  -- A record with a board and the unused fields o, s and v: its step at the board, or what is no step, which board 0
+  -- answers alike.
   pub by-board : (f : ℕ → Step) (b o s v n : ℕ) → n ≡ cond (eqb o 0 && (eqb s 0 && eqb v 0)) b 0
-      → ((m : Outline) → answerOf m (f 0) ≡ 1) → ((m : Outline) → accepted m (f 0) ≡ false) → P (f n) → P (unused (o ∷ s ∷ v ∷ []) (f b))
+      → ((m : Outline) → answerOf m (f 0) ≡ 1) → ((m : Outline) → accepted m (f 0) ≡ false) → P (f n)
+      → P (unused (o ∷ s ∷ v ∷ []) (f b))
   by-board f b o s v n e one never h = go (eqb o 0) (eqb s 0) (eqb v 0) (subst (λ m. P (f m)) e h)
     where
-      go : (p q r : Bool) → P (f (cond (p && (q && r)) b 0)) → P (cond p (cond q (cond r (f b) malformed) malformed) malformed)
+      go : (p q r : Bool) → P (f (cond (p && (q && r)) b 0))
+          → P (cond p (cond q (cond r (f b) malformed) malformed) malformed)
       go true true true k = k
       go true true false k = as-malformed (f 0) one never k
       go true false r k = as-malformed (f 0) one never k
@@ -67,7 +78,8 @@ module _ (row : Cluster) (p : Places) (x : Outcome) (p′ : Places) where
     pub alone-taken : t ≡ true → P st → P (unused (b ∷ o ∷ s ∷ v ∷ []) st)
     alone-taken h k = go (eqb b 0) (eqb o 0) (eqb s 0) (eqb v 0) (sym e ∙ h)
       where
-        go : (p q r u : Bool) → (p && (q && (r && u))) ≡ true → P (cond p (cond q (cond r (cond u st malformed) malformed) malformed) malformed)
+        go : (p q r u : Bool) → (p && (q && (r && u))) ≡ true
+            → P (cond p (cond q (cond r (cond u st malformed) malformed) malformed) malformed)
         go true true true true _ = k
         go true true true false z = absurd (false≢true z)
         go true true false u z = absurd (false≢true z)
@@ -77,7 +89,8 @@ module _ (row : Cluster) (p : Places) (x : Outcome) (p′ : Places) where
     pub alone-refused : t ≡ false → P malformed → P (unused (b ∷ o ∷ s ∷ v ∷ []) st)
     alone-refused h k = go (eqb b 0) (eqb o 0) (eqb s 0) (eqb v 0) (sym e ∙ h)
       where
-        go : (p q r u : Bool) → (p && (q && (r && u))) ≡ false → P (cond p (cond q (cond r (cond u st malformed) malformed) malformed) malformed)
+        go : (p q r u : Bool) → (p && (q && (r && u))) ≡ false
+            → P (cond p (cond q (cond r (cond u st malformed) malformed) malformed) malformed)
         go true true true true z = absurd (false≢true (sym z))
         go true true true false _ = k
         go true true false u _ = k

@@ -1,5 +1,5 @@
-// From a record of a sheet to its step. Inner layer: callers see to refusal 1; the calls of `steps` test it, the runner of sheets
-// knows it.
+// From a record of a sheet to its step. Inner layer: callers see to refusal 1; the calls of `steps` test it, the runner
+// of sheets knows it.
 
 ghost use Rattle.model.specs.Records as R;
 ghost use Rattle.refinement.specs.Memory.{lent, Full, rowOf, Ready};
@@ -13,8 +13,8 @@ use records::Record;
 use records::bare;
 use records::board;
 
-// What a record's step answers and leaves of a row beside what it writes where it is lent: the number of receipts, one view and its
-// place among the eight, and, central, the answer, the registry and the controller.
+// What a record's step answers and leaves of a row beside what it writes where it is lent: the number of receipts, one
+// view and its place among the eight, and, central, the answer, the registry and the controller.
 pub struct Sent {
     pub issued: u16,
     pub place: usize,
@@ -22,8 +22,8 @@ pub struct Sent {
     pub central: Settled,
 }
 
-// Sends a record to its field check and its step. Inner layer: callers see to it that refusal 1 lets the row and the lent places
-// through.
+// Sends a record to its field check and its step. Inner layer: callers see to it that refusal 1 lets the row and the
+// lent places through.
 pub fn send(
     g: Registry,
     c: Controller,
@@ -36,9 +36,11 @@ pub fn send(
     list: &mut [u32],
     r: Record,
 ) -> Sent
-    requires { ⌜ Ready (rowOf g c views (now joined) (now acked) (now len) issued) × Full (lent (now store) (now list)) ⌝ }
+    requires { ⌜ Ready (rowOf g c views (now joined) (now acked) (now len) issued)
+        × Full (lent (now store) (now list)) ⌝ }
     ensures { λ x. ⌜ Sends (R.stepOf (recordOf r))
-        g c views issued (now (joined .entry)) (now (acked .entry)) (now (len .entry)) (lent (now (store .entry)) (now (list .entry)))
+        g c views issued (now (joined .entry)) (now (acked .entry)) (now (len .entry))
+        (lent (now (store .entry)) (now (list .entry)))
         x (now (joined .exit)) (now (acked .exit)) (now (len .exit)) (lent (now (store .exit)) (now (list .exit))) ⌝ }
 {
     // What is no step: answer 1, and all as it was.

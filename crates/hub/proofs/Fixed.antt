@@ -1,4 +1,5 @@
--- What a lent call promises fixes its answer and the record that it leaves, since what it is told is so in some state. Assumes nothing.
+-- What a lent call promises fixes its answer and the record that it leaves, since what it is told is so in some state.
+-- Assumes nothing.
 use mathlib.Core.Bool.{Bool, true}
 use mathlib.Core.List.{[]}
 use mathlib.Core.Path.{_≡_, refl, sym, ap, _∙_}
@@ -12,7 +13,8 @@ use Rattle.refinement.proofs.Rows.{at-equal, view-equal, stage-equal}
 use Rattle.hub.specs.declared.Report.{Report}
 use Rattle.hub.specs.Lent.{Reported, Lends}
 
--- A state in which what a board tells is so: every board has it. (One with the registry that step 10 is told needs no words.)
+-- A state in which what a board tells is so: every board has it. (One with the registry that step 10 is told needs no
+-- words.)
 pub somewhere : (x : Report) → (s : RowState) × Reported x s
 somewhere x = (
   record {
@@ -41,7 +43,8 @@ controllers-equal c d t u e =
     let j = at-equal 0 (c .joined) (d .joined) (t .joined ∙ sym (u .joined)) (λ b i. e i .heardJoined b) in
     λ i. record { view = v i; stage = s i; heard = h i; joined = j i }
 
-pub fixed : (fits : Bool) (Known : RowState → Type 0) (st : Step) (c : Controller) (n m : ℕ) (c′ d : Controller) → Typed c′ → Typed d → (s : RowState) → Known s
+pub fixed : (fits : Bool) (Known : RowState → Type 0) (st : Step) (c : Controller) (n m : ℕ) (c′ d : Controller)
+    → Typed c′ → Typed d → (s : RowState) → Known s
     → Lends fits Known st c n c′ → Lends fits Known st c m d → (n ≡ m) × (c′ ≡ d)
 fixed fits Known st c n m c′ d t u s k l l′ = (
   l .answer s (λ _. k) ∙ sym (l′ .answer s (λ _. k)),

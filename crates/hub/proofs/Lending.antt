@@ -21,7 +21,8 @@ use Rattle.hub.specs.declared.Report.{Report}
 use Rattle.hub.specs.Lent.{controllerFits, reportRanges, reportFits, leaderFits, Reported, Lends}
 
 -- A step that changes the controller at most: the state before it with the controller after it is the state after it.
-module _ (st : Step) (only : (s : RowState) → next entries s st ≡ withController s (next entries s st .controller)) (s : RowState) where
+module _ (st : Step) (only : (s : RowState) → next entries s st ≡ withController s (next entries s st .controller))
+    (s : RowState) where
   put-back : withController s (step entries s st .controller) ≡ step entries s st
   put-back = go (accepted (outline s) st)
     where
@@ -39,17 +40,23 @@ turned-away st c fits unfit Known t ea ec = record {
 }
 
 -- The core's step of c, which is st, gave a; refusal 1 is checked before it, and what is refused leaves c.
-module _ (st : Step) (only : (s : RowState) → next entries s st ≡ withController s (next entries s st .controller)) (c : Controller) (Known′ : RowState → Type 0) (core : Step) (a : Told) (by-core : Tells Known′ core c a) (same-step : core ≡ st) where
+module _ (st : Step) (only : (s : RowState) → next entries s st ≡ withController s (next entries s st .controller))
+    (c : Controller) (Known′ : RowState → Type 0) (core : Step) (a : Told) (by-core : Tells Known′ core c a)
+    (same-step : core ≡ st) where
   h : Tells Known′ st c a
   h = subst (λ st. Tells Known′ st c a) same-step by-core
 
-  pub lends : (fits : Bool) (Known : RowState → Type 0) → ((s : RowState) → fits ≡ true → Known s → Known′ s) → (n : ℕ) → n ≡ cond fits (a .answer) 1
-      → (t : Told) → t .answer ≡ n → t .controller ≡ cond (eqb n 0) (a .controller) c → Lends fits Known st c (t .answer) (t .controller)
+  pub lends : (fits : Bool) (Known : RowState → Type 0) → ((s : RowState) → fits ≡ true → Known s → Known′ s) → (n : ℕ)
+      → n ≡ cond fits (a .answer) 1
+      → (t : Told) → t .answer ≡ n → t .controller ≡ cond (eqb n 0) (a .controller) c
+      → Lends fits Known st c (t .answer) (t .controller)
   lends true Known k n e t ea ec =
       let left : t .controller ≡ a .controller = ec ∙ same (eqb n 0) refl in
       record {
         answer = λ s f. ea ∙ e ∙ h .answer s (k s refl (f refl));
-        state = λ s f. ap (λ d. withController s (controllerOf d)) left ∙ ap (withController s) (h .after s (k s refl (f refl))) ∙ put-back st only (withController s (controllerOf c));
+        state = λ s f. ap (λ d. withController s (controllerOf d)) left
+            ∙ ap (withController s) (h .after s (k s refl (f refl)))
+            ∙ put-back st only (withController s (controllerOf c));
         refused = λ z. left ∙ h .refused (λ y. z (ea ∙ e ∙ y));
       }
     where
@@ -82,8 +89,8 @@ module _ (c : Controller) (x : Report) where
     pub leader-fits : HasLeader c
     leader-fits g = subst (λ b. isReplica b ≡ true) (leaders g) (is-true (isReplica (x .board)) (fields fit .0))
 
--- What the core's steps are told is so, where the report fits and is so. In place of the report's length they are told l, which is a
--- length in any case.
+-- What the core's steps are told is so, where the report fits and is so. In place of the report's length they are told
+-- l, which is a length in any case.
 module _ (c : Controller) (x : Report) (l : ℕ) (short : leb (x .len) 512 ≡ true → l ≡ x .len) (s : RowState) where
   len-told : reportFits c x ≡ true → Reported x s → length (s .log (x .board)) ≡ l
   len-told t k = k .len ∙ sym (short (is-true (leb (x .len) 512) (fields c x t .1 .1 .1 .0)))

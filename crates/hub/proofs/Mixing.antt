@@ -15,11 +15,15 @@ called : {s : RowState} {st : Step} {h h′ : Held} {n : ℕ} → Reached s → 
 unfolding PutBack
 called k m (byValue d) = d
 called k m (news {h = h} {n = n} {c′ = c′} shape l) = put-back (h .row) (h .places) shape (fit k m) .news n c′ l
-called k m (readLeader {h = h} {b = b} {n = n} {c′ = c′} shape t l) = put-back (h .row) (h .places) shape (fit k m) .readLeader b n c′ t l
-called k m (read {h = h} {b = b} {n = n} {c′ = c′} shape l) = put-back (h .row) (h .places) shape (fit k m) .read b n c′ l
-called k m (hear {h = h} {b = b} {n = n} {c′ = c′} shape l) = put-back (h .row) (h .places) shape (fit k m) .hear b n c′ l
+called k m (readLeader {h = h} {b = b} {n = n} {c′ = c′} shape t l) =
+    put-back (h .row) (h .places) shape (fit k m) .readLeader b n c′ t l
+called k m (read {h = h} {b = b} {n = n} {c′ = c′} shape l) =
+    put-back (h .row) (h .places) shape (fit k m) .read b n c′ l
+called k m (hear {h = h} {b = b} {n = n} {c′ = c′} shape l) =
+    put-back (h .row) (h .places) shape (fit k m) .hear b n c′ l
 
-calls : {h h′ : Held} {sts : List Step} {ns : List ℕ} → Links h sts h′ ns → (s : RowState) → Reached s → Holds s h → Calls h sts h′ ns
+calls : {h h′ : Held} {sts : List Step} {ns : List ℕ} → Links h sts h′ ns → (s : RowState) → Reached s → Holds s h
+    → Calls h sts h′ ns
 calls stop s k m = Calls.stop
 calls (link {st = st} l ls) s k m =
     let d = called k m l in

@@ -1,4 +1,5 @@
--- Lending the controller and putting it back is a call of the whole row, since both are the model's step of it. Assumes nothing.
+-- Lending the controller and putting it back is a call of the whole row, since both are the model's step of it. Assumes
+-- nothing.
 use mathlib.Core.Bool.{Bool, true, false, not, cond, _&&_, _||_}
 use mathlib.Core.List.{[], _∷_}
 use mathlib.Core.Logic.{_≢_}
@@ -11,7 +12,7 @@ use Rattle.model.specs.State.{RowState, Outline, outline, entries, stageNumber}
 use Rattle.model.specs.Steps as T
 use Rattle.model.specs.Steps.{Step, nothing, writes, accepted, answerOf, step}
 use Rattle.model.specs.Ranges.{every, viewRanges, replicaRanges, leaderNamed, controllerLeaderNamed, ranges, inRange}
-use Rattle.model.proofs.Tests.{of-true, is-true}
+use Rattle.model.proofs.Tests.{same-choice, of-true, is-true}
 use Rattle.model.proofs.Range.{AllTrue, of-every, to-every, of-eight, to-eight}
 use Rattle.cluster.specs.declared.Controller.{Controller}
 use Rattle.cluster.specs.declared.Cluster.{Cluster}
@@ -30,28 +31,44 @@ module _ (row : Cluster) (ok : inRange (outlineOf row) ≡ true) where
   all = of-every (ranges (outlineOf row)) (of-true ok)
 
   by-board : (b : ℕ) → T (isReplica b) → AllTrue (replicaRanges (outlineOf row) b)
-  by-board b k = of-every (replicaRanges (outlineOf row) b) (of-eight (λ x. every (replicaRanges (outlineOf row) x)) (all .1 .1 .1 .1 .1 .0) b k)
+  by-board b k =
+      of-every (replicaRanges (outlineOf row) b)
+      (of-eight (λ x. every (replicaRanges (outlineOf row) x)) (all .1 .1 .1 .1 .1 .0) b k)
 
   registry-fit : registryFits (row .registry) ≡ true
-  registry-fit = sym (registry-fits (row .registry)) ∙ rw (is-true (every (viewRanges (outlineOf row .registry .view))) (all .0), is-true (leaderNamed (outlineOf row)) (all .1 .1 .0))
+  registry-fit =
+      sym (registry-fits (row .registry))
+      ∙ rw (
+        is-true (every (viewRanges (outlineOf row .registry .view))) (all .0),
+        is-true (leaderNamed (outlineOf row)) (all .1 .1 .0),
+      )
 
   controller-fit : controllerFits (row .controller) ≡ true
-  controller-fit = sym (controller-fits (row .controller)) ∙ rw (is-true (every (viewRanges (outlineOf row .controller .view))) (all .1 .0), is-true (controllerLeaderNamed (outlineOf row)) (all .1 .1 .1 .0), is-true (hearings (row .controller .heard) (row .controller .joined)) heard)
+  controller-fit =
+      sym (controller-fits (row .controller))
+      ∙ rw (
+        is-true (every (viewRanges (outlineOf row .controller .view))) (all .1 .0),
+        is-true (controllerLeaderNamed (outlineOf row)) (all .1 .1 .1 .0),
+        is-true (hearings (row .controller .heard) (row .controller .joined)) heard,
+      )
     where
       heard : T (hearings (row .controller .heard) (row .controller .joined))
-      heard = to-eight (λ b. every (leb (at 0 (row .controller .heard) b) 513 ∷ leb (at 0 (row .controller .joined) b) 4000 ∷ []))
-          (λ b k. let r = by-board b k in to-every (leb (at 0 (row .controller .heard) b) 513 ∷ leb (at 0 (row .controller .joined) b) 4000 ∷ []) (r .1 .1 .1 .0, (r .1 .1 .1 .1 .0, tt)))
+      heard =
+          to-eight (λ b. every (leb (at 0 (row .controller .heard) b) 513 ∷ leb (at 0 (row .controller .joined) b) 4000
+          ∷ []))
+          (λ b k. let r = by-board b k in
+          to-every (leb (at 0 (row .controller .heard) b) 513 ∷ leb (at 0 (row .controller .joined) b) 4000 ∷ [])
+          (r .1 .1 .1 .0, (r .1 .1 .1 .1 .0, tt)))
 
   report-fit : (b : ℕ) → isReplica b ≡ true → reportFits (row .controller) (reportOf row b) ≡ true
   report-fit b t =
       let r = by-board b (of-true t) in
       let v = of-every (viewRanges (outlineOf row .view b)) (r .0) in
-      rw (controller-fit, is-true (every (reportRanges (reportOf row b))) (to-every (reportRanges (reportOf row b)) (of-true t, (v .0, (r .1 .0, (r .1 .1 .0, tt))))))
-
--- A choice of two that are the same.
-same-choice : {A : Type 0} (t : Bool) {x y : A} → x ≡ y → y ≡ cond t x y
-same-choice true e = sym e
-same-choice false e = refl
+      rw (
+        controller-fit,
+        is-true (every (reportRanges (reportOf row b)))
+            (to-every (reportRanges (reportOf row b)) (of-true t, (v .0, (r .1 .0, (r .1 .1 .0, tt))))),
+      )
 
 module _ (row : Cluster) (p : Places) (shape : Shape row) (v : valid row p ≡ true) where
   abbrev s : RowState
@@ -65,10 +82,15 @@ module _ (row : Cluster) (p : Places) (shape : Shape row) (v : valid row p ≡ t
 
   -- What a row's boards tell is so in its state.
   reported : (b : ℕ) → Reported (reportOf row b) s
-  reported b = record { epoch = refl; joined = refl; len = log-len (p .store) (valid-full row p v .store) (row .len) (is-ready .short) b }
+  reported b = record {
+    epoch = refl;
+    joined = refl;
+    len = log-len (p .store) (valid-full row p v .store) (row .len) (is-ready .short) b;
+  }
 
   -- A lent call that answered and left what the model's step does is a call of the whole row.
-  as-whole : (st : Step) → writes st ≡ nothing → (n : ℕ) (c′ : Controller) → n ≡ answerOf (outline s) st → abs (putBack row c′) p ≡ step entries s st
+  as-whole : (st : Step) → writes st ≡ nothing → (n : ℕ) (c′ : Controller) → n ≡ answerOf (outline s) st
+      → abs (putBack row c′) p ≡ step entries s st
       → (n ≢ 0 → c′ ≡ row .controller) → AsWhole st row p n c′
   as-whole st w n c′ a e r =
       let full = valid-full row p v in
@@ -83,36 +105,48 @@ module _ (row : Cluster) (p : Places) (shape : Shape row) (v : valid row p ≡ t
       }
 
   -- It did, where what it was given fits and is so.
-  fitting : (st : Step) → writes st ≡ nothing → (fits : Bool) (Known : RowState → Type 0) (n : ℕ) (c′ : Controller) → fits ≡ true → Known s
+  fitting : (st : Step) → writes st ≡ nothing → (fits : Bool) (Known : RowState → Type 0) (n : ℕ) (c′ : Controller)
+      → fits ≡ true → Known s
       → Lends fits Known st (row .controller) n c′ → AsWhole st row p n c′
   fitting st w fits Known n c′ f k l = as-whole st w n c′
-      (l .answer s (λ _. k) ∙ ap (λ u. cond u (answerOf (outline s) st) 1) f) (l .state s (λ _. k) ∙ ap (λ u. cond u (step entries s st) s) f) (l .refused)
+      (l .answer s (λ _. k) ∙ ap (λ u. cond u (answerOf (outline s) st) 1) f)
+      (l .state s (λ _. k) ∙ ap (λ u. cond u (step entries s st) s) f) (l .refused)
 
   -- It did, where what it was given does not fit, if the step refuses with 1 too.
-  unfitting : (st : Step) → writes st ≡ nothing → (fits : Bool) (Known : RowState → Type 0) (n : ℕ) (c′ : Controller) → fits ≡ false
-      → answerOf (outline s) st ≡ 1 → step entries s st ≡ s → Lends fits Known st (row .controller) n c′ → AsWhole st row p n c′
+  unfitting : (st : Step) → writes st ≡ nothing → (fits : Bool) (Known : RowState → Type 0) (n : ℕ) (c′ : Controller)
+      → fits ≡ false
+      → answerOf (outline s) st ≡ 1 → step entries s st ≡ s → Lends fits Known st (row .controller) n c′
+      → AsWhole st row p n c′
   unfitting st w fits Known n c′ f a e l = as-whole st w n c′
-      (l .answer s none ∙ ap (λ u. cond u (answerOf (outline s) st) 1) f ∙ sym a) (l .state s none ∙ ap (λ u. cond u (step entries s st) s) f ∙ sym e) (l .refused)
+      (l .answer s none ∙ ap (λ u. cond u (answerOf (outline s) st) 1) f ∙ sym a)
+      (l .state s none ∙ ap (λ u. cond u (step entries s st) s) f ∙ sym e) (l .refused)
     where
       none : fits ≡ true → Known s
       none t = absurd (subst (λ u. T (not u)) (sym f ∙ t) tt)
 
   -- Steps 12 and 14, of any number b: a board, or none, which both refuse with 1.
-  told-whole : (st : Step) (b : ℕ) → ((m : Outline) → isReplica b ≡ false → (answerOf m st ≡ 1) × (accepted m st ≡ false)) → writes st ≡ nothing
-      → (n : ℕ) (c′ : Controller) → Lends (reportFits (row .controller) (reportOf row b)) (Reported (reportOf row b)) st (row .controller) n c′ → AsWhole st row p n c′
+  told-whole : (st : Step) (b : ℕ)
+      → ((m : Outline) → isReplica b ≡ false → (answerOf m st ≡ 1) × (accepted m st ≡ false)) → writes st ≡ nothing
+      → (n : ℕ) (c′ : Controller) → Lends (reportFits (row .controller) (reportOf row b)) (Reported (reportOf row b)) st
+      (row .controller) n c′ → AsWhole st row p n c′
   told-whole st b first w n c′ l = go (isReplica b) refl
     where
       go : (t : Bool) → isReplica b ≡ t → AsWhole st row p n c′
       go true e = fitting st w _ _ n c′ (report-fit row within b e) (reported b) l
-      go false e = let f = first (outline s) e in unfitting st w _ _ n c′ (rw (controller-fit row within, e)) (f .0) (rw (f .1)) l
+      go false e =
+          let f = first (outline s) e in
+          unfitting st w _ _ n c′ (rw (controller-fit row within, e)) (f .0) (rw (f .1)) l
 
 -- Step 11's report is the leader's at stage leader.
 leader-fit : (row : Cluster) (b : ℕ) → reportFits (row .controller) (reportOf row b) ≡ true
-    → (stageNumber (stageOf (row .controller .stage)) ≡ 1 → b ≡ row .controller .view .leader) → leaderFits (row .controller) (reportOf row b) ≡ true
+    → (stageNumber (stageOf (row .controller .stage)) ≡ 1 → b ≡ row .controller .view .leader)
+    → leaderFits (row .controller) (reportOf row b) ≡ true
 leader-fit row b f h = rw f (go (eqb (stageNumber (stageOf (row .controller .stage))) 1) refl)
   where
-    go : (t : Bool) → eqb (stageNumber (stageOf (row .controller .stage))) 1 ≡ t → (not t || eqb b (row .controller .view .leader)) ≡ true
-    go true e = eq-eqb b (row .controller .view .leader) (h (eqb-true (stageNumber (stageOf (row .controller .stage))) 1 e))
+    go : (t : Bool) → eqb (stageNumber (stageOf (row .controller .stage))) 1 ≡ t
+        → (not t || eqb b (row .controller .view .leader)) ≡ true
+    go true e =
+        eq-eqb b (row .controller .view .leader) (h (eqb-true (stageNumber (stageOf (row .controller .stage))) 1 e))
     go false e = refl
 
 pub put-back : PutBack
@@ -120,8 +154,10 @@ unfolding PutBack
 put-back row p shape v =
     let ok = within row p shape v in
     record {
-      news = λ n c′ l. fitting row p shape v T.refreshController refl _ _ n c′ (rw (registry-fit row ok, controller-fit row ok)) refl l;
-      readLeader = λ b n c′ t l. fitting row p shape v T.readLeader refl _ _ n c′ (leader-fit row b (report-fit row ok b (t .0)) (t .1)) (reported row p shape v b) l;
+      news = λ n c′ l. fitting row p shape v T.refreshController refl _ _ n c′
+          (rw (registry-fit row ok, controller-fit row ok)) refl l;
+      readLeader = λ b n c′ t l. fitting row p shape v T.readLeader refl _ _ n c′
+          (leader-fit row b (report-fit row ok b (t .0)) (t .1)) (reported row p shape v b) l;
       read = λ b n c′ l. told-whole row p shape v (T.read b) b (λ m e. (rw e, rw e)) refl n c′ l;
       hear = λ b n c′ l. told-whole row p shape v (T.hear b) b (λ m e. (rw e, rw e)) refl n c′ l;
     }

@@ -1,5 +1,5 @@
--- What a call over the lent controller promises: its answer and the record that it leaves, accepted or refused. Cited by the contracts of hub.
--- Assumes nothing.
+-- What a call over the lent controller promises: its answer and the record that it leaves, accepted or refused. Cited
+-- by the contracts of hub. Assumes nothing.
 use mathlib.Core.Bool.{Bool, true, not, cond, _&&_, _||_}
 use mathlib.Core.List.{List, [], _∷_}
 use mathlib.Core.Logic.{_≢_}
@@ -16,16 +16,17 @@ use Rattle.cluster.specs.declared.Controller.{Controller}
 use Rattle.cluster.specs.Layout.{stageOf, registryOf, controllerOf}
 use Rattle.hub.specs.declared.Report.{Report}
 
--- Refusal 1 of a registry, and of a controller: "a number outside the ranges above, the registry's leader 0 while status is not choosing, or
--- the controller's leader 0 at stage leader or boards". All else in an opened row is in range, so what is asked is asked of the record put into it.
+-- Refusal 1 of a registry, and of a controller: "a number outside the ranges above, the registry's leader 0 while
+-- status is not choosing, or the controller's leader 0 at stage leader or boards". All else in an opened row is in
+-- range, so what is asked is asked of the record put into it.
 unfoldable pub registryFits : Registry → Bool
 registryFits g = inRange (outline {E = Entry} (withRegistry (opened (openingWith 1)) (registryOf g)))
 
 unfoldable pub controllerFits : Controller → Bool
 controllerFits c = inRange (outline {E = Entry} (withController (opened (openingWith 1)) (controllerOf c)))
 
--- The papers leave to the program what these calls are told. Chosen: every number of a report is in its range, used by the step or not, and at
--- stage leader its board is the controller's leader; else 1, before a step's own checks.
+-- The papers leave to the program what these calls are told. Chosen: every number of a report is in its range, used by
+-- the step or not, and at stage leader its board is the controller's leader; else 1, before a step's own checks.
 
 -- Refusal 1 of what a board tells: "a field outside its values".
 abbrev pub reportRanges : Report → List Bool
@@ -35,7 +36,8 @@ reportRanges x = isReplica (x .board) ∷ isEpoch (x .epoch) ∷ isEpoch (x .joi
 abbrev pub reportFits : Controller → Report → Bool
 reportFits c x = controllerFits c && every (reportRanges x)
 
--- Step 11: at stage leader the board that tells is the controller's leader. (At another stage there may be none; any board's telling is answered 15.)
+-- Step 11: at stage leader the board that tells is the controller's leader. (At another stage there may be none; any
+-- board's telling is answered 15.)
 abbrev pub leaderFits : Controller → Report → Bool
 leaderFits c x = reportFits c x && (not (eqb (stageNumber (stageOf (c .stage))) 1) || eqb (x .board) (c .view .leader))
 
@@ -45,14 +47,18 @@ pub record Reported (x : Report) (s : RowState) : Type 0 where
   pub joined : s .joined (x .board) ≡ x .joined
   pub len : length (s .log (x .board)) ≡ x .len
 
--- A call of the step st, lent the controller c: it answers n and leaves c′. If what it is given fits, this is so of any state in which what it was
--- told is so; if not, of any state. There are such states, and one fixes n and c′ (hub/proofs/Fixed.antt, `somewhere` and `fixed`).
-pub record Lends (fits : Bool) (Known : RowState → Type 0) (st : Step) (c : Controller) (n : ℕ) (c′ : Controller) : Type 0 where
+-- A call of the step st, lent the controller c: it answers n and leaves c′. If what it is given fits, this is so of any
+-- state in which what it was told is so; if not, of any state. There are such states, and one fixes n and c′
+-- (hub/proofs/Fixed.antt, `somewhere` and `fixed`).
+pub record Lends (fits : Bool) (Known : RowState → Type 0) (st : Step) (c : Controller) (n : ℕ) (c′ : Controller) : Type
+    0 where
   -- Refusal 1 first, then the model's answer.
-  pub answer : (s : RowState) → (fits ≡ true → Known s) → n ≡ cond fits (answerOf (outline (withController s (controllerOf c))) st) 1
+  pub answer : (s : RowState) → (fits ≡ true → Known s) → n
+      ≡ cond fits (answerOf (outline (withController s (controllerOf c))) st) 1
   -- The state with c′ put back is the model's step of the state with c.
   pub state : (s : RowState) → (fits ≡ true → Known s)
-      → withController s (controllerOf c′) ≡ cond fits (step entries (withController s (controllerOf c)) st) (withController s (controllerOf c))
+      → withController s (controllerOf c′)
+      ≡ cond fits (step entries (withController s (controllerOf c)) st) (withController s (controllerOf c))
   -- A refused call leaves the record itself.
   pub refused : n ≢ 0 → c′ ≡ c
 

@@ -1,5 +1,5 @@
--- The lent controller put back into its row: a call over it is a call of the whole row, so demand 3 holds for lists that mix both.
--- Cited by the promise of `hub::claim`. Assumes nothing.
+-- The lent controller put back into its row: a call over it is a call of the whole row, so demand 3 holds for lists
+-- that mix both. Cited by the promise of `hub::claim`. Assumes nothing.
 use mathlib.Core.Bool.{true}
 use mathlib.Core.List.{List, [], _∷_}
 use mathlib.Core.Path.{_≡_}
@@ -31,26 +31,34 @@ putBack row c = record {
 
 -- What the board b of a row tells.
 abbrev pub reportOf : Cluster → ℕ → Report
-reportOf row b = record { board = b; epoch = at noView (row .views) b .epoch; joined = at 0 (row .joined) b; len = at 0 (row .len) b }
+reportOf row b = record {
+  board = b;
+  epoch = at noView (row .views) b .epoch;
+  joined = at 0 (row .joined) b;
+  len = at 0 (row .len) b;
+}
 
--- A row's controller is lent, and what is told is the row's own: its registry, or what its board b has. In step 11, b is the
--- controller's leader at stage leader, and any board at another.
+-- A row's controller is lent, and what is told is the row's own: its registry, or what its board b has. In step 11, b
+-- is the controller's leader at stage leader, and any board at another.
 abbrev pub TellsOfLeader : Cluster → ℕ → Type 0
-TellsOfLeader row b = (isReplica b ≡ true) × (stageNumber (stageOf (row .controller .stage)) ≡ 1 → b ≡ row .controller .view .leader)
+TellsOfLeader row b =
+    (isReplica b ≡ true) × (stageNumber (stageOf (row .controller .stage)) ≡ 1 → b ≡ row .controller .view .leader)
 
--- The call answered n and left c′. With c′ put back, that is a call of the step with the whole row, which leaves the lent places.
+-- The call answered n and left c′. With c′ put back, that is a call of the step with the whole row, which leaves the
+-- lent places.
 abbrev pub AsWhole : Step → Cluster → Places → ℕ → Controller → Type 0
 AsWhole st row p n c′ = Did st row p (record { answer = n; row = putBack row c′ }) p
 
 pub record LentAsWhole (row : Cluster) (p : Places) : Type 0 where
-  pub news : (n : ℕ) (c′ : Controller) → TakesNews (row .controller) (row .registry) n c′ → AsWhole T.refreshController row p n c′
+  pub news : (n : ℕ) (c′ : Controller) → TakesNews (row .controller) (row .registry) n c′
+      → AsWhole T.refreshController row p n c′
   pub readLeader : (b n : ℕ) (c′ : Controller) → TellsOfLeader row b
       → ReadsLeader (row .controller) (reportOf row b) n c′ → AsWhole T.readLeader row p n c′
   pub read : (b n : ℕ) (c′ : Controller) → Reads (row .controller) (reportOf row b) n c′ → AsWhole (T.read b) row p n c′
   pub hear : (b n : ℕ) (c′ : Controller) → Hears (row .controller) (reportOf row b) n c′ → AsWhole (T.hear b) row p n c′
 
--- So it is for every row and places that refusal 1 lets through. (If it does not, the fault may be in a part of the row that a call
--- lent the controller is not given. The row's type fixes the lengths of its arrays.)
+-- So it is for every row and places that refusal 1 lets through. (If it does not, the fault may be in a part of the row
+-- that a call lent the controller is not given. The row's type fixes the lengths of its arrays.)
 unfoldable pub PutBack : Type 0
 PutBack = (row : Cluster) (p : Places) → Shape row → valid row p ≡ true → LentAsWhole row p
 
@@ -76,8 +84,9 @@ pub data Links : Held → List Step → Held → List ℕ → Type 0 where
   link : {h h′ h″ : Held} {st : Step} {sts : List Step} {n : ℕ} {ns : List ℕ}
       → Link st h h′ n → Links h′ sts h″ ns → Links h (st ∷ sts) h″ (n ∷ ns)
 
--- Demand 3 for lists that mix both kinds, after an opening: what holds after a list of calls by value holds after them, and a mixed
--- list that follows is a list of such calls, so that what is claimed of "whatever calls follow" is claimed of it.
+-- Demand 3 for lists that mix both kinds, after an opening: what holds after a list of calls by value holds after them,
+-- and a mixed list that follows is a list of such calls, so that what is claimed of "whatever calls follow" is claimed
+-- of it.
 unfoldable pub LinksSafe : Type 0
 LinksSafe = (o : Opening) (h : Held) → Begins o h → (sts : List Step) (h′ : Held) (ns : List ℕ) → Links h sts h′ ns
     → Follows o sts h′ ns × ((more : List Step) (h″ : Held) (ms : List ℕ) → Links h′ more h″ ms → Calls h′ more h″ ms)

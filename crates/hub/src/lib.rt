@@ -6,11 +6,12 @@ use cluster::Registry;
 pub mod copied;
 mod fits;
 
-// The controller's steps over its record as the hub lends it: news (10), read leader (11), read (12), hear (14). Bad input is
-// refused with 1. Each copies the record out, calls the function of `copied` with it and stores what that leaves.
+// The controller's steps over its record as the hub lends it: news (10), read leader (11), read (12), hear (14). Bad
+// input is refused with 1. Each copies the record out, calls the function of `copied` with it and stores what that
+// leaves.
 
-// What a board tells of itself: its number, its epoch, its joined epoch, the length of its log. Each must be in range, also one that
-// the step does not use.
+// What a board tells of itself: its number, its epoch, its joined epoch, the length of its log. Each must be in range,
+// also one that the step does not use.
 pub struct Report {
     pub board: u8,
     pub epoch: u16,
@@ -54,8 +55,8 @@ pub fn hear(c: &mut Controller, x: Report) -> u8
     a.answer
 }
 
-// The lent controller put back into its row makes a call of the whole row; so demand 3 holds for lists that mix calls by record, by
-// name and over the lent controller. Nothing to run: the promise is the statement.
+// The lent controller put back into its row makes a call of the whole row; so demand 3 holds for lists that mix calls
+// by record, by name and over the lent controller. Nothing to run: the promise is the statement.
 pub fn claim()
     ensures { λ r. ⌜ PutBack × LinksSafe ⌝ }
 {}

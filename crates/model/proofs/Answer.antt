@@ -1,5 +1,5 @@
--- A step is accepted just where its answer is 0, and no answer is above 16: refusals have the numbers 1 to 16. What a list of checks
--- that answers as the step's own do says of what the step leaves. Assumes nothing.
+-- A step is accepted just where its answer is 0, and no answer is above 16: refusals have the numbers 1 to 16. What a
+-- list of checks that answers as the step's own do says of what the step leaves. Assumes nothing.
 use mathlib.Core.Bool.{Bool, true, false, cond, _&&_}
 use mathlib.Core.List.{List, [], _∷_}
 use mathlib.Core.Logic.{⊎-elim, _≢_}
@@ -21,7 +21,12 @@ numbered ((c else n) ∷ cs) = (leb 1 n && leb n 16) && numbered cs
 pub zero-passes : (cs : List Check) → T (numbered cs) → firstFailed cs ≡ 0 → passes cs ≡ true
 zero-passes [] t e = refl
 zero-passes ((true else n) ∷ cs) t e = zero-passes cs (split-and (leb 1 n && leb n 16) (numbered cs) t .1) e
-zero-passes ((false else n) ∷ cs) t e = absurd (omega (arith, leb→le 1 n (split-and (leb 1 n) (leb n 16) (split-and (leb 1 n && leb n 16) (numbered cs) t .0) .0), e))
+zero-passes ((false else n) ∷ cs) t e =
+    absurd (omega (
+      arith,
+      leb→le 1 n (split-and (leb 1 n) (leb n 16) (split-and (leb 1 n && leb n 16) (numbered cs) t .0) .0),
+      e,
+    ))
 
 -- So each of them holds, and is found by its refusal.
 pub zero-holds : (cs : List Check) → T (numbered cs) → firstFailed cs ≡ 0 → Holds cs
@@ -30,7 +35,8 @@ zero-holds cs t e = facts cs (of-true (zero-passes cs t e))
 first-most : (cs : List Check) → T (numbered cs) → firstFailed cs ≤ 16
 first-most [] t = omega arith
 first-most ((true else n) ∷ cs) t = first-most cs (split-and (leb 1 n && leb n 16) (numbered cs) t .1)
-first-most ((false else n) ∷ cs) t = leb→le n 16 (split-and (leb 1 n) (leb n 16) (split-and (leb 1 n && leb n 16) (numbered cs) t .0) .1)
+first-most ((false else n) ∷ cs) t =
+    leb→le n 16 (split-and (leb 1 n) (leb n 16) (split-and (leb 1 n && leb n 16) (numbered cs) t .0) .1)
 
 passes-zero : (cs : List Check) → passes cs ≡ true → firstFailed cs ≡ 0
 passes-zero [] e = refl
@@ -68,10 +74,11 @@ nonzero-refused m st n = go (accepted m st) refl
     go true e = absurd (n (passes-zero (checks m st) e))
     go false e = refl
 
--- The checks cs answer n, and so does the step st of the state s. What is left of a part of s: refused that part, accepted what the
--- model leaves of it.
+-- The checks cs answer n, and so does the step st of the state s. What is left of a part of s: refused that part,
+-- accepted what the model leaves of it.
 module _ (𝓔 : Entries) (s : State (𝓔 .Entry)) (st : Step) (cs : List Check) (own : T (numbered cs))
-    (same : firstFailed cs ≡ answerOf (outline s) st) (n : ℕ) (e : n ≡ firstFailed cs) {P : Type 0} (part : State (𝓔 .Entry) → P) (p : P) where
+    (same : firstFailed cs ≡ answerOf (outline s) st) (n : ℕ) (e : n ≡ firstFailed cs) {P : Type 0}
+    (part : State (𝓔 .Entry) → P) (p : P) where
   pub part-left : (n ≢ 0 → p ≡ part s) → (n ≡ 0 → Holds cs → p ≡ part (next 𝓔 s st)) → p ≡ part (step 𝓔 s st)
   part-left refused taken = ⊎-elim yes no (eq-or-ne n 0)
     where

@@ -1,5 +1,5 @@
--- No state of a run earns refusal 1: the bounds that steps keep by their own checks, and those that follow from the invariant.
--- Assumes nothing.
+-- No state of a run earns refusal 1: the bounds that steps keep by their own checks, and those that follow from the
+-- invariant. Assumes nothing.
 use mathlib.Core.Bool.{Bool, true, false, not, cond, _&&_}
 use mathlib.Core.List.{List, [], _∷_, _++_}
 use mathlib.Core.Logic.{_⊎_, inl, inr, _≢_}
@@ -50,10 +50,12 @@ pub record Bounds {E : Type 0} (s : State E) : Type 0 where
 upd-in : (f : ℕ → ℕ) (n b v : ℕ) → v ≤ n → ((x : ℕ) → f x ≤ n) → (x : ℕ) → upd f b v x ≤ n
 upd-in f n b v h k x = by-cond (λ y. y ≤ n) (eqb x b) (λ _. h) (λ _. k x)
 
-counts-in : (f : ℕ → ℕ → ℕ) (g : ℕ → ℕ) (n b : ℕ) → ((x : ℕ) → g x ≤ n) → ((a x : ℕ) → f a x ≤ n) → (a x : ℕ) → upd f b g a x ≤ n
+counts-in : (f : ℕ → ℕ → ℕ) (g : ℕ → ℕ) (n b : ℕ) → ((x : ℕ) → g x ≤ n) → ((a x : ℕ) → f a x ≤ n) → (a x : ℕ)
+    → upd f b g a x ≤ n
 counts-in f g n b h k a x = by-cond (λ (y : ℕ → ℕ). y x ≤ n) (eqb a b) (λ _. h x) (λ _. k a x)
 
-log-in : {E : Type 0} (f : ℕ → List E) (b : ℕ) (l : List E) → length l ≤ 512 → ((x : ℕ) → length (f x) ≤ 512) → (x : ℕ) → length (upd f b l x) ≤ 512
+log-in : {E : Type 0} (f : ℕ → List E) (b : ℕ) (l : List E) → length l ≤ 512 → ((x : ℕ) → length (f x) ≤ 512) → (x : ℕ)
+    → length (upd f b l x) ≤ 512
 log-in f b l h k x = by-cond (λ y. length y ≤ 512) (eqb x b) (λ _. h) (λ _. k x)
 
 one-more : {E : Type 0} (l : List E) (e : E) → length l < 512 → length (l ++ (e ∷ [])) ≤ 512
@@ -75,7 +77,9 @@ module _ {E : Type 0} {L : ℕ → ℕ} {s : State E} (i : Inv L s) (k : Bounds 
   registry-in = record {
     epoch = omega (arith, first, k .registry);
     term = omega (arith, first, k .registry);
-    leader = subst (λ x. x ≤ 8) (sym (i .registry .named)) (by-cond (λ x. x ≤ 8) (isChoosing (registry .status)) (λ _. omega arith) (λ _. leader-in (registry .view .term)));
+    leader = subst (λ x. x ≤ 8) (sym (i .registry .named))
+        (by-cond (λ x. x ≤ 8) (isChoosing (registry .status)) (λ _. omega arith)
+        (λ _. leader-in (registry .view .term)));
   }
 
   view-in : (b : ℕ) → T (isReplica b) → ViewInRange (view b)
@@ -134,7 +138,8 @@ module _ (𝓔 : Entries) where
   module _ {L : ℕ → ℕ} {s : State Entry} (i : Inv L s) (k : Bounds s) where
     open State s using (registry, controller, view, joined, acked, log, committed)
 
-    heard-in : (g : Stage) (b j : ℕ) → j ≤ 4000 → (stageNumber g ≡ 1 → controller .view .leader ≢ 0) → (stageNumber g ≡ 2 → controller .view .leader ≢ 0)
+    heard-in : (g : Stage) (b j : ℕ) → j ≤ 4000 → (stageNumber g ≡ 1 → controller .view .leader ≢ 0)
+        → (stageNumber g ≡ 2 → controller .view .leader ≢ 0)
         → ControllerIn (heardOf controller g b (length (log b)) j)
     heard-in g b j h p q = let c = k .controller in record {
       view = c .view;
@@ -154,14 +159,26 @@ module _ (𝓔 : Entries) where
         log = log-in log b _ (one-more (log b) _ full) (k .logs .log);
       };
     }
-    bounds-keep (commit b) h = record { registry = k .registry; controller = k .controller; replicas = k .replicas; logs = k .logs }
-    bounds-keep (add b) h = record { registry = ltb→lt (registry .view .epoch) 4000 (h 7); controller = k .controller; replicas = k .replicas; logs = k .logs }
-    bounds-keep (remove b) h = record { registry = ltb→lt (registry .view .epoch) 4000 (h 7); controller = k .controller; replicas = k .replicas; logs = k .logs }
+    bounds-keep (commit b) h = record
+        { registry = k .registry; controller = k .controller; replicas = k .replicas; logs = k .logs }
+    bounds-keep (add b) h = record {
+      registry = ltb→lt (registry .view .epoch) 4000 (h 7);
+      controller = k .controller;
+      replicas = k .replicas;
+      logs = k .logs;
+    }
+    bounds-keep (remove b) h = record {
+      registry = ltb→lt (registry .view .epoch) 4000 (h 7);
+      controller = k .controller;
+      replicas = k .replicas;
+      logs = k .logs;
+    }
     bounds-keep changeLeader h = record {
       registry =
           let left = upd (registry .view .members) (registry .view .leader) false in
           let up = ltb→lt (registry .view .epoch) 4000 (h 7) in
-          by-cond (λ (r : Registry). r .view .epoch ≤ 4000) (eqb (size left) 1) {x = succeeded registry left} {y = vacated registry left} (λ _. up) (λ _. up);
+          by-cond (λ (r : Registry). r .view .epoch ≤ 4000) (eqb (size left) 1) {x = succeeded registry left}
+          {y = vacated registry left} (λ _. up) (λ _. up);
       controller = k .controller;
       replicas = k .replicas;
       logs = k .logs;
@@ -170,19 +187,31 @@ module _ (𝓔 : Entries) where
       registry = k .registry;
       controller = k .controller;
       replicas = at-or b
-          (λ real. rw (eqb-same b) (record { epoch = registry-in i k .epoch .0; joined = by-cond (λ j. 1 ≤ j) (not (eqb (view b .term) (registry .view .term)) && eqb (registry .view .leader) b) (λ _. first i k .0) (λ _. k .replicas b real .joined) }))
+          (λ real. rw (eqb-same b) (record {
+            epoch = registry-in i k .epoch .0;
+            joined = by-cond (λ j. 1 ≤ j) (not (eqb (view b .term) (registry .view .term))
+                && eqb (registry .view .leader) b) (λ _. first i k .0) (λ _. k .replicas b real .joined);
+          }))
           (λ x n. rw (ne-eqb x b n) (k .replicas x));
       logs = record {
         log = k .logs .log;
         acked = counts-in acked _ 512 b
-            (λ x. by-cond (λ (f : ℕ → ℕ). f x ≤ 512) (not (eqb (view b .term) (registry .view .term))) (λ _. upd-in zeros 512 b (length (log b)) (k .logs .log b) (λ _. omega arith) x) (λ _. k .logs .acked b x)) (k .logs .acked);
+            (λ x. by-cond (λ (f : ℕ → ℕ). f x ≤ 512) (not (eqb (view b .term) (registry .view .term)))
+            (λ _. upd-in zeros 512 b (length (log b)) (k .logs .log b) (λ _. omega arith) x)
+            (λ _. k .logs .acked b x)) (k .logs .acked);
       };
     }
     bounds-keep (join b) h = record {
       registry = k .registry;
       controller = k .controller;
-      replicas = at-or b (λ real. rw (eqb-same b) (record { epoch = k .replicas b real .epoch; joined = view-in i k b real .term .0 })) (λ x n. rw (ne-eqb x b n) (k .replicas x));
-      logs = record { acked = k .logs .acked; log = log-in log b _ (omega (arith, shared-length same (log b) (log (view b .leader)), k .logs .log b)) (k .logs .log) };
+      replicas = at-or b (λ real. rw (eqb-same b)
+          (record { epoch = k .replicas b real .epoch; joined = view-in i k b real .term .0 }))
+          (λ x n. rw (ne-eqb x b n) (k .replicas x));
+      logs = record {
+        acked = k .logs .acked;
+        log = log-in log b _ (omega (arith, shared-length same (log b) (log (view b .leader)), k .logs .log b))
+            (k .logs .log);
+      };
     }
     bounds-keep (receive b) h = record {
       registry = k .registry;
@@ -190,14 +219,23 @@ module _ (𝓔 : Entries) where
       replicas = k .replicas;
       logs = record {
         acked = k .logs .acked;
-        log = log-in log b _ (one-more (log b) _ (omega (arith, ltb→lt (length (log b)) (length (log (view b .leader))) (h 12), k .logs .log (view b .leader)))) (k .logs .log);
+        log = log-in log b _ (one-more (log b) _
+            (omega (
+              arith,
+              ltb→lt (length (log b)) (length (log (view b .leader))) (h 12),
+              k .logs .log (view b .leader),
+            ))) (k .logs .log);
       };
     }
     bounds-keep (acknowledge a b) h = record {
       registry = k .registry;
       controller = k .controller;
       replicas = k .replicas;
-      logs = record { log = k .logs .log; acked = counts-in acked _ 512 a (upd-in (acked a) 512 b (length (log b)) (k .logs .log b) (k .logs .acked a)) (k .logs .acked) };
+      logs = record {
+        log = k .logs .log;
+        acked = counts-in acked _ 512 a (upd-in (acked a) 512 b (length (log b)) (k .logs .log b) (k .logs .acked a))
+            (k .logs .acked);
+      };
     }
     bounds-keep refreshController h = record {
       registry = k .registry;
@@ -225,7 +263,8 @@ module _ (𝓔 : Entries) where
       registry = k .registry;
       replicas = k .replicas;
       logs = k .logs;
-      controller = heard-in _ (controller .view .leader) 0 (omega arith) (λ e. absurd (omega arith)) (λ _. k .controller .reads (eqb→eq (stageNumber (controller .stage)) 1 (h 15)));
+      controller = heard-in _ (controller .view .leader) 0 (omega arith) (λ e. absurd (omega arith))
+          (λ _. k .controller .reads (eqb→eq (stageNumber (controller .stage)) 1 (h 15)));
     }
     bounds-keep (read b) h = record {
       registry = k .registry;
@@ -238,7 +277,11 @@ module _ (𝓔 : Entries) where
       replicas = k .replicas;
       logs = k .logs;
       controller = record {
-        view = record { epoch = omega (arith, ltb→lt (registry .view .epoch) 4000 (h 7)); term = k .controller .view .term; leader = k .controller .view .leader };
+        view = record {
+          epoch = omega (arith, ltb→lt (registry .view .epoch) 4000 (h 7));
+          term = k .controller .view .term;
+          leader = k .controller .view .leader;
+        };
         heard = λ _. omega arith;
         heardJoined = λ _. omega arith;
         reads = λ e. absurd (omega arith);
@@ -270,7 +313,8 @@ module _ (𝓔 : Entries) where
     bounds-keep malformed h = absurd (h 1)
 
     pub step-bounds : (st : Step) → Bounds (step 𝓔 s st)
-    step-bounds st = by-cond Bounds (accepted (outline s) st) (λ t. bounds-keep st (facts (checks (outline s) st) t)) (λ _. k)
+    step-bounds st =
+        by-cond Bounds (accepted (outline s) st) (λ t. bounds-keep st (facts (checks (outline s) st) t)) (λ _. k)
 
   pub run-bounds : {L : ℕ → ℕ} {s : State Entry} → Inv L s → Bounds s → (sts : List Step) → Bounds (run 𝓔 s sts)
   unfolding run

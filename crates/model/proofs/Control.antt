@@ -1,5 +1,5 @@
--- The controller's own steps keep the invariant: news (10), read leader (11), read (12), hear (14). All but the controller stays.
--- Assumes nothing.
+-- The controller's own steps keep the invariant: news (10), read leader (11), read (12), hear (14). All but the
+-- controller stays. Assumes nothing.
 use mathlib.Core.Bool.{Bool, true, false, not, cond, _&&_}
 use mathlib.Core.List.{List}
 use mathlib.Core.Logic.{_≢_}
@@ -43,7 +43,8 @@ module _ {E : Type 0} {L : ℕ → ℕ} {s : State E} (i : Inv L s) where
   open State s using (registry, controller, view, joined, acked, log, committed)
 
   -- Another controller, before which safe lists stay safe.
-  with-controller : (c : Controller) → ControllerOk registry (c .view) (c .stage) → LeaderOk (o i) registry c (view (o i)) (joined (o i))
+  with-controller : (c : Controller) → ControllerOk registry (c .view) (c .stage)
+      → LeaderOk (o i) registry c (view (o i)) (joined (o i))
       → HeardOk registry c view joined log → (SafeIn L s ⇒ Ok (o i) registry c joined log) → Inv L (withController s c)
   with-controller c ok lead heard safe = record {
     real = i .real;
@@ -58,8 +59,13 @@ module _ {E : Type 0} {L : ℕ → ℕ} {s : State E} (i : Inv L s) where
   }
 
   -- A controller that is read from here on exactly where it was before: the leader's office is as it was.
-  same-leader : (c : Controller) → (Firm registry c → Firm registry controller) → LeaderOk (o i) registry c (view (o i)) (joined (o i))
-  same-leader c f = record { joined = i .leader .joined; took = λ k. i .leader .took (f k); whole = λ k. i .leader .whole (f k) }
+  same-leader : (c : Controller) → (Firm registry c → Firm registry controller)
+      → LeaderOk (o i) registry c (view (o i)) (joined (o i))
+  same-leader c f = record {
+    joined = i .leader .joined;
+    took = λ k. i .leader .took (f k);
+    whole = λ k. i .leader .whole (f k);
+  }
 
   -- One more length is heard, of b, longer than what was heard of it.
   module _ (b j : ℕ) (longer : controller .heard b < suc (length (log b))) where
@@ -96,7 +102,8 @@ module _ (𝓔 : Entries) where
 
     pub refresh-controller-keeps : Holds (checks (outline s) refreshController) → Inv L (next 𝓔 s refreshController)
     refresh-controller-keeps h = with-controller i c′
-        (record { epoch = omega arith; current = λ _. refl; stage = λ _. fits-stageFor (registry .status) }) (same-leader i c′ firm)
+        (record { epoch = omega arith; current = λ _. refl; stage = λ _. fits-stageFor (registry .status) })
+        (same-leader i c′ firm)
         (record { read = λ _ _ b _ k. absurd (omega arith); heard = λ _ _ b _ k. absurd (omega arith) })
         (λ x k. record { begins = k .begins; backed = λ f. go (k .backed (firm f)) })
       where
@@ -106,16 +113,26 @@ module _ (𝓔 : Entries) where
         firm : Firm registry c′ → Firm registry controller
         firm (vacant t) = vacant t
         firm (steady t n) = steady t n
-        firm (reads t) = absurd (not-boards (registry .status) (split-and (eqb (r .epoch) (r .epoch)) (eqb (stageNumber (stageFor (registry .status))) 2) t .1))
+        firm (reads t) = absurd (not-boards (registry .status)
+            (split-and (eqb (r .epoch) (r .epoch)) (eqb (stageNumber (stageFor (registry .status))) 2) t .1))
 
         go : {n : ℕ} → Backed (o i) registry controller joined log n → Backed (o i) registry c′ joined log n
         go (held k) = held k
-        go (Invariant.read t _) = absurd (omega (arith, ltb→lt (c .epoch) (r .epoch) (h 12), eqb→eq (c .epoch) (r .epoch) (split-and (eqb (c .epoch) (r .epoch)) (eqb (stageNumber (controller .stage)) 2) t .0)))
+        go (Invariant.read t _) = absurd
+            (omega (
+              arith,
+              ltb→lt (c .epoch) (r .epoch) (h 12),
+              eqb→eq (c .epoch) (r .epoch)
+                  (split-and (eqb (c .epoch) (r .epoch)) (eqb (stageNumber (controller .stage)) 2) t .0),
+            ))
 
     pub read-keeps : (b : ℕ) → Holds (checks (outline s) (read b)) → Inv L (next 𝓔 s (read b))
     read-keeps b h = one-heard i b 0 (ltb→lt (controller .heard b) (suc (length (log b))) (h 12)) (record {
       read = λ e g. at-or b
-          (λ m k. (eqb→eq (joined b) (c .term) (h 11) ∙ ap (λ v. v .term) (i .controller .current e), rw (eqb-same b) (omega arith)))
+          (λ m k. (
+            eqb→eq (joined b) (c .term) (h 11) ∙ ap (λ v. v .term) (i .controller .current e),
+            rw (eqb-same b) (omega arith),
+          ))
           (λ x n m. rw (ne-eqb x b n) (i .heard .read e g x m));
       heard = λ e g. absurd (omega (arith, eqb→eq (stageNumber (controller .stage)) 2 (h 15)));
     })
@@ -141,13 +158,16 @@ module _ (𝓔 : Entries) where
 
       module _ (e : c .epoch ≡ r .epoch) where
         not-choosing : T (not (isChoosing (registry .status)))
-        not-choosing = waits-named (registry .status) (waits (registry .status) (controller .stage) 1 at-leader (omega arith) (omega arith) (i .controller .stage e))
+        not-choosing = waits-named (registry .status)
+            (waits (registry .status) (controller .stage) 1 at-leader (omega arith) (omega arith)
+            (i .controller .stage e))
 
         is-o : lead ≡ o i
         is-o = ap (λ v. v .leader) (i .controller .current e) ∙ Static.named i not-choosing
 
         fresh : view (o i) ≡ r
-        fresh = i .views (o i) .current (ap (λ x. view x .epoch) (sym is-o) ∙ eqb→eq (view lead .epoch) (c .epoch) (h 16) ∙ e)
+        fresh = i .views (o i) .current
+            (ap (λ x. view x .epoch) (sym is-o) ∙ eqb→eq (view lead .epoch) (c .epoch) (h 16) ∙ e)
 
         whole : r .members ≡ electors registry (o i)
         whole = sym (upd-idle (r .members) (o i) true (is-true (r .members (o i)) (i .registry .member not-choosing)))
@@ -160,16 +180,24 @@ module _ (𝓔 : Entries) where
           (record {
             epoch = i .controller .epoch;
             current = i .controller .current;
-            stage = λ e. waits (registry .status) (controller .stage) 1 at-leader (omega arith) (omega arith) (i .controller .stage e);
+            stage = λ e. waits (registry .status) (controller .stage) 1 at-leader (omega arith) (omega arith)
+                (i .controller .stage e);
           })
           (record { joined = i .leader .joined; took = took; whole = whole-view })
           (record {
-            read = λ e _ b m k. at-or {P = λ b. T (r .members b) → 1 ≤ after .heard b → (joined b ≡ r .term) × (after .heard b ≤ suc (length (log b)))} lead
-                (λ _ _. (subst (λ x. joined x ≡ r .term) (sym (is-o e)) (i .leader .joined ∙ ap (λ v. v .term) (fresh e)), rw (eqb-same lead) (omega arith)))
+            read = λ e _ b m k. at-or {P = λ b. T (r .members b) → 1 ≤ after .heard b → (joined b ≡ r .term)
+                × (after .heard b ≤ suc (length (log b)))} lead
+                (λ _ _. (
+                  subst (λ x. joined x ≡ r .term) (sym (is-o e)) (i .leader .joined ∙ ap (λ v. v .term) (fresh e)),
+                  rw (eqb-same lead) (omega arith),
+                ))
                 (λ x n m. rw (ne-eqb x lead n) (i .heard .read e (λ z. omega (arith, at-leader)) x m)) b m k;
             heard = λ _ g. absurd (omega arith);
           })
-          (λ x k. record { begins = k .begins; backed = λ f. by-test (eqb (c .epoch) (r .epoch)) (new x k) (old x k f) })
+          (λ x k. record {
+            begins = k .begins;
+            backed = λ f. by-test (eqb (c .epoch) (r .epoch)) (new x k) (old x k f);
+          })
         where
           took : Firm registry after → view (o i) .term ≡ r .term
           took (vacant t) = i .leader .took (vacant t)
@@ -181,16 +209,26 @@ module _ (𝓔 : Entries) where
           whole-view (steady t n) = i .leader .whole (steady t n)
           whole-view (reads t) = λ _. ap (λ v. v .members) (fresh (up-to-date t)) ∙ whole (up-to-date t)
 
-          new : (x : List Entry) → SafeIn L s x → T (eqb (c .epoch) (r .epoch)) → Backed (o i) registry after joined log (length x)
+          new : (x : List Entry) → SafeIn L s x → T (eqb (c .epoch) (r .epoch))
+              → Backed (o i) registry after joined log (length x)
           new x k t = Invariant.read (join-and (eqb (c .epoch) (r .epoch)) true t tt)
-              (subst (λ y. suc (length x) ≤ after .heard y) (is-o (eqb→eq (c .epoch) (r .epoch) t)) (rw (eqb-same lead) (omega (arith, begins-length (k .begins), ap (λ x. length (log x)) (is-o (eqb→eq (c .epoch) (r .epoch) t))))))
+              (subst (λ y. suc (length x) ≤ after .heard y) (is-o (eqb→eq (c .epoch) (r .epoch) t))
+              (rw (eqb-same lead) (omega (
+                arith,
+                begins-length (k .begins),
+                ap (λ x. length (log x)) (is-o (eqb→eq (c .epoch) (r .epoch) t)),
+              ))))
 
-          old : (x : List Entry) → SafeIn L s x → Firm registry after → T (not (eqb (c .epoch) (r .epoch))) → Backed (o i) registry after joined log (length x)
+          old : (x : List Entry) → SafeIn L s x → Firm registry after → T (not (eqb (c .epoch) (r .epoch)))
+              → Backed (o i) registry after joined log (length x)
           old x k f t = go f
             where
-              keep : Backed (o i) registry controller joined log (length x) → Backed (o i) registry after joined log (length x)
+              keep : Backed (o i) registry controller joined log (length x)
+                  → Backed (o i) registry after joined log (length x)
               keep (held h) = held h
-              keep (Invariant.read u _) = absurd (T-not (eqb (c .epoch) (r .epoch)) t (split-and (eqb (c .epoch) (r .epoch)) (eqb (stageNumber (controller .stage)) 2) u .0))
+              keep (Invariant.read u _) = absurd
+                  (T-not (eqb (c .epoch) (r .epoch)) t
+                  (split-and (eqb (c .epoch) (r .epoch)) (eqb (stageNumber (controller .stage)) 2) u .0))
 
               go : Firm registry after → Backed (o i) registry after joined log (length x)
               go (vacant u) = keep (k .backed (vacant u))

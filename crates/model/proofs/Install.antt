@@ -56,7 +56,9 @@ module _ (𝓔 : Entries) where
 
       -- what was heard of a member still stands
       abbrev Stands : ℕ → Type 0
-      Stands x = (view x .epoch ≡ registry .view .epoch) × (controller .heard x ≡ suc (length (log x))) × (joined x ≡ controller .heardJoined x)
+      Stands x =
+          (view x .epoch ≡ registry .view .epoch) × (controller .heard x ≡ suc (length (log x)))
+          × (joined x ≡ controller .heardJoined x)
 
       stands : (x : ℕ) → T (m x) → T (leb 1 (controller .heard x)) → Stands x
       stands x k t = i .heard .heard now at-choosing x k (leb→le 1 (controller .heard x) t)
@@ -65,17 +67,21 @@ module _ (𝓔 : Entries) where
       behind-of x t = split-and (leb 1 (controller .heard x)) (not (above controller b x)) t
 
       -- b ranks as high as x: if x has joined the term, so has b, and b's log is no shorter
-      rank : (x : ℕ) → T (m x) → T (behind x) → joined x ≡ registry .view .term → (joined b ≡ registry .view .term) × (length (log x) ≤ length (log b))
+      rank : (x : ℕ) → T (m x) → T (behind x) → joined x ≡ registry .view .term → (joined b ≡ registry .view .term)
+          × (length (log x) ≤ length (log b))
       rank x k t j =
           let z = behind-of x t in
           let sx = stands x k (z .0) in
           let sb = stands b member (asked .0) in
           let lower = ltb (controller .heardJoined b) (controller .heardJoined x) in
-          let shorter = eqb (controller .heardJoined b) (controller .heardJoined x) && ltb (controller .heard b) (controller .heard x) in
+          let shorter = eqb (controller .heardJoined b) (controller .heardJoined x)
+          && ltb (controller .heard b) (controller .heard x) in
           let hj = nltb→le (controller .heardJoined b) (controller .heardJoined x) (not-left lower shorter (z .1)) in
-          let jb : joined b ≡ registry .view .term = omega (arith, sx .2, sb .2, i .views b .joined, i .views b .term) in
+          let jb : joined b ≡ registry .view .term =
+          omega (arith, sx .2, sb .2, i .views b .joined, i .views b .term) in
           let hl = nltb→le (controller .heard b) (controller .heard x)
-          (not-both (eqb (controller .heardJoined b) (controller .heardJoined x)) (ltb (controller .heard b) (controller .heard x)) (not-right lower shorter (z .1))
+          (not-both (eqb (controller .heardJoined b) (controller .heardJoined x))
+          (ltb (controller .heard b) (controller .heard x)) (not-right lower shorter (z .1))
           (eq-test (controller .heardJoined b) (controller .heardJoined x) (sym (sb .2) ∙ jb ∙ sym j ∙ sx .2))) in
           (jb, omega (arith, sx .1, sb .1))
 
@@ -88,7 +94,13 @@ module _ (𝓔 : Entries) where
       -- some member of the quorum holds a safe list, and so does b
       holder : {x : List Entry} → SafeIn L s x → Holder i behind x
       holder k = witness i firm (by-test (reading registry controller)
-          (λ t. absurd (omega (arith, at-choosing, eqb→eq (stageNumber (controller .stage)) 2 (split-and (eqb (controller .view .epoch) (registry .view .epoch)) (eqb (stageNumber (controller .stage)) 2) t .1))))
+          (λ t. absurd (omega (
+            arith,
+            at-choosing,
+            eqb→eq (stageNumber (controller .stage)) 2
+                (split-and (eqb (controller .view .epoch) (registry .view .epoch)) (eqb (stageNumber (controller .stage)) 2)
+                t .1),
+          )))
           (λ t. t)) k behind quorum
 
       joins : joined b ≡ registry .view .term
@@ -98,7 +110,8 @@ module _ (𝓔 : Entries) where
       above-all x k t j = begins-compare (follows x j) (follows b joins) (rank x k t j .1)
 
       holds : SafeIn L s ⇒ (λ x. x ⊑ log b)
-      holds x k = let w = holder k in begins-trans (w .holds) (above-all (w .replica) (w .member) (w .inside) (w .joins))
+      holds x k =
+          let w = holder k in begins-trans (w .holds) (above-all (w .replica) (w .member) (w .inside) (w .joins))
 
       abbrev c′ : Controller
       c′ = next 𝓔 s (install b) .controller
@@ -111,7 +124,8 @@ module _ (𝓔 : Entries) where
       loose (steady t l) = t
       loose (reads t) = split-and (eqb (suc (registry .view .epoch)) (suc (registry .view .epoch))) false t .1
 
-      -- Those behind the new leader have its log or less of the term's, and follow nobody until they take the next news.
+      -- Those behind the new leader have its log or less of the term's, and follow nobody until they take the next
+      -- news.
       newly : view (o i) .leader ≡ o i → Outvoted (Ok b r′ c′ joined log) b view joined acked log (o i)
       newly l = record {
         some = m ∩ behind;
@@ -120,15 +134,18 @@ module _ (𝓔 : Entries) where
               arith,
               quorum-half m behind quorum,
               size-with m (o i) (i .real (registry .view .term)),
-              meet-sub m behind (electors registry (o i)) (m ∩ behind) (λ x _ k t. (by-cond T (eqb x (o i)) (λ _. tt) (λ _. k), join-and (m x) (behind x) k t)),
+              meet-sub m behind (electors registry (o i)) (m ∩ behind)
+                  (λ x _ k t. (by-cond T (eqb x (o i)) (λ _. tt) (λ _. k), join-and (m x) (behind x) k t)),
             ));
         blocked = λ x _ t. let z = split-and (m x) (behind x) t in go x (z .0) (z .1);
       }
         where
-          go : (x : ℕ) → T (m x) → T (behind x) → Blocked (Ok b r′ c′ joined log) b (view (o i)) (view x) (acked (o i) x) (joined x) (log (o i)) (log x) x
+          go : (x : ℕ) → T (m x) → T (behind x)
+              → Blocked (Ok b r′ c′ joined log) b (view (o i)) (view x) (acked (o i) x) (joined x) (log (o i)) (log x) x
           go x k t =
               let v : view x ≡ registry .view = i .views x .current (stands x k (behind-of x t .0) .0) in
-              stuck (ap (λ y. y .term) v ∙ sym (i .leader .took firm)) (inl (ap (λ y. y .leader) v ∙ Static.vacant i open-office))
+              stuck (ap (λ y. y .term) v ∙ sym (i .leader .took firm))
+              (inl (ap (λ y. y .leader) v ∙ Static.vacant i open-office))
               (λ j. record { begins = above-all x k t (j ∙ i .leader .took firm); backed = λ f. absurd (loose f) })
 
       pub install-keeps : Later L s (next 𝓔 s (install b))
@@ -136,6 +153,12 @@ module _ (𝓔 : Entries) where
           (record {
             epoch = omega arith;
             stage = λ _. tt;
-            current = λ _. ap (λ (v : View). record { epoch = suc (registry .view .epoch); term = suc (registry .view .epoch); leader = b; members = v .members }) current;
+            current = λ _. ap (λ (v : View). record {
+              epoch = suc (registry .view .epoch);
+              term = suc (registry .view .epoch);
+              leader = b;
+              members = v .members;
+            }) current;
           })
-          (record { read = λ _ _ x _ k. absurd (omega arith); heard = λ _ _ x _ k. absurd (omega arith) }) newly) (omega arith)
+          (record { read = λ _ _ x _ k. absurd (omega arith); heard = λ _ _ x _ k. absurd (omega arith) }) newly)
+          (omega arith)

@@ -1,11 +1,11 @@
 -- The invariant of every run: what is true of a state, and of one history, after any list of records.
 --
--- The history L names the replica that was made leader under each term. No code keeps it. The leader of the registry's term is
--- o = L τ: the one that the registry names or, while it is choosing, the one that left.
---
--- Why receipts are safe. A list is safe (`Ok`) if o's log begins with it and, wherever o could lose its place (`Firm`), more than half of
--- the electors hold it or the controller has read o at that length. All receipts together are safe, and a replaced leader that still
--- acts (`Stale`) is outvoted: so many of its members are blocked that whatever majority it counts tells it of safe entries only.
+-- The history L names the replica that was made leader under each term. No code keeps it. The leader of the registry's
+-- term is o = L τ: the one that the registry names or, while it is choosing, the one that left. Why receipts are safe.
+-- A list is safe (`Ok`) if o's log begins with it and, wherever o could lose its place (`Firm`), more than half of the
+-- electors hold it or the controller has read o at that length. All receipts together are safe, and a replaced leader
+-- that still acts (`Stale`) is outvoted: so many of its members are blocked that whatever majority it counts tells it
+-- of safe entries only.
 use mathlib.Core.Bool.{Bool, true, false, not, cond, _&&_}
 use mathlib.Core.List.{List, []}
 use mathlib.Core.Logic.{_⊎_, _≢_}
@@ -88,11 +88,14 @@ module _ {E : Type 0} where
 
   -- What the controller, up to date, has heard
 
-  pub record HeardOk (r : Registry) (c : Controller) (view : ℕ → View) (joined : ℕ → ℕ) (log : ℕ → List E) : Type 0 where
-    pub read : c .view .epoch ≡ r .view .epoch → stageNumber (c .stage) ≢ 3 → (b : ℕ) → T (r .view .members b) → 1 ≤ c .heard b
-        → (joined b ≡ r .view .term) × (c .heard b ≤ suc (length (log b)))
-    pub heard : c .view .epoch ≡ r .view .epoch → stageNumber (c .stage) ≡ 3 → (b : ℕ) → T (r .view .members b) → 1 ≤ c .heard b
-        → (view b .epoch ≡ r .view .epoch) × (c .heard b ≡ suc (length (log b))) × (joined b ≡ c .heardJoined b)
+  pub record HeardOk (r : Registry) (c : Controller) (view : ℕ → View) (joined : ℕ → ℕ) (log : ℕ → List E) : Type 0
+    where
+      pub read : c .view .epoch ≡ r .view .epoch → stageNumber (c .stage) ≢ 3 → (b : ℕ) → T (r .view .members b)
+          → 1 ≤ c .heard b
+          → (joined b ≡ r .view .term) × (c .heard b ≤ suc (length (log b)))
+      pub heard : c .view .epoch ≡ r .view .epoch → stageNumber (c .stage) ≡ 3 → (b : ℕ) → T (r .view .members b)
+          → 1 ≤ c .heard b
+          → (view b .epoch ≡ r .view .epoch) × (c .heard b ≡ suc (length (log b))) × (joined b ≡ c .heardJoined b)
 
   -- Safety
 
@@ -102,24 +105,28 @@ module _ {E : Type 0} where
 
   -- n entries of the leader o are held by more than half of the electors, or were there when the controller read it
   pub data Backed (o : ℕ) (r : Registry) (c : Controller) (joined : ℕ → ℕ) (log : ℕ → List E) (n : ℕ) : Type 0 where
-    held : size (electors r o) < 2 * size (electors r o ∩ holding joined log (r .view .term) n) → Backed o r c joined log n
+    held : size (electors r o) < 2 * size (electors r o ∩ holding joined log (r .view .term) n)
+        → Backed o r c joined log n
     read : T (reading r c) → suc n ≤ c .heard o → Backed o r c joined log n
 
   pub record Ok (o : ℕ) (r : Registry) (c : Controller) (joined : ℕ → ℕ) (log : ℕ → List E) (x : List E) : Type 0 where
     pub begins : x ⊑ log o
     pub backed : Firm r c → Backed o r c joined log (length x)
 
-  -- b (view w, joined term j, log lb) can tell the stale leader (view v, count n for b, log la) of safe entries only: it has gone on to
-  -- a later term, or its log stands still until it does, or it is the named leader l, whose log is the measure
+  -- b (view w, joined term j, log lb) can tell the stale leader (view v, count n for b, log la) of safe entries only:
+  -- it has gone on to a later term, or its log stands still until it does, or it is the named leader l, whose log is
+  -- the measure
   pub data Blocked (Safe : List E → Type 0) (l : ℕ) (v w : View) (n j : ℕ) (la lb : List E) (b : ℕ) : Type 0 where
     passed : v .term < w .term → n ≤ length la → Safe (take n la) → Blocked Safe l v w n j la lb b
     stuck : w .term ≡ v .term → (w .leader ≡ 0) ⊎ (l ≡ b) → (j ≡ v .term → Safe lb) → Blocked Safe l v w n j la lb b
 
   -- at least half of a's members are blocked
-  pub record Outvoted (Safe : List E → Type 0) (l : ℕ) (view : ℕ → View) (joined : ℕ → ℕ) (acked : ℕ → ℕ → ℕ) (log : ℕ → List E) (a : ℕ) : Type 0 where
+  pub record Outvoted (Safe : List E → Type 0) (l : ℕ) (view : ℕ → View) (joined : ℕ → ℕ) (acked : ℕ → ℕ → ℕ)
+      (log : ℕ → List E) (a : ℕ) : Type 0 where
     pub some : Members
     pub enough : size (view a .members) ≤ 2 * size (view a .members ∩ some)
-    pub blocked : (b : ℕ) → T (isReplica b) → T (some b) → Blocked Safe l (view a) (view b) (acked a b) (joined b) (log a) (log b) b
+    pub blocked : (b : ℕ) → T (isReplica b) → T (some b)
+        → Blocked Safe l (view a) (view b) (acked a b) (joined b) (log a) (log b) b
 
   -- a list that is safe in a state
   abbrev pub SafeIn : (ℕ → ℕ) → State E → List E → Type 0
@@ -134,7 +141,8 @@ module _ {E : Type 0} where
     pub views : (b : ℕ) → ViewOk L (s .registry .view) (s .view b) (s .joined b)
     pub controller : ControllerOk (s .registry) (s .controller .view) (s .controller .stage)
     pub logs : LogsOk L (s .view) (s .joined) (s .acked) (s .log)
-    pub leader : LeaderOk (L (s .registry .view .term)) (s .registry) (s .controller) (s .view (L (s .registry .view .term))) (s .joined (L (s .registry .view .term)))
+    pub leader : LeaderOk (L (s .registry .view .term)) (s .registry) (s .controller)
+        (s .view (L (s .registry .view .term))) (s .joined (L (s .registry .view .term)))
     pub heard : HeardOk (s .registry) (s .controller) (s .view) (s .joined) (s .log)
     pub safe : SafeIn L s (s .committed)
     pub outvoted : (a : ℕ) → Stale (s .registry .view .term) (s .view a) a → OutvotedIn L s a

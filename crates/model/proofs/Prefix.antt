@@ -25,7 +25,10 @@ module _ {E : Type 0} where
 
   pub begins-trans : {xs ys zs : List E} → xs ⊑ ys → ys ⊑ zs → xs ⊑ zs
   begins-trans {xs} {ys} {zs} h k =
-      record { rest = h .rest ++ k .rest; is = sym (append-assoc xs (h .rest) (k .rest)) ∙ ap (λ l. l ++ k .rest) (h .is) ∙ k .is }
+      record {
+        rest = h .rest ++ k .rest;
+        is = sym (append-assoc xs (h .rest) (k .rest)) ∙ ap (λ l. l ++ k .rest) (h .is) ∙ k .is;
+      }
 
   pub begins-length : {xs ys : List E} → xs ⊑ ys → length xs ≤ length ys
   begins-length {xs} {ys} h = omega (arith, length-append xs (h .rest), ap length (h .is))
@@ -48,11 +51,13 @@ module _ {E : Type 0} where
   pub begins-compare : {xs ys zs : List E} → xs ⊑ zs → ys ⊑ zs → length xs ≤ length ys → xs ⊑ ys
   begins-compare {xs} {ys} {zs} h k l = compare xs (h .rest) ys (k .rest) (h .is ∙ sym (k .is)) l
 
-  one-more : (xs us ys : List E) (d : E) → xs ++ us ≡ ys → length xs < length ys → xs ++ (getD ys (length xs) d ∷ []) ⊑ ys
+  one-more : (xs us ys : List E) (d : E) → xs ++ us ≡ ys → length xs < length ys → xs
+      ++ (getD ys (length xs) d ∷ []) ⊑ ys
   one-more xs [] ys d p h = absurd (omega (arith, length-append xs [], ap length p))
   one-more xs (u ∷ us) ys d p h = record {
     rest = us;
-    is = ap (λ l. (xs ++ (getD l (length xs) d ∷ [])) ++ us) (sym p) ∙ ap (λ a. (xs ++ (a ∷ [])) ++ us) (getD-append-seam xs u us d) ∙ append-snoc xs u us ∙ p;
+    is = ap (λ l. (xs ++ (getD l (length xs) d ∷ [])) ++ us) (sym p)
+        ∙ ap (λ a. (xs ++ (a ∷ [])) ++ us) (getD-append-seam xs u us d) ∙ append-snoc xs u us ∙ p;
   }
 
   -- one entry more
@@ -67,13 +72,16 @@ module _ {E : Type 0} where
   length-snoc xs x = omega (arith, length-append xs (x ∷ []))
 
   -- what is shared with a list is a beginning of it
-  pub shared-begins : (same : E → E → Bool) → ((x y : E) → T (same x y) → x ≡ y) → (xs ys : List E) → shared same xs ys ⊑ ys
+  pub shared-begins : (same : E → E → Bool) → ((x y : E) → T (same x y) → x ≡ y) → (xs ys : List E)
+      → shared same xs ys ⊑ ys
   shared-begins same law [] ys = begins-nil ys
   shared-begins same law (x ∷ xs) [] = begins-nil []
   shared-begins same law (x ∷ xs) (y ∷ ys) = go (same x y) (law x y) (shared-begins same law xs ys)
     where
       go : (t : Bool) → (T t → x ≡ y) → shared same xs ys ⊑ ys → cond t (x ∷ shared same xs ys) [] ⊑ (y ∷ ys)
-      go true f k = let e : x ≡ y = f tt in let q : shared same xs ys ++ k .rest ≡ ys = k .is in record { rest = k .rest; is = cc }
+      go true f k =
+          let e : x ≡ y = f tt in let q : shared same xs ys ++ k .rest ≡ ys = k .is in
+          record { rest = k .rest; is = cc }
       go false f k = begins-nil (y ∷ ys)
 
   -- and no longer than the other
@@ -82,6 +90,7 @@ module _ {E : Type 0} where
   shared-length same (x ∷ xs) [] = omega arith
   shared-length same (x ∷ xs) (y ∷ ys) = go (same x y) (shared-length same xs ys)
     where
-      go : (t : Bool) → length (shared same xs ys) ≤ length xs → length (cond t (x ∷ shared same xs ys) []) ≤ suc (length xs)
+      go : (t : Bool) → length (shared same xs ys) ≤ length xs
+          → length (cond t (x ∷ shared same xs ys) []) ≤ suc (length xs)
       go true h = omega arith
       go false h = omega arith

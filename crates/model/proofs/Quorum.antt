@@ -50,15 +50,18 @@ size-sub x y f = omega (arith, le 1 tt, le 2 tt, le 3 tt, le 4 tt, le 5 tt, le 6
     le b k = bit-le (x b) (y b) (f b k)
 
 -- The same for the members that qualify.
-pub meet-sub : (m q m′ q′ : Members) → ((b : ℕ) → T (isReplica b) → T (m b) → T (q b) → T (m′ b) × T (q′ b)) → size (m ∩ q) ≤ size (m′ ∩ q′)
+pub meet-sub : (m q m′ q′ : Members) → ((b : ℕ) → T (isReplica b) → T (m b) → T (q b) → T (m′ b) × T (q′ b))
+    → size (m ∩ q) ≤ size (m′ ∩ q′)
 meet-sub m q m′ q′ f = size-sub (m ∩ q) (m′ ∩ q′)
     (λ b k t. let h = split-and (m b) (q b) t in let z = f b k (h .0) (h .1) in join-and (m′ b) (q′ b) (z .0) (z .1))
 
 -- One member less.
 pub size-without : (m : Members) (o : ℕ) → T (isReplica o) → T (m o) → suc (size (upd m o false)) ≡ size m
 size-without m o k = by-replica (λ o. T (m o) → suc (size (upd m o false)) ≡ size m)
-    (λ t. omega (arith, bit-one (m 1) t)) (λ t. omega (arith, bit-one (m 2) t)) (λ t. omega (arith, bit-one (m 3) t)) (λ t. omega (arith, bit-one (m 4) t))
-    (λ t. omega (arith, bit-one (m 5) t)) (λ t. omega (arith, bit-one (m 6) t)) (λ t. omega (arith, bit-one (m 7) t)) (λ t. omega (arith, bit-one (m 8) t)) o k
+    (λ t. omega (arith, bit-one (m 1) t)) (λ t. omega (arith, bit-one (m 2) t)) (λ t. omega (arith, bit-one (m 3) t))
+    (λ t. omega (arith, bit-one (m 4) t))
+    (λ t. omega (arith, bit-one (m 5) t)) (λ t. omega (arith, bit-one (m 6) t)) (λ t. omega (arith, bit-one (m 7) t))
+    (λ t. omega (arith, bit-one (m 8) t)) o k
 
 -- One member more, or the same.
 pub size-with : (m : Members) (o : ℕ) → T (isReplica o) → size (upd m o true) ≤ suc (size m)
@@ -72,7 +75,8 @@ size-some m o k t = omega (arith, size-without m o k t)
 -- The lowest member is one, and the only one of a set of one.
 pub lowest-in : (m : Members) → 1 ≤ size m → T (isReplica (lowest m)) × T (m (lowest m))
 lowest-in m h =
-    first 1 tt _ λ h1. first 2 tt _ λ h2. first 3 tt _ λ h3. first 4 tt _ λ h4. first 5 tt _ λ h5. first 6 tt _ λ h6. first 7 tt _ λ h7. first 8 tt _ λ h8.
+    first 1 tt _ λ h1. first 2 tt _ λ h2. first 3 tt _ λ h3. first 4 tt _ λ h4. first 5 tt _ λ h5. first 6 tt _ λ h6.
+    first 7 tt _ λ h7. first 8 tt _ λ h8.
     absurd (omega (arith, no 1 h1, no 2 h2, no 3 h3, no 4 h4, no 5 h5, no 6 h6, no 7 h7, no 8 h8))
   where
     zero-bit : (a : Bool) → T (not a) → bit a ≡ 0
@@ -82,7 +86,8 @@ lowest-in m h =
     no : (b : ℕ) → T (not (m b)) → bit (m b) ≡ 0
     no b t = zero-bit (m b) t
 
-    first : (b : ℕ) → T (isReplica b) → (r : ℕ) → (T (not (m b)) → T (isReplica r) × T (m r)) → T (isReplica (cond (m b) b r)) × T (m (cond (m b) b r))
+    first : (b : ℕ) → T (isReplica b) → (r : ℕ) → (T (not (m b)) → T (isReplica r) × T (m r))
+        → T (isReplica (cond (m b) b r)) × T (m (cond (m b) b r))
     first b k r f = by-cond (λ x. T (isReplica x) × T (m x)) (m b) (λ t. (k, t)) f
 
 pub lowest-only : (m : Members) → size m ≡ 1 → (b : ℕ) → T (isReplica b) → T (m b) → b ≡ lowest m

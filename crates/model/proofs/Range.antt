@@ -53,7 +53,8 @@ to-eight p f = to-every (eight p) (f 1 tt, (f 2 tt, (f 3 tt, (f 4 tt, (f 5 tt, (
 pub of-eight : (p : Members) → T (every (eight p)) → (b : ℕ) → T (isReplica b) → T (p b)
 of-eight p t =
     let h = of-every (eight p) t in
-    by-replica (λ b. T (p b)) (h .0) (h .1 .0) (h .1 .1 .0) (h .1 .1 .1 .0) (h .1 .1 .1 .1 .0) (h .1 .1 .1 .1 .1 .0) (h .1 .1 .1 .1 .1 .1 .0) (h .1 .1 .1 .1 .1 .1 .1 .0)
+    by-replica (λ b. T (p b)) (h .0) (h .1 .0) (h .1 .1 .0) (h .1 .1 .1 .0) (h .1 .1 .1 .1 .0) (h .1 .1 .1 .1 .1 .0)
+    (h .1 .1 .1 .1 .1 .1 .0) (h .1 .1 .1 .1 .1 .1 .1 .0)
 
 epoch-of : (e : ℕ) → T (isEpoch e) → IsEpoch e
 epoch-of e t = let h = split-and (leb 1 e) (leb e 4000) t in (leb→le 1 e (h .0), leb→le e 4000 (h .1))
@@ -64,10 +65,18 @@ to-epoch e h = join-and (leb 1 e) (leb e 4000) (le→leb 1 e (h .0)) (le→leb e
 pub view-of : (v : View) → T (every (viewRanges v)) → ViewInRange v
 view-of v t =
     let h = of-every (viewRanges v) t in
-    record { epoch = epoch-of (v .epoch) (h .0); term = epoch-of (v .term) (h .1 .0); leader = leb→le (v .leader) 8 (h .1 .1 .0) }
+    record {
+      epoch = epoch-of (v .epoch) (h .0);
+      term = epoch-of (v .term) (h .1 .0);
+      leader = leb→le (v .leader) 8 (h .1 .1 .0);
+    }
 
 to-view : (v : View) → ViewInRange v → T (every (viewRanges v))
-to-view v r = to-every (viewRanges v) (to-epoch (v .epoch) (r .epoch), (to-epoch (v .term) (r .term), (le→leb (v .leader) 8 (r .leader), tt)))
+to-view v r =
+    to-every (viewRanges v) (
+      to-epoch (v .epoch) (r .epoch),
+      (to-epoch (v .term) (r .term), (le→leb (v .leader) 8 (r .leader), tt)),
+    )
 
 nonzero : (n : ℕ) → n ≢ 0 → T (not (eqb n 0))
 nonzero n h = not-T (eqb n 0) (λ t. h (eqb→eq n 0 t))
@@ -82,13 +91,15 @@ to-named : (a b : Bool) → (T (not a) → T b) → T (a || b)
 to-named true b f = tt
 to-named false b f = f tt
 
-read-of : (g : Stage) (b : Bool) → T (eqb (stageNumber g) 0 || eqb (stageNumber g) 3 || b) → stageNumber g ≢ 0 → stageNumber g ≢ 3 → T b
+read-of : (g : Stage) (b : Bool) → T (eqb (stageNumber g) 0 || eqb (stageNumber g) 3 || b) → stageNumber g ≢ 0
+    → stageNumber g ≢ 3 → T b
 read-of idle b t h k = absurd (h refl)
 read-of leader b t h k = t
 read-of boards b t h k = t
 read-of Stage.choosing b t h k = absurd (k refl)
 
-to-read : (g : Stage) (b : Bool) → (stageNumber g ≡ 1 → T b) → (stageNumber g ≡ 2 → T b) → T (eqb (stageNumber g) 0 || eqb (stageNumber g) 3 || b)
+to-read : (g : Stage) (b : Bool) → (stageNumber g ≡ 1 → T b) → (stageNumber g ≡ 2 → T b)
+    → T (eqb (stageNumber g) 0 || eqb (stageNumber g) 3 || b)
 to-read idle b f g = tt
 to-read leader b f g = f refl
 to-read boards b f g = g refl
@@ -100,9 +111,12 @@ module _ (m : Outline) where
   pub to-ranges : T (inRange m) → InRange m
   to-ranges t =
       let h = of-every (ranges m) t in
-      let r : (b : ℕ) → T (isReplica b) → AllTrue (replicaRanges m b) = λ b k. of-every (replicaRanges m b) (of-eight (λ x. every (replicaRanges m x)) (h .1 .1 .1 .1 .1 .0) b k) in
-      let read : stageNumber (controller .stage) ≢ 0 → stageNumber (controller .stage) ≢ 3 → controller .view .leader ≢ 0 = λ n k.
-      ne-fact (controller .view .leader) 0 (read-of (controller .stage) (not (eqb (controller .view .leader) 0)) (h .1 .1 .1 .0) n k) in
+      let r : (b : ℕ) → T (isReplica b) → AllTrue (replicaRanges m b) =
+      λ b k. of-every (replicaRanges m b) (of-eight (λ x. every (replicaRanges m x)) (h .1 .1 .1 .1 .1 .0) b k) in
+      let read : stageNumber (controller .stage) ≢ 0 → stageNumber (controller .stage) ≢ 3
+      → controller .view .leader ≢ 0 = λ n k.
+      ne-fact (controller .view .leader) 0
+      (read-of (controller .stage) (not (eqb (controller .view .leader) 0)) (h .1 .1 .1 .0) n k) in
       record {
         registry = view-of (registry .view) (h .0);
         controller = view-of (controller .view) (h .1 .0);
@@ -113,7 +127,8 @@ module _ (m : Outline) where
         heardJoined = λ b k. leb→le (controller .heardJoined b) 4000 (r b k .1 .1 .1 .1 .0);
         acked = λ a b k j. leb→le (acked a b) 512 (of-eight (λ x. leb (acked a x) 512) (r a k .1 .1 .1 .1 .1 .0) b j);
         committed = leb→le issued 512 (h .1 .1 .1 .1 .0);
-        named = λ n. ne-fact (registry .view .leader) 0 (named-of (isChoosing (registry .status)) (not (eqb (registry .view .leader) 0)) (h .1 .1 .0) n);
+        named = λ n. ne-fact (registry .view .leader) 0
+            (named-of (isChoosing (registry .status)) (not (eqb (registry .view .leader) 0)) (h .1 .1 .0) n);
         reads = λ e. read (λ z. omega arith) (λ z. omega arith);
         readsOn = λ e. read (λ z. omega arith) (λ z. omega arith);
       }
@@ -126,7 +141,8 @@ module _ (m : Outline) where
         (
           to-view (controller .view) (r .controller),
           (
-            to-named (isChoosing (registry .status)) (not (eqb (registry .view .leader) 0)) (λ n. nonzero (registry .view .leader) (r .named n)),
+            to-named (isChoosing (registry .status)) (not (eqb (registry .view .leader) 0))
+                (λ n. nonzero (registry .view .leader) (r .named n)),
             (
               to-read (controller .stage) (not (eqb c 0)) (λ e. nonzero c (r .reads e)) (λ e. nonzero c (r .readsOn e)),
               (
@@ -140,7 +156,10 @@ module _ (m : Outline) where
                         le→leb (len b) 512 (r .logs b k),
                         (
                           le→leb (controller .heard b) 513 (r .heard b k),
-                          (le→leb (controller .heardJoined b) 4000 (r .heardJoined b k), (to-eight (λ x. leb (acked b x) 512) (λ x j. le→leb (acked b x) 512 (r .acked b x k j)), tt)),
+                          (
+                            le→leb (controller .heardJoined b) 4000 (r .heardJoined b k),
+                            (to-eight (λ x. leb (acked b x) 512) (λ x j. le→leb (acked b x) 512 (r .acked b x k j)), tt),
+                          ),
                         ),
                       ),
                     ),

@@ -27,21 +27,30 @@ module _ {E : Type 0} where
   abbrev pub _⇒_ : (List E → Type 0) → (List E → Type 0) → Type 0
   _⇒_ S S′ = (x : List E) → S x → S′ x
 
-  pub holding-of : (joined : ℕ → ℕ) (log : ℕ → List E) (t n b : ℕ) → T (holding joined log t n b) → (joined b ≡ t) × (n ≤ length (log b))
+  pub holding-of : (joined : ℕ → ℕ) (log : ℕ → List E) (t n b : ℕ) → T (holding joined log t n b) → (joined b ≡ t)
+      × (n ≤ length (log b))
   holding-of joined log t n b h =
-      let z = split-and (eqb (joined b) t) (leb n (length (log b))) h in (eqb→eq (joined b) t (z .0), leb→le n (length (log b)) (z .1))
+      let z = split-and (eqb (joined b) t) (leb n (length (log b))) h in
+      (eqb→eq (joined b) t (z .0), leb→le n (length (log b)) (z .1))
 
-  pub to-holding : (joined : ℕ → ℕ) (log : ℕ → List E) (t n b : ℕ) → joined b ≡ t → n ≤ length (log b) → T (holding joined log t n b)
-  to-holding joined log t n b e h = join-and (eqb (joined b) t) (leb n (length (log b))) (eq-test (joined b) t e) (le→leb n (length (log b)) h)
+  pub to-holding : (joined : ℕ → ℕ) (log : ℕ → List E) (t n b : ℕ) → joined b ≡ t → n ≤ length (log b)
+      → T (holding joined log t n b)
+  to-holding joined log t n b e h =
+      join-and (eqb (joined b) t) (leb n (length (log b))) (eq-test (joined b) t e) (le→leb n (length (log b)) h)
 
   -- A safe list stays safe where the leader's log and those of the replicas that have joined only grow.
-  pub ok-grows : {o : ℕ} {r : Registry} {c : Controller} {joined joined′ : ℕ → ℕ} {log log′ : ℕ → List E} → log o ⊑ log′ o
+  pub ok-grows : {o : ℕ} {r : Registry} {c : Controller} {joined joined′ : ℕ → ℕ} {log log′ : ℕ → List E}
+      → log o ⊑ log′ o
       → ((b : ℕ) → joined b ≡ r .view .term → (joined′ b ≡ r .view .term) × (length (log b) ≤ length (log′ b)))
       → Ok o r c joined log ⇒ Ok o r c joined′ log′
-  ok-grows {o} {r} {c} {joined} {joined′} {log} {log′} g f x h = record { begins = begins-trans (h .begins) g; backed = λ k. go (h .backed k) }
+  ok-grows {o} {r} {c} {joined} {joined′} {log} {log′} g f x h =
+      record { begins = begins-trans (h .begins) g; backed = λ k. go (h .backed k) }
     where
-      more : size (electors r o ∩ holding joined log (r .view .term) (length x)) ≤ size (electors r o ∩ holding joined′ log′ (r .view .term) (length x))
-      more = meet-sub (electors r o) (holding joined log (r .view .term) (length x)) (electors r o) (holding joined′ log′ (r .view .term) (length x))
+      more : size (electors r o ∩ holding joined log (r .view .term) (length x)) ≤ size
+          (electors r o ∩ holding joined′ log′ (r .view .term) (length x))
+      more =
+          meet-sub (electors r o) (holding joined log (r .view .term) (length x)) (electors r o)
+          (holding joined′ log′ (r .view .term) (length x))
           (λ b k m t. let y = holding-of joined log (r .view .term) (length x) b t in let z = f b (y .0) in
           (m, to-holding joined′ log′ (r .view .term) (length x) b (z .0) (omega (arith, y .1, z .1))))
 
@@ -50,11 +59,16 @@ module _ {E : Type 0} where
       go (read t n) = read t n
 
   -- A beginning of a safe list is safe.
-  pub ok-less : {o : ℕ} {r : Registry} {c : Controller} {joined : ℕ → ℕ} {log : ℕ → List E} {x y : List E} → x ⊑ y → Ok o r c joined log y → Ok o r c joined log x
-  ok-less {o} {r} {c} {joined} {log} {x} {y} p h = record { begins = begins-trans p (h .begins); backed = λ k. go (h .backed k) }
+  pub ok-less : {o : ℕ} {r : Registry} {c : Controller} {joined : ℕ → ℕ} {log : ℕ → List E} {x y : List E} → x ⊑ y
+      → Ok o r c joined log y → Ok o r c joined log x
+  ok-less {o} {r} {c} {joined} {log} {x} {y} p h =
+      record { begins = begins-trans p (h .begins); backed = λ k. go (h .backed k) }
     where
-      more : size (electors r o ∩ holding joined log (r .view .term) (length y)) ≤ size (electors r o ∩ holding joined log (r .view .term) (length x))
-      more = meet-sub (electors r o) (holding joined log (r .view .term) (length y)) (electors r o) (holding joined log (r .view .term) (length x))
+      more : size (electors r o ∩ holding joined log (r .view .term) (length y)) ≤ size
+          (electors r o ∩ holding joined log (r .view .term) (length x))
+      more =
+          meet-sub (electors r o) (holding joined log (r .view .term) (length y)) (electors r o)
+          (holding joined log (r .view .term) (length x))
           (λ b k m t. let z = holding-of joined log (r .view .term) (length y) b t in
           (m, to-holding joined log (r .view .term) (length x) b (z .0) (omega (arith, z .1, begins-length p))))
 
@@ -68,9 +82,14 @@ module _ {E : Type 0} where
   still-blocked f (passed lt n safe) = passed lt n (f _ safe)
   still-blocked f (stuck e w safe) = stuck e w (λ j. f _ (safe j))
 
-  pub still-outvoted : {S S′ : List E → Type 0} → (S ⇒ S′) → {l : ℕ} {view : ℕ → View} {joined : ℕ → ℕ} {acked : ℕ → ℕ → ℕ} {log : ℕ → List E} {a : ℕ}
+  pub still-outvoted : {S S′ : List E → Type 0} → (S ⇒ S′)
+      → {l : ℕ} {view : ℕ → View} {joined : ℕ → ℕ} {acked : ℕ → ℕ → ℕ} {log : ℕ → List E} {a : ℕ}
       → Outvoted S l view joined acked log a → Outvoted S′ l view joined acked log a
-  still-outvoted f out = record { some = out .some; enough = out .enough; blocked = λ b k t. still-blocked f (out .blocked b k t) }
+  still-outvoted f out = record {
+    some = out .some;
+    enough = out .enough;
+    blocked = λ b k t. still-blocked f (out .blocked b k t);
+  }
 
 module _ {E : Type 0} {L : ℕ → ℕ} {s : State E} (i : Inv L s) where
   open State s using (registry, controller, view, joined, acked, log, committed)
@@ -93,30 +112,41 @@ module _ {E : Type 0} {L : ℕ → ℕ} {s : State E} (i : Inv L s) where
   pub named-only : registry .view .leader ≢ 0 → registry .view .leader ≡ o
   named-only n = by-test (isChoosing (registry .status)) (λ t. absurd (n (vacant t))) named
 
-  -- What a stale leader has counted of a blocked replica is safe: it is nothing, or that replica's log has not moved since.
-  pub counted : {a b : ℕ} → L (view a .term) ≡ a → Blocked (SafeIn L s) (registry .view .leader) (view a) (view b) (acked a b) (joined b) (log a) (log b) b
+  -- What a stale leader has counted of a blocked replica is safe: it is nothing, or that replica's log has not moved
+  -- since.
+  pub counted : {a b : ℕ} → L (view a .term) ≡ a
+      → Blocked (SafeIn L s) (registry .view .leader) (view a) (view b) (acked a b) (joined b) (log a) (log b) b
       → (acked a b ≤ length (log a)) × SafeIn L s (take (acked a b) (log a))
   counted {a} {b} e (passed h n x) = (n, x)
   counted {a} {b} e (stuck same still safe) = go (le-or-lt (view a .term) (joined b))
     where
-      go : (view a .term ≤ joined b) ⊎ (joined b < view a .term) → (acked a b ≤ length (log a)) × SafeIn L s (take (acked a b) (log a))
+      go : (view a .term ≤ joined b) ⊎ (joined b < view a .term) → (acked a b ≤ length (log a))
+          × SafeIn L s (take (acked a b) (log a))
       go (inr lt) =
           let z = i .logs .counts a b e .early lt in
-          subst (λ n. (n ≤ length (log a)) × SafeIn L s (take n (log a))) (sym z) (omega arith, ok-less (begins-nil committed) (i .safe))
+          subst (λ n. (n ≤ length (log a)) × SafeIn L s (take n (log a))) (sym z)
+          (omega arith, ok-less (begins-nil committed) (i .safe))
       go (inl le) =
           let j : joined b ≡ view a .term = omega (arith, i .views b .joined) in
           let n = i .logs .counts a b e .now j in
           let c : L (joined b) ≡ a = ap L j ∙ e in
-          let f : log b ⊑ log a = subst (λ x. log b ⊑ log x) c (i .logs .follows b (ap (λ x. view x .term) c ∙ sym j)) in
-          (omega (arith, n, begins-length f), subst (SafeIn L s) (sym (take-grown (acked a b) f n)) (ok-less (begins-take (acked a b) (log b)) (safe j)))
+          let f : log b ⊑ log a = subst (λ x. log b ⊑ log x) c
+          (i .logs .follows b (ap (λ x. view x .term) c ∙ sym j)) in (
+            omega (arith, n, begins-length f),
+            subst (SafeIn L s) (sym (take-grown (acked a b) f n)) (ok-less (begins-take (acked a b) (log b)) (safe j)),
+          )
 
   -- While it is choosing, a replica that is up to date follows nobody.
-  pub frozen : controller .view .epoch ≡ registry .view .epoch → stageNumber (controller .stage) ≡ 3 → (b : ℕ) → view b .epoch ≡ registry .view .epoch → view b .leader ≡ 0
-  frozen e g b h = ap (λ v. v .leader) (i .views b .current h) ∙ vacant (chooses (registry .status) (controller .stage) g (i .controller .stage e))
+  pub frozen : controller .view .epoch ≡ registry .view .epoch → stageNumber (controller .stage) ≡ 3 → (b : ℕ)
+      → view b .epoch ≡ registry .view .epoch → view b .leader ≡ 0
+  frozen e g b h =
+      ap (λ v. v .leader) (i .views b .current h)
+      ∙ vacant (chooses (registry .status) (controller .stage) g (i .controller .stage e))
 
   -- Who has joined the registry's term follows its leader, once that leader has taken it up.
   pub follows-leader : view o .term ≡ registry .view .term → (b : ℕ) → joined b ≡ registry .view .term → log b ⊑ log o
-  follows-leader e b j = subst (λ t. log b ⊑ log (L t)) j (i .logs .follows b (subst (λ t. view (L t) .term ≡ t) (sym j) e))
+  follows-leader e b j =
+      subst (λ t. log b ⊑ log (L t)) j (i .logs .follows b (subst (λ t. view (L t) .term ≡ t) (sym j) e))
 
   -- A member within q whose log begins with x.
   pub record Holder (q : Members) (x : List E) : Type 0 where
@@ -142,7 +172,13 @@ module _ {E : Type 0} {L : ℕ → ℕ} {s : State E} (i : Inv L s) where
       go (read r _) = absurd (T-not (reading registry controller) n r)
       go (held h) =
           let c = overlap (electors registry o) (m ∩ q) (holding joined log (registry .view .term) (length x))
-          (omega (arith, quorum-half m q t, size-with m o (i .real (registry .view .term)), h, meet-sub m q (electors registry o) (m ∩ q) (λ b _ mb qb. (inK b mb, join-and (m b) (q b) mb qb)))) in
+          (omega (
+            arith,
+            quorum-half m q t,
+            size-with m o (i .real (registry .view .term)),
+            h,
+            meet-sub m q (electors registry o) (m ∩ q) (λ b _ mb qb. (inK b mb, join-and (m b) (q b) mb qb)),
+          )) in
           let y = split-and (m (c .replica)) (q (c .replica)) (c .first) in
           let z = holding-of joined log (registry .view .term) (length x) (c .replica) (c .second) in
           record {
@@ -162,5 +198,6 @@ pub record Later {E : Type 0} (L : ℕ → ℕ) (s s′ : State E) : Type 0 wher
   pub grows : s .registry .view .epoch ≤ s′ .registry .view .epoch
 
 -- The history stays.
-pub later : {E : Type 0} {L : ℕ → ℕ} {s s′ : State E} → Inv L s′ → s .registry .view .epoch ≤ s′ .registry .view .epoch → Later L s s′
+pub later : {E : Type 0} {L : ℕ → ℕ} {s s′ : State E} → Inv L s′ → s .registry .view .epoch ≤ s′ .registry .view .epoch
+    → Later L s s′
 later {L} i h = record { history = L; inv = i; same = λ _ _. refl; grows = h }

@@ -47,9 +47,15 @@ by-test true f g = f tt
 by-test false f g = g tt
 
 -- A choice by its two outcomes.
-pub by-cond {ℓ κ} : {A : Type ℓ} (P : A → Type κ) (t : Bool) {x y : A} → (T t → P x) → (T (not t) → P y) → P (cond t x y)
+pub by-cond {ℓ κ} : {A : Type ℓ} (P : A → Type κ) (t : Bool) {x y : A} → (T t → P x) → (T (not t) → P y)
+    → P (cond t x y)
 by-cond P true f g = f tt
 by-cond P false f g = g tt
+
+-- A choice of two that are the same.
+pub same-choice : {A : Type 0} (t : Bool) {x y : A} → x ≡ y → y ≡ cond t x y
+same-choice true e = sym e
+same-choice false e = refl
 
 -- Numbers
 
@@ -108,4 +114,5 @@ Holds cs = (n : ℕ) → T (asks n cs)
 
 pub facts : (cs : List Check) → T (passes cs) → Holds cs
 facts [] t n = tt
-facts ((c else m) ∷ cs) t n = let h = split-and c (passes cs) t in by-cond T (eqb n m) (λ _. h .0) (λ _. facts cs (h .1) n)
+facts ((c else m) ∷ cs) t n =
+    let h = split-and c (passes cs) t in by-cond T (eqb n m) (λ _. h .0) (λ _. facts cs (h .1) n)

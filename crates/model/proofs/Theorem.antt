@@ -1,4 +1,5 @@
--- Demand 3: the invariant holds after the opening and after every list of steps, and says what is claimed. Assumes nothing.
+-- Demand 3: the invariant holds after the opening and after every list of steps, and says what is claimed. Assumes
+-- nothing.
 use mathlib.Core.Bool.{Bool, true, false, not, cond, _&&_}
 use mathlib.Core.List.{List, [], _∷_, _++_, append-assoc, append-nil}
 use mathlib.Core.Logic.{_≢_}
@@ -32,7 +33,8 @@ abbrev pub All : {A : Type 0} → (ℕ → A → Type 0) → ℕ → List A → 
 All P k [] = Unit {0}
 All P k (x ∷ xs) = P k x × All P (suc k) xs
 
-pub nth : {A : Type 0} (P : ℕ → A → Type 0) (d : A) → ((m : ℕ) → P m d) → (xs : List A) (k n : ℕ) → All P k xs → P (k + n) (getD xs n d)
+pub nth : {A : Type 0} (P : ℕ → A → Type 0) (d : A) → ((m : ℕ) → P m d) → (xs : List A) (k n : ℕ) → All P k xs
+    → P (k + n) (getD xs n d)
 nth P d out [] k n a = out (k + n)
 nth P d out (x ∷ xs) k zero a = subst (λ m. P m x) (omega arith) (a .0)
 nth P d out (x ∷ xs) k (suc n) a = subst (λ m. P m (getD xs n d)) (omega arith) (nth P d out xs (suc k) n (a .1))
@@ -43,12 +45,27 @@ opened-inv {E} o k = record {
   real = λ _. k;
   registry = record { term = omega arith; named = refl; member = λ _. eqb-refl (o .board) };
   views = λ x. by-test (isReplica x)
-      (λ t. rw (is-true (isReplica x) t) (record { epoch = omega arith; term = omega arith; joined = omega arith; current = λ _. refl; led = λ _. refl }))
-      (λ t. rw (is-false (isReplica x) t) (record { epoch = omega arith; term = omega arith; joined = omega arith; current = λ e. absurd (omega arith); led = λ n. absurd (n refl) }));
+      (λ t. rw (is-true (isReplica x) t)
+      (record {
+        epoch = omega arith;
+        term = omega arith;
+        joined = omega arith;
+        current = λ _. refl;
+        led = λ _. refl;
+      }))
+      (λ t. rw (is-false (isReplica x) t)
+      (record {
+        epoch = omega arith;
+        term = omega arith;
+        joined = omega arith;
+        current = λ e. absurd (omega arith);
+        led = λ n. absurd (n refl);
+      }));
   controller = record { epoch = omega arith; current = λ _. refl; stage = λ _. tt };
   logs = record {
     own = λ a _. by-test (isReplica a) (λ t. rw (is-true (isReplica a) t)) (λ t. rw (is-false (isReplica a) t));
-    taken = λ x. rw (is-true (isReplica (o .board)) k) (by-cond (λ j. j ≤ 1) (isReplica x) (λ _. omega arith) (λ _. omega arith));
+    taken = λ x. rw (is-true (isReplica (o .board)) k)
+        (by-cond (λ j. j ≤ 1) (isReplica x) (λ _. omega arith) (λ _. omega arith));
     follows = λ _ _. begins-refl [];
     counts = λ _ _ _. record { early = λ _. refl; now = λ _. omega arith };
   };
@@ -79,7 +96,8 @@ module _ (𝓔 : Entries) where
   open Entries 𝓔 using (Entry, make)
 
   -- Every accepted step keeps it,
-  pub keeps : {L : ℕ → ℕ} {s : State Entry} → Inv L s → (st : Step) → Holds (checks (outline s) st) → Later L s (next 𝓔 s st)
+  pub keeps : {L : ℕ → ℕ} {s : State Entry} → Inv L s → (st : Step) → Holds (checks (outline s) st)
+      → Later L s (next 𝓔 s st)
   keeps i (append b v) h = later (append-keeps 𝓔 i b v h) (omega arith)
   keeps i (commit b) h = later (commit-keeps 𝓔 i b h) (omega arith)
   keeps i (add b) h = later (add-keeps 𝓔 i b h) (omega arith)
@@ -99,7 +117,9 @@ module _ (𝓔 : Entries) where
 
   -- and so does every step, and every list of steps.
   pub step-keeps : {L : ℕ → ℕ} {s : State Entry} → Inv L s → (st : Step) → Later L s (step 𝓔 s st)
-  step-keeps {L} {s} i st = by-cond (Later L s) (accepted (outline s) st) (λ t. keeps i st (facts (checks (outline s) st) t)) (λ _. later i (omega arith))
+  step-keeps {L} {s} i st =
+      by-cond (Later L s) (accepted (outline s) st) (λ t. keeps i st (facts (checks (outline s) st) t))
+      (λ _. later i (omega arith))
 
   pub run-keeps : {L : ℕ → ℕ} {s : State Entry} → Inv L s → (sts : List Step) → Later L s (run 𝓔 s sts)
   unfolding run
@@ -143,17 +163,21 @@ module _ (𝓔 : Entries) where
   run-given : (s : State Entry) (sts : List Step) → run 𝓔 s sts .committed ≡ s .committed ++ given 𝓔 s sts
   unfolding run given
   run-given s [] = sym (append-nil (s .committed))
-  run-given s (st ∷ sts) = run-given (step 𝓔 s st) sts ∙ ap (λ xs. xs ++ given 𝓔 (step 𝓔 s st) sts) (step-gives s st) ∙ append-assoc (s .committed) (gives 𝓔 s st) _
+  run-given s (st ∷ sts) =
+      run-given (step 𝓔 s st) sts ∙ ap (λ xs. xs ++ given 𝓔 (step 𝓔 s st) sts) (step-gives s st)
+      ∙ append-assoc (s .committed) (gives 𝓔 s st) _
 
   pub run-append : (s : State Entry) (sts more : List Step) → run 𝓔 s (sts ++ more) ≡ run 𝓔 (run 𝓔 s sts) more
   unfolding run
   run-append s [] more = refl
   run-append s (st ∷ sts) more = run-append (step 𝓔 s st) sts more
 
-  given-append : (s : State Entry) (sts more : List Step) → given 𝓔 s (sts ++ more) ≡ given 𝓔 s sts ++ given 𝓔 (run 𝓔 s sts) more
+  given-append : (s : State Entry) (sts more : List Step) → given 𝓔 s (sts ++ more) ≡ given 𝓔 s sts
+      ++ given 𝓔 (run 𝓔 s sts) more
   unfolding run given
   given-append s [] more = refl
-  given-append s (st ∷ sts) more = ap (λ xs. gives 𝓔 s st ++ xs) (given-append (step 𝓔 s st) sts more) ∙ sym (append-assoc (gives 𝓔 s st) _ _)
+  given-append s (st ∷ sts) more =
+      ap (λ xs. gives 𝓔 s st ++ xs) (given-append (step 𝓔 s st) sts more) ∙ sym (append-assoc (gives 𝓔 s st) _ _)
 
   module _ (o : Opening) (real : T (canOpen o)) (sts : List Step) where
     -- the history and the invariant after sts
@@ -166,12 +190,16 @@ module _ (𝓔 : Entries) where
 
     pub safe : Safe 𝓔 o sts
     safe = record {
-      leading = λ n. subst (λ x. receipts 𝓔 o sts ⊑ after 𝓔 o sts .log x) (sym (named-only (reached .inv) n)) (subst (λ xs. xs ⊑ after 𝓔 o sts .log (reached .history (after 𝓔 o sts .registry .view .term))) (run-given (opened o) sts) (reached .inv .safe .begins));
-      lasting = λ more. subst (λ xs. receipts 𝓔 o sts ⊑ xs) (sym (given-append (opened o) sts more)) (begins-more (receipts 𝓔 o sts) _);
+      leading = λ n. subst (λ x. receipts 𝓔 o sts ⊑ after 𝓔 o sts .log x) (sym (named-only (reached .inv) n))
+          (subst (λ xs. xs ⊑ after 𝓔 o sts .log (reached .history (after 𝓔 o sts .registry .view .term)))
+          (run-given (opened o) sts) (reached .inv .safe .begins));
+      lasting = λ more. subst (λ xs. receipts 𝓔 o sts ⊑ xs) (sym (given-append (opened o) sts more))
+          (begins-more (receipts 𝓔 o sts) _);
       alone = λ x y t k m. sym (led x t k) ∙ led y t m;
       aloneLater = λ more x y t k m.
           let j = run-keeps (reached .inv) more in
-          let l : LeadsUnder (run 𝓔 (after 𝓔 o sts) more) y t = subst (λ s. LeadsUnder s y t) (run-append (opened o) sts more) m in
+          let l : LeadsUnder (run 𝓔 (after 𝓔 o sts) more) y t =
+          subst (λ s. LeadsUnder s y t) (run-append (opened o) sts more) m in
           let v = reached .inv .views x in
           sym (led x t k) ∙ sym (j .same t (omega (arith, k .2, v .term, reached .inv .registry .term)))
           ∙ subst (λ u. j .history u ≡ y) (l .2) (acting (j .inv) y (replica-ne y (l .0)) (l .1));

@@ -1,5 +1,5 @@
--- Demand 3: one claim about every list of steps after an accepted opening. Cited by the promise of `model::claim`, and by those of
--- steps and sheet. Assumes nothing.
+-- Demand 3: one claim about every list of steps after an accepted opening. Cited by the promise of `model::claim`, and
+-- by those of steps and sheet. Assumes nothing.
 use mathlib.Core.List.{List, _++_}
 use mathlib.Core.Logic.{_≢_}
 use mathlib.Core.Path.{_≡_}
@@ -11,7 +11,8 @@ use Rattle.model.specs.State.{Entries, entries, State, Opening, canOpen,
 use Rattle.model.specs.Steps.{Step}
 use Rattle.model.specs.Runs.{run, given}
 
--- "A board holds itself leader if the leader in its view is itself, under the leader epoch there": x does so under term t.
+-- "A board holds itself leader if the leader in its view is itself, under the leader epoch there": x does so under term
+-- t.
 abbrev pub LeadsUnder : {E : Type 0} → State E → ℕ → ℕ → Type 0
 LeadsUnder s x t = T (isReplica x) × (s .view x .leader ≡ x) × (s .view x .term ≡ t)
 
@@ -34,7 +35,8 @@ module _ (𝓔 : Entries) (o : Opening) where
     -- No two replicas hold themselves leader under one term, at one point of a list
     pub alone : (x y t : ℕ) → LeadsUnder (after sts) x t → LeadsUnder (after sts) y t → x ≡ y
     -- or at two.
-    pub aloneLater : (more : List Step) (x y t : ℕ) → LeadsUnder (after sts) x t → LeadsUnder (after (sts ++ more)) y t → x ≡ y
+    pub aloneLater : (more : List Step) (x y t : ℕ) → LeadsUnder (after sts) x t → LeadsUnder (after (sts ++ more)) y t
+        → x ≡ y
     -- The list that the cluster keeps is the list of the receipts given.
     pub kept : after sts .committed ≡ receipts sts
 

@@ -1,4 +1,5 @@
--- The ranges of document 01, "The row", and the leaders that refusal 1 asks for. Cited by the promise of `ranges` and by every call's. Assumes nothing.
+-- The ranges of document 01, "The row", and the leaders that refusal 1 asks for. Cited by the promise of `ranges` and
+-- by every call's. Assumes nothing.
 use mathlib.Core.Bool.{Bool, true, not, _&&_, _||_}
 use mathlib.Core.List.{List, [], _∷_}
 use Prim.Native.Nat.{ℕ}
@@ -40,11 +41,14 @@ module _ (m : Outline) where
 
   -- nor "the controller's leader 0 at stage leader or boards".
   abbrev pub controllerLeaderNamed : Bool
-  controllerLeaderNamed = eqb (stageNumber (controller .stage)) 0 || eqb (stageNumber (controller .stage)) 3 || not (eqb (controller .view .leader) 0)
+  controllerLeaderNamed =
+      eqb (stageNumber (controller .stage)) 0 || eqb (stageNumber (controller .stage)) 3 || not
+      (eqb (controller .view .leader) 0)
 
   abbrev pub ranges : List Bool
   ranges =
-      every (viewRanges (registry .view)) ∷ every (viewRanges (controller .view)) ∷ leaderNamed ∷ controllerLeaderNamed ∷ leb issued 512
+      every (viewRanges (registry .view)) ∷ every (viewRanges (controller .view)) ∷ leaderNamed ∷ controllerLeaderNamed
+      ∷ leb issued 512
       ∷ every (eight (λ b. every (replicaRanges b))) ∷ []
 
   -- A row that refusal 1 lets through.

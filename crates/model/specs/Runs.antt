@@ -1,5 +1,5 @@
--- Runs: lists of steps, malformed and refused ones too, each on what the one before left. Cited by Claim, Trials and the contracts of
--- steps and sheet. Assumes nothing.
+-- Runs: lists of steps, malformed and refused ones too, each on what the one before left. Cited by Claim, Trials and
+-- the contracts of steps and sheet. Assumes nothing.
 use mathlib.Core.Bool.{cond}
 use mathlib.Core.List.{List, [], _∷_, _++_}
 use Prim.Native.Nat.{ℕ}

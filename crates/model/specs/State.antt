@@ -1,4 +1,5 @@
--- The cluster (document 01: row): registry, replicas, controller, logs, receipts, and the opening. Cited by Steps, Claim and most contracts. Assumes nothing.
+-- The cluster (document 01: row): registry, replicas, controller, logs, receipts, and the opening. Cited by Steps,
+-- Claim and most contracts. Assumes nothing.
 use mathlib.Core.Bool.{Bool, true, false, cond}
 use mathlib.Core.List.{List, []}
 use mathlib.Core.Logic.{_↔_}
@@ -16,7 +17,8 @@ pub record Entries : Type 1 where
   pub same : Entry → Entry → Bool
   pub exact : (x y : Entry) → T (same x y) ↔ (x ≡ y)
 
--- Document 01's entry, "a 32-bit unsigned value": any number here, and equal if the values are. That it has 32 bits is the type of the calls.
+-- Document 01's entry, "a 32-bit unsigned value": any number here, and equal if the values are. That it has 32 bits is
+-- the type of the calls.
 abbrev pub values : Entries
 values = record {
   Entry = ℕ;
@@ -32,7 +34,8 @@ entries = values
 abbrev pub Entry : Type 0
 Entry = ℕ
 
--- Epoch, leader epoch (term), leader (0: none) and members: as the registry holds them, or as a replica or the controller last took them.
+-- Epoch, leader epoch (term), leader (0: none) and members: as the registry holds them, or as a replica or the
+-- controller last took them.
 pub record View : Type 0 where
   pub epoch : ℕ
   pub term : ℕ
@@ -56,8 +59,8 @@ pub record Controller : Type 0 where
   pub heard : ℕ → ℕ
   pub heardJoined : ℕ → ℕ
 
--- By replica: its view; the term whose leader's log its own log last followed (joined); its counts, one for each replica (acked);
--- its log. For the whole cluster: the receipts (committed).
+-- By replica: its view; the term whose leader's log its own log last followed (joined); its counts, one for each
+-- replica (acked); its log. For the whole cluster: the receipts (committed).
 pub record State (E : Type 0) : Type 0 where
   pub registry : Registry
   pub controller : Controller
@@ -138,8 +141,8 @@ openingWith b = record { board = b }
 abbrev pub canOpen : Opening → Bool
 canOpen o = isReplica (o .board)
 
--- "Opening with board b: every epoch, leader epoch and joined is 1, every leader b, all members {b}, status normal, stage idle,
--- lists empty, counts 0, heard lengths none."
+-- "Opening with board b: every epoch, leader epoch and joined is 1, every leader b, all members {b}, status normal,
+-- stage idle, lists empty, counts 0, heard lengths none."
 abbrev pub firstView : Opening → View
 firstView o = record { epoch = 1; term = 1; leader = o .board; members = only (o .board) }
 

@@ -1,4 +1,5 @@
--- The trials of document 01 marked P as one table, and the others. What P2 says of a sheet stands in the crate `sheet`. Cited by the promise of `trials`. Assumes nothing.
+-- The trials of document 01 marked P as one table, and the others. What P2 says of a sheet stands in the crate `sheet`.
+-- Cited by the promise of `trials`. Assumes nothing.
 use mathlib.Core.Bool.{Bool, true, false, cond, _&&_}
 use mathlib.Core.List.{List, [], _∷_, _++_}
 use mathlib.Core.Path.{_≡_}
@@ -42,7 +43,8 @@ allHold (t ∷ ts) = holds t && allHold ts
 abbrev unseen : RowState → Bool
 unseen s = true
 
--- P7's records, which P8 and P9 go on from: add 2; change; read leader; controller news; read leader; board 1 news; read leader.
+-- P7's records, which P8 and P9 go on from: add 2; change; read leader; controller news; read leader; board 1 news;
+-- read leader.
 abbrev p7 : List Record
 p7 = of 3 2 ∷ bare 5 ∷ bare 11 ∷ bare 10 ∷ bare 11 ∷ of 6 1 ∷ bare 11 ∷ []
 
@@ -65,7 +67,8 @@ p9seen s =
 abbrev pub table : List Trial
 table =
     -- P1
-    majority 1 1 ∷ majority 2 2 ∷ majority 3 2 ∷ majority 4 3 ∷ majority 5 3 ∷ majority 6 4 ∷ majority 7 4 ∷ majority 8 5
+    majority 1 1 ∷ majority 2 2 ∷ majority 3 2 ∷ majority 4 3 ∷ majority 5 3 ∷ majority 6 4 ∷ majority 7 4
+    ∷ majority 8 5
     -- P2
     ∷ opening 0 1 ∷ opening 9 1 ∷ opening 8 0
     -- P3: receipt by 1; append 41; receipt
@@ -95,7 +98,8 @@ inTurn (suc n) x y = x ∷ y ∷ inTurn n x y
 
 -- "Adding and removing 2 in turn 3,999 times reaches epoch 4,000; the next gives 7."
 abbrev worn : Trial
-worn = running 1 (inTurn 2000 (of 3 2) (of 4 2)) (replicate 3999 0 ++ (7 ∷ [])) (λ s. eqb (s .registry .view .epoch) 4000)
+worn =
+    running 1 (inTurn 2000 (of 3 2) (of 4 2)) (replicate 3999 0 ++ (7 ∷ [])) (λ s. eqb (s .registry .view .epoch) 4000)
 
 -- "Members 1 to 4, leader 1, normal, news taken, logs empty."
 abbrev fourReady : List Record
@@ -106,16 +110,18 @@ fourReady =
 abbrev inFour : RowState → Bool
 inFour s =
     news 1 && news 2 && news 3 && news 4 && eqb (s .registry .view .leader) 1 && isNormal (s .registry .status)
-    && eqb (size (s .registry .view .members)) 4 && s .registry .view .members 1 && s .registry .view .members 2 && s .registry .view .members 3 && s .registry .view .members 4
+    && eqb (size (s .registry .view .members)) 4 && s .registry .view .members 1 && s .registry .view .members 2
+    && s .registry .view .members 3 && s .registry .view .members 4
   where
     news : ℕ → Bool
     news b = eqb (s .view b .epoch) (s .registry .view .epoch) && eqb (length (s .log b)) 0
 
--- "1 appends 41, only 4 receives it. Change; 2, 3 and the controller take news; 2 and 3 are heard; 2 is installed, takes news,
--- appends 42. Board 4 takes news; 2 counting 4 gives 11; 4 joins and its log is empty."
+-- "1 appends 41, only 4 receives it. Change; 2, 3 and the controller take news; 2 and 3 are heard; 2 is installed,
+-- takes news, appends 42. Board 4 takes news; 2 counting 4 gives 11; 4 joins and its log is empty."
 abbrev four : Trial
 four = running 1
-    (fourReady ++ (ofValue 1 1 41 ∷ of 8 4 ∷ bare 5 ∷ of 6 2 ∷ of 6 3 ∷ bare 10 ∷ of 14 2 ∷ of 14 3 ∷ of 15 2 ∷ of 6 2 ∷ ofValue 1 2 42
+    (fourReady ++ (ofValue 1 1 41 ∷ of 8 4 ∷ bare 5 ∷ of 6 2 ∷ of 6 3 ∷ bare 10 ∷ of 14 2 ∷ of 14 3 ∷ of 15 2 ∷ of 6 2
+    ∷ ofValue 1 2 42
     ∷ of 6 4 ∷ ofBoth 9 2 4 ∷ of 7 4 ∷ []))
     (replicate 25 0 ++ (11 ∷ 0 ∷ []))
     (λ s. eqb (length (s .log 4)) 0)

@@ -1,4 +1,5 @@
--- A row is fixed by its outline. A call's promise gives the outline of the row that it returns, so it fixes the row. Assumes nothing.
+-- A row is fixed by its outline. A call's promise gives the outline of the row that it returns, so it fixes the row.
+-- Assumes nothing.
 use mathlib.Core.List.{List}
 use mathlib.Core.Path.{_≡_, refl, sym, ap, _∙_}
 use Prim.Native.Nat.{ℕ, suc, _+_, _-_, _*_, _/_, _%_, _<_}
@@ -26,7 +27,8 @@ pub record Typed (row : Cluster) : Type 0 where
   pub views : (b : ℕ) → at noView (row .views) b .members < 256
 
 -- Lists as long as each other are equal if they are by replica.
-pub at-equal : {A : Type 0} (d : A) (xs ys : List A) → length xs ≡ length ys → ((b : ℕ) → at d xs b ≡ at d ys b) → xs ≡ ys
+pub at-equal : {A : Type 0} (d : A) (xs ys : List A) → length xs ≡ length ys → ((b : ℕ) → at d xs b ≡ at d ys b) → xs
+    ≡ ys
 at-equal d xs ys e h = ext-getD d xs ys e (λ i _. h (suc i))
 
 -- The count at place i is by the replicas i / 8 + 1 and i % 8 + 1.
@@ -36,9 +38,11 @@ pair-at xs i h =
     rw (replica (i / 8 + 1) (omega arith) (omega arith), replica (i % 8 + 1) (omega arith) (omega arith), p)
 
 -- Lists of 64 are equal if they are by two replicas.
-pub pair-equal : (xs ys : List ℕ) → length xs ≡ 64 → length ys ≡ 64 → ((a b : ℕ) → atPair xs a b ≡ atPair ys a b) → xs ≡ ys
+pub pair-equal : (xs ys : List ℕ) → length xs ≡ 64 → length ys ≡ 64 → ((a b : ℕ) → atPair xs a b ≡ atPair ys a b) → xs
+    ≡ ys
 pair-equal xs ys e f h =
-    ext-getD 0 xs ys (e ∙ sym f) (λ i l. sym (pair-at xs i (omega arith)) ∙ h (i / 8 + 1) (i % 8 + 1) ∙ pair-at ys i (omega arith))
+    ext-getD 0 xs ys (e ∙ sym f) (λ i l. sym (pair-at xs i (omega arith)) ∙ h (i / 8 + 1) (i % 8 + 1)
+    ∙ pair-at ys i (omega arith))
 
 pub view-equal : (v w : View) → v .members < 256 → w .members < 256 → viewOf v ≡ viewOf w → v ≡ w
 view-equal v w h k e =
@@ -78,15 +82,21 @@ stage-equal g h e = sym (stage-from g) ∙ ap stageFrom e ∙ stage-from h
 
 pub rows-equal : (row row′ : Cluster) → Typed row → Typed row′ → outlineOf row ≡ outlineOf row′ → row ≡ row′
 rows-equal row row′ t t′ e =
-    let rv = view-equal (row .registry .view) (row′ .registry .view) (t .registry) (t′ .registry) (λ i. e i .registry .view) in
+    let rv = view-equal (row .registry .view) (row′ .registry .view) (t .registry) (t′ .registry)
+    (λ i. e i .registry .view) in
     let rs = status-equal (row .registry .status) (row′ .registry .status) (λ i. e i .registry .status) in
-    let cv = view-equal (row .controller .view) (row′ .controller .view) (t .controller) (t′ .controller) (λ i. e i .controller .view) in
+    let cv = view-equal (row .controller .view) (row′ .controller .view) (t .controller) (t′ .controller)
+    (λ i. e i .controller .view) in
     let cs = stage-equal (row .controller .stage) (row′ .controller .stage) (λ i. e i .controller .stage) in
-    let ch = at-equal 0 (row .controller .heard) (row′ .controller .heard) (t .heard ∙ sym (t′ .heard)) (λ b i. e i .controller .heard b) in
-    let cj = at-equal 0 (row .controller .joined) (row′ .controller .joined) (t .heardJoined ∙ sym (t′ .heardJoined)) (λ b i. e i .controller .heardJoined b) in
+    let ch = at-equal 0 (row .controller .heard) (row′ .controller .heard) (t .heard ∙ sym (t′ .heard))
+    (λ b i. e i .controller .heard b) in
+    let cj = at-equal 0 (row .controller .joined) (row′ .controller .joined) (t .heardJoined ∙ sym (t′ .heardJoined))
+    (λ b i. e i .controller .heardJoined b) in
     let vs = at-equal noView (row .views) (row′ .views) (t .shape .views ∙ sym (t′ .shape .views))
-    (λ b. view-equal (at noView (row .views) b) (at noView (row′ .views) b) (t .views b) (t′ .views b) (λ i. e i .view b)) in
-    let js = at-equal 0 (row .joined) (row′ .joined) (t .shape .joined ∙ sym (t′ .shape .joined)) (λ b i. e i .joined b) in
+    (λ b. view-equal (at noView (row .views) b) (at noView (row′ .views) b) (t .views b) (t′ .views b)
+    (λ i. e i .view b)) in
+    let js = at-equal 0 (row .joined) (row′ .joined) (t .shape .joined ∙ sym (t′ .shape .joined))
+    (λ b i. e i .joined b) in
     let ks = pair-equal (row .acked) (row′ .acked) (t .shape .acked) (t′ .shape .acked) (λ a b i. e i .acked a b) in
     let ls = at-equal 0 (row .len) (row′ .len) (t .shape .len ∙ sym (t′ .shape .len)) (λ b i. e i .len b) in
     λ i. record {

@@ -1,6 +1,5 @@
--- A row in outline, and the state that it stands for with the lent places: from a refused and from an accepted step to `Turns`; what
--- a write does to the lengths, the logs and the counts.
--- Assumes nothing.
+-- A row in outline, and the state that it stands for with the lent places: from a refused and from an accepted step to
+-- `Turns`; what a write does to the lengths, the logs and the counts. Assumes nothing.
 use mathlib.Core.Bool.{Bool, true, false, not, cond, _&&_}
 use mathlib.Core.List.{List, [], _∷_, _++_}
 use mathlib.Core.Logic.{_⊎_, inl, inr, _≢_}
@@ -147,15 +146,20 @@ module _ (cs : List ℕ) (a b n : ℕ) (ra : T (isReplica a)) (rb : T (isReplica
 
   apart : (x y : ℕ) → (x ≡ a → y ≡ b → ⊥) → atPair (set cs pair n) x y ≡ atPair cs x y
   apart x y f = by-test (isReplica x && isReplica y)
-      (λ t. let z = split-and (isReplica x) (isReplica y) t in rw (is-true (isReplica x && isReplica y) t) (getD-set-other cs pair (8 * (x - 1) + (y - 1)) n 0 (λ q. f
+      (λ t. let z = split-and (isReplica x) (isReplica y) t in
+      rw (is-true (isReplica x && isReplica y) t) (getD-set-other cs pair (8 * (x - 1) + (y - 1)) n 0 (λ q. f
       (omega (arith, q, replica-range a ra, replica-range b rb, replica-range x (z .0), replica-range y (z .1)))
       (omega (arith, q, replica-range a ra, replica-range b rb, replica-range x (z .0), replica-range y (z .1))))))
       (λ t. rw (is-false (isReplica x && isReplica y) t))
 
   pub pair-set : atPair (set cs pair n) ≡ upd (atPair cs) a (upd (atPair cs a) b n)
-  pair-set = fun-ext (λ x. fun-ext (λ y. at-or {P = λ x. (y : ℕ) → atPair (set cs pair n) x y ≡ upd (atPair cs) a (upd (atPair cs a) b n) x y} a
+  pair-set =
+      fun-ext (λ x. fun-ext (λ y. at-or
+      {P = λ x. (y : ℕ) → atPair (set cs pair n) x y ≡ upd (atPair cs) a (upd (atPair cs a) b n) x y} a
       (at-or b
-      (rw (eqb-same a) (rw (eqb-same b) (rw (is-true (isReplica a) ra, is-true (isReplica b) rb) (getD-set-same cs pair n 0 (omega (arith, replica-range a ra, replica-range b rb))))))
+      (rw (eqb-same a) (rw (eqb-same b)
+      (rw (is-true (isReplica a) ra, is-true (isReplica b) rb)
+      (getD-set-same cs pair n 0 (omega (arith, replica-range a ra, replica-range b rb))))))
       (λ y m. rw (eqb-same a) (rw (ne-eqb y b m) (apart a y (λ _ q. m q)))))
       (λ x m y. rw (ne-eqb x a m) (apart x y (λ q _. m q))) x y))
 
@@ -186,8 +190,10 @@ module _ (acked : List ℕ) (b n : ℕ) (low : 1 ≤ b) (high : b ≤ 8) (all : 
   clear {cs} k j h q c = record {
     many = length-set cs j 0 ∙ c .many;
     others = λ x y m. ap (λ f. f x y) e ∙ ap (λ f. f y) (upd-other (atPair cs) b _ x m) ∙ c .others x y m;
-    own = λ y l. ap (λ f. f b y) e ∙ ap (λ f. f y) (upd-same (atPair cs) b _) ∙ at-or {P = λ y. y ≤ suc k → upd (atPair cs b) (suc k) 0 y ≡ 0} (suc k)
-        (λ _. upd-same (atPair cs b) (suc k) 0) (λ y m l. upd-other (atPair cs b) (suc k) 0 y m ∙ c .own y (omega arith)) y l;
+    own = λ y l. ap (λ f. f b y) e ∙ ap (λ f. f y) (upd-same (atPair cs) b _)
+        ∙ at-or {P = λ y. y ≤ suc k → upd (atPair cs b) (suc k) 0 y ≡ 0} (suc k)
+        (λ _. upd-same (atPair cs b) (suc k) 0)
+        (λ y m l. upd-other (atPair cs b) (suc k) 0 y m ∙ c .own y (omega arith)) y l;
   }
     where
       e : atPair (set cs j 0) ≡ upd (atPair cs) b (upd (atPair cs b) (suc k) 0)
@@ -195,15 +201,22 @@ module _ (acked : List ℕ) (b n : ℕ) (low : 1 ≤ b) (high : b ≤ 8) (all : 
           let p : j ≡ 8 * (b - 1) + (suc k - 1) = omega arith in
           rw p (pair-set cs b (suc k) 0 rb (of-true (replica (suc k) (omega arith) (omega arith))) (c .many))
 
-  finish : {cs : List ℕ} → Cleared 8 cs → (length (set cs (8 * (b - 1) + (b - 1)) n) ≡ 64) × (atPair (set cs (8 * (b - 1) + (b - 1)) n) ≡ upd (atPair acked) b (upd M.zeros b n))
-  finish {cs} c = (length-set cs (8 * (b - 1) + (b - 1)) n ∙ c .many, pair-set cs b b n rb rb (c .many) ∙ fun-ext (λ x. fun-ext (λ y. go x y)))
+  finish : {cs : List ℕ} → Cleared 8 cs → (length (set cs (8 * (b - 1) + (b - 1)) n) ≡ 64)
+      × (atPair (set cs (8 * (b - 1) + (b - 1)) n) ≡ upd (atPair acked) b (upd M.zeros b n))
+  finish {cs} c = (
+    length-set cs (8 * (b - 1) + (b - 1)) n ∙ c .many,
+    pair-set cs b b n rb rb (c .many) ∙ fun-ext (λ x. fun-ext (λ y. go x y)),
+  )
     where
       zero-own : (y : ℕ) → atPair cs b y ≡ 0
-      zero-own y = by-test (isReplica y) (λ t. c .own y (replica-range y t .1)) (λ t. rw (replica b low high, is-false (isReplica y) t))
+      zero-own y =
+          by-test (isReplica y) (λ t. c .own y (replica-range y t .1))
+          (λ t. rw (replica b low high, is-false (isReplica y) t))
 
       go : (x y : ℕ) → upd (atPair cs) b (upd (atPair cs b) b n) x y ≡ upd (atPair acked) b (upd M.zeros b n) x y
       go = at-or b
-          (λ y. rw (eqb-same b) (at-or {P = λ y. upd (atPair cs b) b n y ≡ upd M.zeros b n y} b (rw (eqb-same b)) (λ y m. rw (ne-eqb y b m) (zero-own y)) y))
+          (λ y. rw (eqb-same b) (at-or {P = λ y. upd (atPair cs b) b n y ≡ upd M.zeros b n y} b (rw (eqb-same b))
+          (λ y m. rw (ne-eqb y b m) (zero-own y)) y))
           (λ x m y. rw (ne-eqb x b m) (c .others x y m))
 
   cleared : (k : ℕ) → k ≤ 8 → Cleared k (wiped acked (8 * (b - 1)) k)
@@ -214,10 +227,14 @@ module _ (acked : List ℕ) (b n : ℕ) (low : 1 ≤ b) (high : b ≤ 8) (all : 
   pub wiped-room : (k j : ℕ) → k ≤ 8 → j < 8 → 8 * (b - 1) + j < length (wiped acked (8 * (b - 1)) k)
   wiped-room k j h l = omega (arith, cleared k h .many)
 
-  pub restart : (length (set (wiped acked (8 * (b - 1)) 8) (8 * (b - 1) + (b - 1)) n) ≡ 64) × (atPair (set (wiped acked (8 * (b - 1)) 8) (8 * (b - 1) + (b - 1)) n) ≡ upd (atPair acked) b (upd M.zeros b n))
+  pub restart : (length (set (wiped acked (8 * (b - 1)) 8) (8 * (b - 1) + (b - 1)) n) ≡ 64)
+      × (atPair (set (wiped acked (8 * (b - 1)) 8) (8 * (b - 1) + (b - 1)) n) ≡ upd (atPair acked) b (upd M.zeros b n))
   restart = finish (cleared 8 (omega arith))
 
 -- One more replica is looked at for the quorum of a receipt.
-pub counted-more : (acked : List ℕ) (b n x q q′ : ℕ) → 1 ≤ b → b ≤ 8 → 1 ≤ x → x ≤ 8 → bits q ≡ under x (countedAbove (atPair acked b) n)
-    → bits q′ ≡ upd (bits q) x (ltb n (getD acked (8 * (b - 1) + (x - 1)) 0)) → bits q′ ≡ under (x + 1) (countedAbove (atPair acked b) n)
-counted-more acked b n x q q′ hb kb hx kx e f = gathered (countedAbove (atPair acked b) n) x q q′ _ hx kx e f (rw (replica b hb kb, replica x hx kx))
+pub counted-more : (acked : List ℕ) (b n x q q′ : ℕ) → 1 ≤ b → b ≤ 8 → 1 ≤ x → x ≤ 8 → bits q
+    ≡ under x (countedAbove (atPair acked b) n)
+    → bits q′ ≡ upd (bits q) x (ltb n (getD acked (8 * (b - 1) + (x - 1)) 0)) → bits q′
+    ≡ under (x + 1) (countedAbove (atPair acked b) n)
+counted-more acked b n x q q′ hb kb hx kx e f =
+    gathered (countedAbove (atPair acked b) n) x q q′ _ hx kx e f (rw (replica b hb kb, replica x hx kx))

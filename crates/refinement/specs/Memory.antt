@@ -1,5 +1,5 @@
--- A row together with the lent places as a state of the model, and what a step makes of them. Cited by the contracts of leader,
--- follower, control, dispatch, steps, hub and sheet. Assumes nothing.
+-- A row together with the lent places as a state of the model, and what a step makes of them. Cited by the contracts of
+-- leader, follower, control, dispatch, steps, hub and sheet. Assumes nothing.
 use mathlib.Core.Bool.{cond}
 use mathlib.Core.List.{List}
 use mathlib.Core.Logic.{_≢_}
@@ -45,7 +45,8 @@ abs row p = record {
 
 -- The row of these parts.
 abbrev pub rowOf : Registry → Controller → List View → List ℕ → List ℕ → List ℕ → ℕ → Cluster
-rowOf g c views joined acked len issued = record { registry = g; controller = c; views = views; joined = joined; acked = acked; len = len; issued = issued }
+rowOf g c views joined acked len issued =
+    record { registry = g; controller = c; views = views; joined = joined; acked = acked; len = len; issued = issued }
 
 -- Eight lengths of logs, each at most 512.
 pub record Short (len : List ℕ) : Type 0 where
@@ -71,8 +72,8 @@ pub record Ready (row : Cluster) : Type 0 where
   pub leaders : Led (row .views)
   pub reads : HasLeader (row .controller)
 
--- The places after an accepted step. Append (1) and receive (8) write one place, the end of b's log; commit (2) writes the end of the
--- receipts; no other step writes a place.
+-- The places after an accepted step. Append (1) and receive (8) write one place, the end of b's log; commit (2) writes
+-- the end of the receipts; no other step writes a place.
 abbrev pub written : Writes → Cluster → Places → Places
 written (appends b value) row p = lent (set (p .store) (place b (at 0 (row .len) b)) value) (p .list)
 written (commits b) row p = lent (p .store) (set (p .list) (row .issued) (getD (p .store) (place b (row .issued)) 0))
@@ -96,7 +97,8 @@ pub record Turns (st : Step) (row : Cluster) (p : Places) (x : Outcome) (p′ : 
 abbrev pub Leaves : Step → Cluster → Places → ℕ → Cluster → Places → Type 0
 Leaves st row p n row′ p′ = Turns st row p (record { answer = n; row = row′ }) p′
 
--- A step of the registry g and the controller c: what it answers and leaves, whatever the counts, the receipts and the lent places are.
+-- A step of the registry g and the controller c: what it answers and leaves, whatever the counts, the receipts and the
+-- lent places are.
 abbrev pub Governs : Step → Registry → Controller → List View → List ℕ → List ℕ → Settled → Type 0
 Governs st g c views joined len x = (acked : List ℕ) (issued : ℕ) (p : Places) → issued ≤ 512 → Full p
     → Leaves st (rowOf g c views joined acked len issued) p

@@ -1,5 +1,5 @@
--- From refusal 1 and the inner step to what a call promises; a row that refusal 1 lets through is ready; the lent places keep their lengths; the shown list.
--- Assumes nothing.
+-- From refusal 1 and the inner step to what a call promises; a row that refusal 1 lets through is ready; the lent
+-- places keep their lengths; the shown list. Assumes nothing.
 use mathlib.Core.Bool.{Bool, true, false, not, cond, _&&_}
 use mathlib.Core.List.{List, [], _∷_}
 use mathlib.Core.Logic.{_⊎_, inl, inr, _≢_}
@@ -27,7 +27,8 @@ use Rattle.refinement.proofs.Turning.{at-none, outline-abs}
 use Rattle.steps.specs.Call.{valid, shown, Did}
 
 -- Ranges of the replicas are bounds for every number.
-bounded : {A : Type 0} (d : A) (xs : List A) (f : A → ℕ) (n : ℕ) → length xs ≡ 8 → f d ≤ n → ((b : ℕ) → T (isReplica b) → f (at d xs b) ≤ n) → (b : ℕ) → f (at d xs b) ≤ n
+bounded : {A : Type 0} (d : A) (xs : List A) (f : A → ℕ) (n : ℕ) → length xs ≡ 8 → f d ≤ n
+    → ((b : ℕ) → T (isReplica b) → f (at d xs b) ≤ n) → (b : ℕ) → f (at d xs b) ≤ n
 bounded d xs f n e z h zero = z
 bounded d xs f n e z h (suc b) = go (le-or-lt (suc b) 8)
   where
@@ -43,7 +44,8 @@ ready row s e =
       short = record { eight = s .len; most = bounded 0 (row .len) (λ x. x) 512 (s .len) (omega arith) (r .logs) };
       issued = r .committed;
       leaders = bounded noView (row .views) (λ v. v .leader) 8 (s .views) (omega arith) (λ b k. r .views b k .leader);
-      reads = λ g. let n = r .reads g in replica (row .controller .view .leader) (omega (arith, n)) (r .controller .leader);
+      reads = λ g. let n = r .reads g in
+          replica (row .controller .view .leader) (omega (arith, n)) (r .controller .leader);
     }
 
 -- The lent places keep their lengths.
@@ -53,7 +55,8 @@ written-full (commits b) row p f = record { store = f .store; list = length-set 
 written-full (receives b) row p f = record { store = length-set (p .store) _ _ ∙ f .store; list = f .list }
 written-full nothing row p f = f
 
-kept-full : (t : Bool) (st : Step) (row : Cluster) (p : Places) {p′ : Places} → p′ ≡ cond t (placesAfter st row p) p → Full p → Full p′
+kept-full : (t : Bool) (st : Step) (row : Cluster) (p : Places) {p′ : Places} → p′ ≡ cond t (placesAfter st row p) p
+    → Full p → Full p′
 kept-full t st row p e f = subst Full (sym e) (by-cond Full t (λ _. written-full (writes st) row p f) (λ _. f))
 
 module _ (st : Step) (row : Cluster) (p : Places) where
@@ -97,7 +100,8 @@ module _ (row : Cluster) (p : Places) where
 
   pub valid-full : valid row p ≡ true → Full p
   valid-full v =
-      let z = split-and (eqb (length (p .store)) 4096 && eqb (length (p .list)) 512) (inRange (outlineOf row)) (of-true v) in
+      let z = split-and (eqb (length (p .store)) 4096 && eqb (length (p .list)) 512) (inRange (outlineOf row))
+      (of-true v) in
       let w = split-and (eqb (length (p .store)) 4096) (eqb (length (p .list)) 512) (z .0) in
       record { store = eqb→eq (length (p .store)) 4096 (w .0); list = eqb→eq (length (p .list)) 512 (w .1) }
 
@@ -105,21 +109,32 @@ module _ (row : Cluster) (p : Places) where
   valid-range v = sym (all-tests (valid-full v)) ∙ v
 
 -- The shown list, with the leader's length found at its seat l.
-shown-log : (row : Cluster) (store : List ℕ) (l : ℕ) → row .registry .view .leader ≤ 8 → (isReplica (row .registry .view .leader) ≡ true → l ≡ row .registry .view .leader)
-    → row .registry .view .leader ≢ 0 → logOf store (row .registry .view .leader) (getD (row .len) (l - 1) 0) ≡ logOf store (row .registry .view .leader) (at 0 (row .len) (row .registry .view .leader))
+shown-log : (row : Cluster) (store : List ℕ) (l : ℕ) → row .registry .view .leader ≤ 8
+    → (isReplica (row .registry .view .leader) ≡ true → l ≡ row .registry .view .leader)
+    → row .registry .view .leader ≢ 0 → logOf store (row .registry .view .leader) (getD (row .len) (l - 1) 0)
+    ≡ logOf store (row .registry .view .leader) (at 0 (row .len) (row .registry .view .leader))
 shown-log row store l small hl n =
     let r = replica (row .registry .view .leader) (omega (arith, n)) small in
-    ap (logOf store (row .registry .view .leader)) (ap (λ x. getD (row .len) (x - 1) 0) (hl r) ∙ sym (at-index 0 (row .len) (row .registry .view .leader) (omega (arith, n))))
+    ap (logOf store (row .registry .view .leader))
+    (ap (λ x. getD (row .len) (x - 1) 0) (hl r)
+    ∙ sym (at-index 0 (row .len) (row .registry .view .leader) (omega (arith, n))))
 
 pub shown-is : (row : Cluster) (p : Places) (l : ℕ) → valid row p ≡ true → row .registry .view .leader ≤ 8
     → (isReplica (row .registry .view .leader) ≡ true → l ≡ row .registry .view .leader)
-    → visibleOf (p .store) (p .list) (row .registry .view .leader) (getD (row .len) (l - 1) 0) (row .issued) ≡ shown row p
+    → visibleOf (p .store) (p .list) (row .registry .view .leader) (getD (row .len) (l - 1) 0) (row .issued)
+    ≡ shown row p
 shown-is row p l v small hl =
-    go (eqb (row .registry .view .leader) 0) (λ t. shown-log row (p .store) l small hl (ne-fact (row .registry .view .leader) 0 t))
-    ∙ ap (λ t. cond t (cond (eqb (row .registry .view .leader) 0) (abs row p .committed) (abs row p .log (row .registry .view .leader))) []) (sym v)
+    go (eqb (row .registry .view .leader) 0)
+    (λ t. shown-log row (p .store) l small hl (ne-fact (row .registry .view .leader) 0 t))
+    ∙ ap (λ t. cond t (cond (eqb (row .registry .view .leader) 0) (abs row p .committed)
+    (abs row p .log (row .registry .view .leader))) []) (sym v)
   where
-    go : (t : Bool) → (T (not t) → logOf (p .store) (row .registry .view .leader) (getD (row .len) (l - 1) 0) ≡ logOf (p .store) (row .registry .view .leader) (at 0 (row .len) (row .registry .view .leader)))
-        → cond t (take (row .issued) (p .list)) (logOf (p .store) (row .registry .view .leader) (getD (row .len) (l - 1) 0)) ≡ cond t (take (row .issued) (p .list)) (logOf (p .store) (row .registry .view .leader) (at 0 (row .len) (row .registry .view .leader)))
+    go : (t : Bool) → (T (not t) → logOf (p .store) (row .registry .view .leader) (getD (row .len) (l - 1) 0)
+        ≡ logOf (p .store) (row .registry .view .leader) (at 0 (row .len) (row .registry .view .leader)))
+        → cond t (take (row .issued) (p .list))
+        (logOf (p .store) (row .registry .view .leader) (getD (row .len) (l - 1) 0))
+        ≡ cond t (take (row .issued) (p .list))
+        (logOf (p .store) (row .registry .view .leader) (at 0 (row .len) (row .registry .view .leader)))
     go true h = refl
     go false h = h tt
 

@@ -48,10 +48,12 @@ goes {s} {st} {h} {h′} k m d =
     let v = fit k m in
     let i = step-keeps entries (k .inv) st in
     record {
-      answered = d .answer ∙ ap (λ t. cond t (answerOf (outlineOf (h .row)) st) 1) v ∙ ap (λ x. answerOf x st) (m .outlined);
+      answered = d .answer ∙ ap (λ t. cond t (answerOf (outlineOf (h .row)) st) 1) v
+          ∙ ap (λ x. answerOf x st) (m .outlined);
       reached = record { history = i .history; inv = i .inv; bounds = step-bounds entries (k .inv) (k .bounds) st };
       holds = record {
-        state = d .state ∙ ap (λ t. cond t (step entries (stateOf h) st) (stateOf h)) v ∙ ap (λ x. step entries x st) (m .state);
+        state = d .state ∙ ap (λ t. cond t (step entries (stateOf h) st) (stateOf h)) v
+            ∙ ap (λ x. step entries x st) (m .state);
         outlined = d .outlined ∙ ap (λ t. cond t (outline (step entries (stateOf h) st)) (outlineOf (h .row))) v
             ∙ ap (λ x. outline (step entries x st)) (m .state);
         full = did-full st (h .row) (h .places) d (m .full);
@@ -64,7 +66,8 @@ pub record Ends (s : RowState) (sts : List Step) (h : Held) (ns : List ℕ) : Ty
   pub reached : Reached (run entries s sts)
   pub holds : Holds (run entries s sts) h
 
-pub follow : {h h′ : Held} {sts : List Step} {ns : List ℕ} → Calls h sts h′ ns → (s : RowState) → Reached s → Holds s h → Ends s sts h′ ns
+pub follow : {h h′ : Held} {sts : List Step} {ns : List ℕ} → Calls h sts h′ ns → (s : RowState) → Reached s → Holds s h
+    → Ends s sts h′ ns
 unfolding run answers
 follow stop s k m = record { answered = refl; reached = k; holds = m }
 follow (call {st = st} d cs) s k m =
@@ -75,13 +78,19 @@ follow (call {st = st} d cs) s k m =
 module _ (o : Opening) (h : Held) (start : Begins o h) where
   pub opening : Holds (opened o) h
   opening = record {
-    state = start .opens .row .state (h .places) ∙ ap (λ t. opened (cond t o (openingWith 1))) (is-true (canOpen o) (start .real));
-    outlined = start .opens .row .outline ∙ ap (λ t. outline {E = Entry} (opened (cond t o (openingWith 1)))) (is-true (canOpen o) (start .real));
+    state = start .opens .row .state (h .places)
+        ∙ ap (λ t. opened (cond t o (openingWith 1))) (is-true (canOpen o) (start .real));
+    outlined = start .opens .row .outline
+        ∙ ap (λ t. outline {E = Entry} (opened (cond t o (openingWith 1)))) (is-true (canOpen o) (start .real));
     full = start .full;
   }
 
   pub open-reached : Reached (opened o)
-  open-reached = record { history = λ _. o .board; inv = opened-inv o (start .real); bounds = opened-bounds o (start .real) }
+  open-reached = record {
+    history = λ _. o .board;
+    inv = opened-inv o (start .real);
+    bounds = opened-bounds o (start .real);
+  }
 
   module _ (sts : List Step) (h′ : Held) (ns : List ℕ) (calls : Calls h sts h′ ns) where
     here : Ends (opened o) sts h′ ns
@@ -90,7 +99,8 @@ module _ (o : Opening) (h : Held) (start : Begins o h) where
     model : Safe entries o sts
     model = safe entries o (start .real) sts
 
-    later : (more : List Step) (h″ : Held) (ms : List ℕ) → Calls h′ more h″ ms → stateOf h″ ≡ after entries o (sts ++ more)
+    later : (more : List Step) (h″ : Held) (ms : List ℕ) → Calls h′ more h″ ms → stateOf h″
+        ≡ after entries o (sts ++ more)
     later more h″ ms cs = follow cs (after entries o sts) (here .reached) (here .holds) .holds .state
         ∙ sym (run-append entries (opened o) sts more)
 
@@ -111,9 +121,11 @@ module _ (o : Opening) (h : Held) (start : Begins o h) where
       kept = kept;
       lasting = λ more h″ ms cs. subst (λ x. x ⊑ stateOf h″ .committed) (sym kept)
           (subst (λ x. receipts entries o sts ⊑ x)
-          (sym (ap (λ s. s .committed) (later more h″ ms cs) ∙ safe entries o (start .real) (sts ++ more) .kept)) (model .lasting more));
+          (sym (ap (λ s. s .committed) (later more h″ ms cs) ∙ safe entries o (start .real) (sts ++ more) .kept))
+          (model .lasting more));
       alone = λ more h″ ms cs x y t p q. model .aloneLater more x y t
-          (subst (λ s. LeadsUnder s x t) (here .holds .state) p) (subst (λ s. LeadsUnder s y t) (later more h″ ms cs) q);
+          (subst (λ s. LeadsUnder s x t) (here .holds .state) p)
+          (subst (λ s. LeadsUnder s y t) (later more h″ ms cs) q);
     }
 
 pub calls-safe : CallsSafe

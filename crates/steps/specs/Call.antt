@@ -1,4 +1,5 @@
--- What a call promises: its answer, the row it returns and every place of what it was lent. Cited by the contracts of steps and hub's claim. Assumes nothing.
+-- What a call promises: its answer, the row it returns and every place of what it was lent. Cited by the contracts of
+-- steps and hub's claim. Assumes nothing.
 use mathlib.Core.Bool.{Bool, true, cond, _&&_}
 use mathlib.Core.List.{List, []}
 use mathlib.Core.Logic.{_≢_}
@@ -15,7 +16,8 @@ use Rattle.cluster.specs.declared.Outcome.{Outcome}
 use Rattle.cluster.specs.Layout.{outlineOf}
 use Rattle.refinement.specs.Memory.{Places, abs, placesAfter}
 
--- Refusal 1, apart from a step's fields: "a store not 4,096 or receipts not 512 long, a row with a number outside the ranges", leaders.
+-- Refusal 1, apart from a step's fields: "a store not 4,096 or receipts not 512 long, a row with a number outside the
+-- ranges", leaders.
 abbrev pub valid : Cluster → Places → Bool
 valid row p = eqb (length (p .store)) 4096 && eqb (length (p .list)) 512 && inRange (outlineOf row)
 
@@ -25,19 +27,22 @@ pub record Did (st : Step) (row : Cluster) (p : Places) (x : Outcome) (p′ : Pl
   pub answer : x .answer ≡ cond (valid row p) (answerOf (outlineOf row) st) 1
   -- The state then is the model's step of the state before.
   pub state : abs (x .row) p′ ≡ cond (valid row p) (step entries (abs row p) st) (abs row p)
-  -- An outline fixes its row (refinement/proofs/Rows.antt, `rows-equal`; the type fixes the lengths of arrays), so this is the whole row.
+  -- An outline fixes its row (refinement/proofs/Rows.antt, `rows-equal`; the type fixes the lengths of arrays), so this
+  -- is the whole row.
   pub outlined : outlineOf (x .row) ≡ cond (valid row p) (outline (step entries (abs row p) st)) (outlineOf row)
   -- Every lent place, accepted and refused.
   pub places : p′ ≡ cond (valid row p && accepted (outlineOf row) st) (placesAfter st row p) p
   -- A refused call returns the row itself.
   pub refused : x .answer ≢ 0 → x .row ≡ row
 
--- "Shown list: the leader's log, or the receipts while no leader is named ... For a row that refusal 1 would turn away it is an empty part."
+-- "Shown list: the leader's log, or the receipts while no leader is named ... For a row that refusal 1 would turn away
+-- it is an empty part."
 abbrev pub shown : Cluster → Places → List Entry
 shown row p = cond (valid row p)
-    (cond (eqb (row .registry .view .leader) 0) (abs row p .committed) (abs row p .log (row .registry .view .leader))) []
+    (cond (eqb (row .registry .view .leader) 0) (abs row p .committed) (abs row p .log (row .registry .view .leader)))
+    []
 
--- Where that part begins, a block and an offset in bytes, if the store and the list begin at `s` and `l`: it is a part of what was lent,
--- "not a copy". The empty part is one of the list.
+-- Where that part begins, a block and an offset in bytes, if the store and the list begin at `s` and `l`: it is a part
+-- of what was lent, "not a copy". The empty part is one of the list.
 abbrev pub shownAt : Cluster → Places → ℕ × ℕ → ℕ × ℕ → ℕ × ℕ
 shownAt row p s l = cond (valid row p) (visibleAt s l (row .registry .view .leader)) l

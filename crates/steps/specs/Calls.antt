@@ -1,6 +1,6 @@
--- Demand 3 about calls: the opening, then any list of calls, by record or by name, each with the row and the lent places as the one
--- before returned or left them. Cited by the promise of `steps::claim`, and by hub's, which adds the calls over a lent controller.
--- Assumes nothing.
+-- Demand 3 about calls: the opening, then any list of calls, by record or by name, each with the row and the lent
+-- places as the one before returned or left them. Cited by the promise of `steps::claim`, and by hub's, which adds the
+-- calls over a lent controller. Assumes nothing.
 use mathlib.Core.Bool.{true}
 use mathlib.Core.List.{List, [], _∷_}
 use mathlib.Core.Logic.{_≢_}
@@ -31,8 +31,8 @@ stateOf h = abs (h .row) (h .places)
 abbrev pub Called : Step → Held → Held → ℕ → Type 0
 Called st h h′ n = Did st (h .row) (h .places) (record { answer = n; row = h′ .row }) (h′ .places)
 
--- Calls one after the other, and their answers. A call by name is one of its step; the call of a record is one of the step that the
--- record stands for, which may be malformed.
+-- Calls one after the other, and their answers. A call by name is one of its step; the call of a record is one of the
+-- step that the record stands for, which may be malformed.
 pub data Calls : Held → List Step → Held → List ℕ → Type 0 where
   stop : {h : Held} → Calls h [] h []
   call : {h h′ h″ : Held} {st : Step} {sts : List Step} {n : ℕ} {ns : List ℕ}
@@ -52,7 +52,8 @@ pub record Follows (o : Opening) (sts : List Step) (h : Held) (ns : List ℕ) : 
   pub outlined : outlineOf (h .row) ≡ outline (after entries o sts)
   -- No row of a run earns refusal 1.
   pub fit : valid (h .row) (h .places) ≡ true
-  -- The receipts given are the first entries of the log of the leader that the registry names; the list holds just them.
+  -- The receipts given are the first entries of the log of the leader that the registry names; the list holds just
+  -- them.
   pub leading : h .row .registry .view .leader ≢ 0
       → receipts entries o sts ⊑ stateOf h .log (h .row .registry .view .leader)
   pub kept : stateOf h .committed ≡ receipts entries o sts
@@ -64,9 +65,12 @@ pub record Follows (o : Opening) (sts : List Step) (h : Held) (ns : List ℕ) : 
       → (x y t : ℕ) → LeadsUnder (stateOf h) x t → LeadsUnder (stateOf h′) y t → x ≡ y
 
 unfoldable pub CallsSafe : Type 0
-CallsSafe = (o : Opening) (h : Held) → Begins o h → (sts : List Step) (h′ : Held) (ns : List ℕ) → Calls h sts h′ ns → Follows o sts h′ ns
+CallsSafe =
+    (o : Opening) (h : Held) → Begins o h → (sts : List Step) (h′ : Held) (ns : List ℕ) → Calls h sts h′ ns
+    → Follows o sts h′ ns
 
--- A call by name is the call of a record, in which the fields that its step does not use are 0: the step of each is its record's.
+-- A call by name is the call of a record, in which the fields that its step does not use are 0: the step of each is its
+-- record's.
 unfoldable pub NamesHold : Type 0
 NamesHold = (a b v : ℕ)
     → stepsOf (ofValue 1 b v ∷ of 2 b ∷ of 3 b ∷ of 4 b ∷ bare 5 ∷ of 6 b ∷ of 7 b ∷ of 8 b ∷ ofBoth 9 a b

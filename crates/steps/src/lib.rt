@@ -1,5 +1,5 @@
-// The public calls: the opening, the fifteen steps, any record, the shown list. None asks anything of its caller: refusal 1 is tested
-// first.
+// The public calls: the opening, the fifteen steps, any record, the shown list. None asks anything of its caller:
+// refusal 1 is tested first.
 
 ghost use mathlib.Core.Path.{_≡_};
 ghost use denote.Ref.{ptr};
@@ -41,7 +41,8 @@ fn refused(row: Cluster) -> Outcome
 // The step of a record, of a row by value. Callers see to refusal 1 of the row and of the lent lengths.
 fn turn(row: Cluster, store: &mut [u32], list: &mut [u32], r: Record) -> Outcome
     requires { ⌜ Ready row × Full (lent (now store) (now list)) ⌝ }
-    ensures { λ x. ⌜ Turns (R.stepOf (recordOf r)) row (lent (now (store .entry)) (now (list .entry))) x (lent (now (store .exit)) (now (list .exit))) ⌝ }
+    ensures { λ x. ⌜ Turns (R.stepOf (recordOf r)) row (lent (now (store .entry)) (now (list .entry))) x
+        (lent (now (store .exit)) (now (list .exit))) ⌝ }
 {
     let g = row.registry;
     let c = row.controller;
@@ -83,7 +84,8 @@ fn turn(row: Cluster, store: &mut [u32], list: &mut [u32], r: Record) -> Outcome
 
 // Any record: refusal 1 first, then its step.
 pub fn step(row: Cluster, store: &mut [u32], list: &mut [u32], r: Record) -> Outcome
-    ensures { λ x. ⌜ Did (R.stepOf (recordOf r)) row (lent (now (store .entry)) (now (list .entry))) x (lent (now (store .exit)) (now (list .exit))) ⌝ }
+    ensures { λ x. ⌜ Did (R.stepOf (recordOf r)) row (lent (now (store .entry)) (now (list .entry))) x
+        (lent (now (store .exit)) (now (list .exit))) ⌝ }
 {
     if !fits(row, &*store, &*list) {
         return refused(row);
@@ -91,7 +93,8 @@ pub fn step(row: Cluster, store: &mut [u32], list: &mut [u32], r: Record) -> Out
     turn(row, &mut *store, &mut *list, r)
 }
 
-// The opening with board b; it is lent nothing. Refused, it returns the row opened with board 1: the papers leave it free.
+// The opening with board b; it is lent nothing. Refused, it returns the row opened with board 1: the papers leave it
+// free.
 pub fn opening(b: u8) -> Outcome
     ensures { λ x. ⌜ Opens (M.openingWith b) x ⌝ }
 {
@@ -102,7 +105,8 @@ pub fn opening(b: u8) -> Outcome
 
 // Step 1, b appends the value.
 pub fn append(row: Cluster, store: &mut [u32], list: &mut [u32], b: u8, value: u32) -> Outcome
-    ensures { λ x. ⌜ Did (T.Step.append b value) row (lent (now (store .entry)) (now (list .entry))) x (lent (now (store .exit)) (now (list .exit))) ⌝ }
+    ensures { λ x. ⌜ Did (T.Step.append b value) row (lent (now (store .entry)) (now (list .entry))) x
+        (lent (now (store .exit)) (now (list .exit))) ⌝ }
 {
     step(
         row,
@@ -120,7 +124,8 @@ pub fn append(row: Cluster, store: &mut [u32], list: &mut [u32], b: u8, value: u
 
 // Step 2, a receipt by b.
 pub fn commit(row: Cluster, store: &mut [u32], list: &mut [u32], b: u8) -> Outcome
-    ensures { λ x. ⌜ Did (T.Step.commit b) row (lent (now (store .entry)) (now (list .entry))) x (lent (now (store .exit)) (now (list .exit))) ⌝ }
+    ensures { λ x. ⌜ Did (T.Step.commit b) row (lent (now (store .entry)) (now (list .entry))) x
+        (lent (now (store .exit)) (now (list .exit))) ⌝ }
 {
     step(
         row,
@@ -138,7 +143,8 @@ pub fn commit(row: Cluster, store: &mut [u32], list: &mut [u32], b: u8) -> Outco
 
 // Step 3, add b.
 pub fn add(row: Cluster, store: &mut [u32], list: &mut [u32], b: u8) -> Outcome
-    ensures { λ x. ⌜ Did (T.Step.add b) row (lent (now (store .entry)) (now (list .entry))) x (lent (now (store .exit)) (now (list .exit))) ⌝ }
+    ensures { λ x. ⌜ Did (T.Step.add b) row (lent (now (store .entry)) (now (list .entry))) x
+        (lent (now (store .exit)) (now (list .exit))) ⌝ }
 {
     step(
         row,
@@ -156,7 +162,8 @@ pub fn add(row: Cluster, store: &mut [u32], list: &mut [u32], b: u8) -> Outcome
 
 // Step 4, remove b.
 pub fn remove(row: Cluster, store: &mut [u32], list: &mut [u32], b: u8) -> Outcome
-    ensures { λ x. ⌜ Did (T.Step.remove b) row (lent (now (store .entry)) (now (list .entry))) x (lent (now (store .exit)) (now (list .exit))) ⌝ }
+    ensures { λ x. ⌜ Did (T.Step.remove b) row (lent (now (store .entry)) (now (list .entry))) x
+        (lent (now (store .exit)) (now (list .exit))) ⌝ }
 {
     step(
         row,
@@ -174,7 +181,8 @@ pub fn remove(row: Cluster, store: &mut [u32], list: &mut [u32], b: u8) -> Outco
 
 // Step 5, change leader.
 pub fn change(row: Cluster, store: &mut [u32], list: &mut [u32]) -> Outcome
-    ensures { λ x. ⌜ Did T.Step.changeLeader row (lent (now (store .entry)) (now (list .entry))) x (lent (now (store .exit)) (now (list .exit))) ⌝ }
+    ensures { λ x. ⌜ Did T.Step.changeLeader row (lent (now (store .entry)) (now (list .entry))) x
+        (lent (now (store .exit)) (now (list .exit))) ⌝ }
 {
     step(
         row,
@@ -192,7 +200,8 @@ pub fn change(row: Cluster, store: &mut [u32], list: &mut [u32]) -> Outcome
 
 // Step 6, b takes news.
 pub fn refresh(row: Cluster, store: &mut [u32], list: &mut [u32], b: u8) -> Outcome
-    ensures { λ x. ⌜ Did (T.Step.refresh b) row (lent (now (store .entry)) (now (list .entry))) x (lent (now (store .exit)) (now (list .exit))) ⌝ }
+    ensures { λ x. ⌜ Did (T.Step.refresh b) row (lent (now (store .entry)) (now (list .entry))) x
+        (lent (now (store .exit)) (now (list .exit))) ⌝ }
 {
     step(
         row,
@@ -210,7 +219,8 @@ pub fn refresh(row: Cluster, store: &mut [u32], list: &mut [u32], b: u8) -> Outc
 
 // Step 7, b joins.
 pub fn join(row: Cluster, store: &mut [u32], list: &mut [u32], b: u8) -> Outcome
-    ensures { λ x. ⌜ Did (T.Step.join b) row (lent (now (store .entry)) (now (list .entry))) x (lent (now (store .exit)) (now (list .exit))) ⌝ }
+    ensures { λ x. ⌜ Did (T.Step.join b) row (lent (now (store .entry)) (now (list .entry))) x
+        (lent (now (store .exit)) (now (list .exit))) ⌝ }
 {
     step(
         row,
@@ -228,7 +238,8 @@ pub fn join(row: Cluster, store: &mut [u32], list: &mut [u32], b: u8) -> Outcome
 
 // Step 8, b receives.
 pub fn receive(row: Cluster, store: &mut [u32], list: &mut [u32], b: u8) -> Outcome
-    ensures { λ x. ⌜ Did (T.Step.receive b) row (lent (now (store .entry)) (now (list .entry))) x (lent (now (store .exit)) (now (list .exit))) ⌝ }
+    ensures { λ x. ⌜ Did (T.Step.receive b) row (lent (now (store .entry)) (now (list .entry))) x
+        (lent (now (store .exit)) (now (list .exit))) ⌝ }
 {
     step(
         row,
@@ -246,7 +257,8 @@ pub fn receive(row: Cluster, store: &mut [u32], list: &mut [u32], b: u8) -> Outc
 
 // Step 9, the leader a counts b.
 pub fn acknowledge(row: Cluster, store: &mut [u32], list: &mut [u32], a: u8, b: u8) -> Outcome
-    ensures { λ x. ⌜ Did (T.Step.acknowledge a b) row (lent (now (store .entry)) (now (list .entry))) x (lent (now (store .exit)) (now (list .exit))) ⌝ }
+    ensures { λ x. ⌜ Did (T.Step.acknowledge a b) row (lent (now (store .entry)) (now (list .entry))) x
+        (lent (now (store .exit)) (now (list .exit))) ⌝ }
 {
     step(
         row,
@@ -264,7 +276,8 @@ pub fn acknowledge(row: Cluster, store: &mut [u32], list: &mut [u32], a: u8, b: 
 
 // Step 10, the controller takes news.
 pub fn refresh_controller(row: Cluster, store: &mut [u32], list: &mut [u32]) -> Outcome
-    ensures { λ x. ⌜ Did T.Step.refreshController row (lent (now (store .entry)) (now (list .entry))) x (lent (now (store .exit)) (now (list .exit))) ⌝ }
+    ensures { λ x. ⌜ Did T.Step.refreshController row (lent (now (store .entry)) (now (list .entry))) x
+        (lent (now (store .exit)) (now (list .exit))) ⌝ }
 {
     step(
         row,
@@ -282,7 +295,8 @@ pub fn refresh_controller(row: Cluster, store: &mut [u32], list: &mut [u32]) -> 
 
 // Step 11, the controller reads its leader.
 pub fn read_leader(row: Cluster, store: &mut [u32], list: &mut [u32]) -> Outcome
-    ensures { λ x. ⌜ Did T.Step.readLeader row (lent (now (store .entry)) (now (list .entry))) x (lent (now (store .exit)) (now (list .exit))) ⌝ }
+    ensures { λ x. ⌜ Did T.Step.readLeader row (lent (now (store .entry)) (now (list .entry))) x
+        (lent (now (store .exit)) (now (list .exit))) ⌝ }
 {
     step(
         row,
@@ -300,7 +314,8 @@ pub fn read_leader(row: Cluster, store: &mut [u32], list: &mut [u32]) -> Outcome
 
 // Step 12, the controller reads b.
 pub fn read(row: Cluster, store: &mut [u32], list: &mut [u32], b: u8) -> Outcome
-    ensures { λ x. ⌜ Did (T.Step.read b) row (lent (now (store .entry)) (now (list .entry))) x (lent (now (store .exit)) (now (list .exit))) ⌝ }
+    ensures { λ x. ⌜ Did (T.Step.read b) row (lent (now (store .entry)) (now (list .entry))) x
+        (lent (now (store .exit)) (now (list .exit))) ⌝ }
 {
     step(
         row,
@@ -318,7 +333,8 @@ pub fn read(row: Cluster, store: &mut [u32], list: &mut [u32], b: u8) -> Outcome
 
 // Step 13, set normal.
 pub fn set_normal(row: Cluster, store: &mut [u32], list: &mut [u32]) -> Outcome
-    ensures { λ x. ⌜ Did T.Step.setNormal row (lent (now (store .entry)) (now (list .entry))) x (lent (now (store .exit)) (now (list .exit))) ⌝ }
+    ensures { λ x. ⌜ Did T.Step.setNormal row (lent (now (store .entry)) (now (list .entry))) x
+        (lent (now (store .exit)) (now (list .exit))) ⌝ }
 {
     step(
         row,
@@ -336,7 +352,8 @@ pub fn set_normal(row: Cluster, store: &mut [u32], list: &mut [u32]) -> Outcome
 
 // Step 14, the controller hears b.
 pub fn hear(row: Cluster, store: &mut [u32], list: &mut [u32], b: u8) -> Outcome
-    ensures { λ x. ⌜ Did (T.Step.hear b) row (lent (now (store .entry)) (now (list .entry))) x (lent (now (store .exit)) (now (list .exit))) ⌝ }
+    ensures { λ x. ⌜ Did (T.Step.hear b) row (lent (now (store .entry)) (now (list .entry))) x
+        (lent (now (store .exit)) (now (list .exit))) ⌝ }
 {
     step(
         row,
@@ -354,7 +371,8 @@ pub fn hear(row: Cluster, store: &mut [u32], list: &mut [u32], b: u8) -> Outcome
 
 // Step 15, install b.
 pub fn install(row: Cluster, store: &mut [u32], list: &mut [u32], b: u8) -> Outcome
-    ensures { λ x. ⌜ Did (T.Step.install b) row (lent (now (store .entry)) (now (list .entry))) x (lent (now (store .exit)) (now (list .exit))) ⌝ }
+    ensures { λ x. ⌜ Did (T.Step.install b) row (lent (now (store .entry)) (now (list .entry))) x
+        (lent (now (store .exit)) (now (list .exit))) ⌝ }
 {
     step(
         row,
@@ -370,11 +388,12 @@ pub fn install(row: Cluster, store: &mut [u32], list: &mut [u32], b: u8) -> Outc
     )
 }
 
-// The shown list: a part of the store or of the list, not a copy (the promise says where it begins); an empty part of the list where
-// refusal 1 turns the row or the lent lengths away.
+// The shown list: a part of the store or of the list, not a copy (the promise says where it begins); an empty part of
+// the list where refusal 1 turns the row or the lent lengths away.
 pub fn visible<'a>(row: Cluster, store: &'a [u32], list: &'a [u32]) -> &'a [u32]
     ensures { λ r. ⌜ (now r ≡ shown row (lent (now (store .entry)) (now (list .entry))))
-        × (ptr r ≡ shownAt row (lent (now (store .entry)) (now (list .entry))) (ptr (store .entry)) (ptr (list .entry))) ⌝ }
+        × (ptr r ≡ shownAt row (lent (now (store .entry)) (now (list .entry))) (ptr (store .entry)) (ptr (list .entry)))
+        ⌝ }
 {
     if !fits(row, store, list) {
         return &list[0..0];
@@ -387,8 +406,8 @@ pub fn visible<'a>(row: Cluster, store: &'a [u32], list: &'a [u32]) -> &'a [u32]
     logstore::visible(store, list, v.leader, n, row.issued)
 }
 
-// Demand 3 about the calls: for every opening and every list of calls, by record or by name, whatever the lent places held before.
-// Nothing to run: the promise is the statement.
+// Demand 3 about the calls: for every opening and every list of calls, by record or by name, whatever the lent places
+// held before. Nothing to run: the promise is the statement.
 pub fn claim()
     ensures { λ r. ⌜ CallsSafe × NamesHold ⌝ }
 {}

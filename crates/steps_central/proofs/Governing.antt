@@ -1,4 +1,5 @@
--- The steps that change the registry and the controller at most: from what such a step makes of them to what it makes of the row. Assumes nothing.
+-- The steps that change the registry and the controller at most: from what such a step makes of them to what it makes
+-- of the row. Assumes nothing.
 use mathlib.Core.Bool.{Bool, true, false, cond}
 use mathlib.Core.List.{List}
 use mathlib.Core.Logic.{_≢_}
@@ -8,6 +9,7 @@ use lib.ListN.{length, getD}
 use Rattle.model.specs.Members.{isReplica}
 use Rattle.model.specs.State.{RowState, outline, entries}
 use Rattle.model.specs.Steps.{Step, nothing, writes, accepted, answerOf, next, step, withRegistry, withController}
+use Rattle.model.proofs.Tests.{same-choice}
 use Rattle.cluster.specs.declared.View.{View}
 use Rattle.cluster.specs.declared.Registry.{Registry}
 use Rattle.cluster.specs.declared.Controller.{Controller}
@@ -35,13 +37,9 @@ takeController s x = withController s (x .controller)
 abbrev pub takeBoth : RowState → RowState → RowState
 takeBoth s x = withController (withRegistry s (x .registry)) (x .controller)
 
--- A choice of two that are the same.
-same-choice : {A : Type 0} (t : Bool) {x y : A} → x ≡ y → y ≡ cond t x y
-same-choice true e = sym e
-same-choice false e = refl
-
 -- So it is for the step as a whole, which may be refused.
-whole : (put : RowState → RowState → RowState) (st : Step) → Only put st → ((s : RowState) → put s s ≡ s) → (s : RowState) → put s (step entries s st) ≡ step entries s st
+whole : (put : RowState → RowState → RowState) (st : Step) → Only put st → ((s : RowState) → put s s ≡ s)
+    → (s : RowState) → put s (step entries s st) ≡ step entries s st
 whole put st o idle s = go (accepted (outline s) st)
   where
     go : (t : Bool) → put s (cond t (next entries s st) s) ≡ cond t (next entries s st) s
@@ -54,8 +52,10 @@ module _ (st : Step) (g : Registry) (c : Controller) (views : List View) (joined
 
   -- It answers and leaves what the model's does.
   governs : (put : RowState → RowState → RowState) → ((s : RowState) → put s s ≡ s) → Only put st → (x : Settled)
-      → ((acked : List ℕ) (issued : ℕ) (p : Places) → Full p → (x .answer ≡ answerOf (outline (abs (row acked issued) p)) st)
-      × (abs (rowOf (x .registry) (x .controller) views joined acked len issued) p ≡ put (abs (row acked issued) p) (step entries (abs (row acked issued) p) st)))
+      → ((acked : List ℕ) (issued : ℕ) (p : Places) → Full p
+      → (x .answer ≡ answerOf (outline (abs (row acked issued) p)) st)
+      × (abs (rowOf (x .registry) (x .controller) views joined acked len issued) p
+      ≡ put (abs (row acked issued) p) (step entries (abs (row acked issued) p) st)))
       → (x .answer ≢ 0 → (x .registry ≡ g) × (x .controller ≡ c))
       → Governs st g c views joined len x
   governs put idle o x f r acked issued p few full =
@@ -66,13 +66,16 @@ module _ (st : Step) (g : Registry) (c : Controller) (views : List View) (joined
         state = h .1 ∙ whole put st o idle (abs (row acked issued) p);
         short = s;
         issued = few;
-        places = same-choice (accepted (outlineOf (row acked issued)) st) (ap (λ w. written w (row acked issued) p) (o .places));
+        places = same-choice (accepted (outlineOf (row acked issued)) st)
+            (ap (λ w. written w (row acked issued) p) (o .places));
         refused = λ z. let q = r z in λ i. rowOf (q .0 i) (q .1 i) views joined acked len issued;
       }
 
   -- A step of the registry alone.
-  pub rules-govern : Only takeRegistry st → (a : Ruled) → Rules st g a → Governs st g c views joined len (record { answer = a .answer; registry = a .registry; controller = c })
-  rules-govern o a h = governs takeRegistry (λ s. refl) o (record { answer = a .answer; registry = a .registry; controller = c })
+  pub rules-govern : Only takeRegistry st → (a : Ruled) → Rules st g a
+      → Governs st g c views joined len (record { answer = a .answer; registry = a .registry; controller = c })
+  rules-govern o a h =
+      governs takeRegistry (λ s. refl) o (record { answer = a .answer; registry = a .registry; controller = c })
       (λ acked issued p _. let s = abs (row acked issued) p in (h .answer s, ap (withRegistry s) (h .after s)))
       (λ z. (h .refused z, refl))
 
@@ -80,19 +83,23 @@ module _ (st : Step) (g : Registry) (c : Controller) (views : List View) (joined
   pub tells-govern : {Known : RowState → Type 0} → Only takeController st → (a : Told) → Tells Known st c a
       → ((acked : List ℕ) (issued : ℕ) (p : Places) → Full p → Known (abs (row acked issued) p))
       → Governs st g c views joined len (record { answer = a .answer; registry = g; controller = a .controller })
-  tells-govern o a h k = governs takeController (λ s. refl) o (record { answer = a .answer; registry = g; controller = a .controller })
-      (λ acked issued p full. let s = abs (row acked issued) p in let e = k acked issued p full in (h .answer s e, ap (withController s) (h .after s e)))
+  tells-govern o a h k =
+      governs takeController (λ s. refl) o (record { answer = a .answer; registry = g; controller = a .controller })
+      (λ acked issued p full. let s = abs (row acked issued) p in let e = k acked issued p full in
+      (h .answer s e, ap (withController s) (h .after s e)))
       (λ z. (refl, h .refused z))
 
   -- A step of both.
   pub settles-govern : Only takeBoth st → (a : Settled) → Settles st g c a → Governs st g c views joined len a
   settles-govern o a h = governs takeBoth (λ s. refl) o a
-      (λ acked issued p _. let s = abs (row acked issued) p in (h .answer s, λ i. withController (withRegistry s (h .registry s i)) (h .controller s i)))
+      (λ acked issued p _. let s = abs (row acked issued) p in
+      (h .answer s, λ i. withController (withRegistry s (h .registry s i)) (h .controller s i)))
       (h .refused)
 
 -- What stands at the seat k of b is, if b is a replica, what b has.
 module _ (len : List ℕ) (s : Short len) (k : ℕ) (low : 1 ≤ k) where
-  pub seated : (g : Registry) (c : Controller) (views : List View) (joined acked : List ℕ) (issued b : ℕ) → (isReplica b ≡ true → k ≡ b)
+  pub seated : (g : Registry) (c : Controller) (views : List View) (joined acked : List ℕ) (issued b : ℕ)
+      → (isReplica b ≡ true → k ≡ b)
       → (p : Places) → Full p → isReplica b ≡ true
       → (abs (rowOf g c views joined acked len issued) p .view b .epoch ≡ getD views (k - 1) noView .epoch)
       × (abs (rowOf g c views joined acked len issued) p .joined b ≡ getD joined (k - 1) 0)

@@ -26,7 +26,9 @@ at-all d v (suc x) = go (le-or-lt (suc x) 8)
   where
     go : (suc x ≤ 8) ⊎ (8 < suc x) → getD (replicate 8 v) x d ≡ cond (isReplica (suc x)) v d
     go (inl h) = rw (replica (suc x) (omega arith) h) (getD-replicate 8 x v d (omega arith))
-    go (inr h) = rw (le-leb 1 (suc x) (omega arith), lt-leb (suc x) 8 h) (List·getD-eq-default (replicate 8 v) d {n = x} (omega arith))
+    go (inr h) =
+        rw (le-leb 1 (suc x) (omega arith), lt-leb (suc x) 8 h)
+        (List·getD-eq-default (replicate 8 v) d {n = x} (omega arith))
 
 zero-at : (n k : ℕ) → _≡_ {A = ℕ} (getD (replicate n 0) k 0) 0
 zero-at zero k = refl
@@ -105,7 +107,10 @@ module _ (b k : ℕ) (e : k ≡ cond (isReplica b) b 1) where
 
   pub opens : (n : ℕ) (row : Cluster) → n ≡ M.openAnswer (M.openingWith b) → OpenedWith (M.openingWith k) row
       → Opens (M.openingWith b) (record { answer = n; row = row })
-  opens n row a o = record { answer = a; row = subst (λ p. OpenedWith p row) (ap M.openingWith e ∙ by-board (isReplica b)) o }
+  opens n row a o = record {
+    answer = a;
+    row = subst (λ p. OpenedWith p row) (ap M.openingWith e ∙ by-board (isReplica b)) o;
+  }
     where
       by-board : (t : Bool) → M.openingWith (cond t b 1) ≡ cond t (M.openingWith b) (M.openingWith 1)
       by-board true = refl

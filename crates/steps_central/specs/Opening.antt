@@ -1,4 +1,5 @@
--- What the opening call answers, and the row it leaves. Cited by the contracts of control, steps and sheet. Assumes nothing.
+-- What the opening call answers, and the row it leaves. Cited by the contracts of control, steps and sheet. Assumes
+-- nothing.
 use mathlib.Core.Bool.{cond}
 use mathlib.Core.Path.{_≡_}
 use Rattle.model.specs.State as M

@@ -19,9 +19,10 @@ use cluster::check;
 use cluster::replica;
 use cluster::seat;
 
-// The opening, and the steps of the registry and the controller: add (3), remove (4), change leader (5), controller news (10),
-// read leader (11), read (12), set normal (13), hear (14), install (15), over the two and the parts of a row that they look at. Each
-// promise is for every row with these parts, logs of at most 512 entries, at most 512 receipts and lent places of their lengths. Inner layer: callers see to it that the lent places have their lengths and that no
+// The opening, and the steps of the registry and the controller: add (3), remove (4), change leader (5), controller
+// news (10), read leader (11), read (12), set normal (13), hear (14), install (15), over the two and the parts of a row
+// that they look at. Each promise is for every row with these parts, logs of at most 512 entries, at most 512 receipts
+// and lent places of their lengths. Inner layer: callers see to it that the lent places have their lengths and that no
 // log is longer than 512. A refused step of a part gives that part back, so no step here tests the answer.
 
 // The row opened with the replica b.
@@ -73,7 +74,8 @@ pub fn opening(b: u8) -> Outcome
 
 // Step 3, the registry adds b.
 pub fn add(g: Registry, c: Controller, b: u8) -> Settled
-    ensures { λ x. ⌜ ((views : List View) (joined len : List ℕ) → Short len → Governs (T.Step.add b) g c views joined len x) ⌝ }
+    ensures { λ x. ⌜ ((views : List View) (joined len : List ℕ) → Short len
+        → Governs (T.Step.add b) g c views joined len x) ⌝ }
 {
     let a = steps_registry::add(g, b);
     let h = a.registry;
@@ -86,7 +88,8 @@ pub fn add(g: Registry, c: Controller, b: u8) -> Settled
 
 // Step 4, the registry removes b.
 pub fn remove(g: Registry, c: Controller, b: u8) -> Settled
-    ensures { λ x. ⌜ ((views : List View) (joined len : List ℕ) → Short len → Governs (T.Step.remove b) g c views joined len x) ⌝ }
+    ensures { λ x. ⌜ ((views : List View) (joined len : List ℕ) → Short len
+        → Governs (T.Step.remove b) g c views joined len x) ⌝ }
 {
     let a = steps_registry::remove(g, b);
     let h = a.registry;
@@ -99,7 +102,8 @@ pub fn remove(g: Registry, c: Controller, b: u8) -> Settled
 
 // Step 5, the registry changes the leader.
 pub fn change(g: Registry, c: Controller) -> Settled
-    ensures { λ x. ⌜ ((views : List View) (joined len : List ℕ) → Short len → Governs (T.Step.changeLeader) g c views joined len x) ⌝ }
+    ensures { λ x. ⌜ ((views : List View) (joined len : List ℕ) → Short len
+        → Governs (T.Step.changeLeader) g c views joined len x) ⌝ }
 {
     let a = steps_registry::change(g);
     let h = a.registry;
@@ -112,7 +116,8 @@ pub fn change(g: Registry, c: Controller) -> Settled
 
 // Step 10, the controller takes news.
 pub fn refresh_controller(g: Registry, c: Controller) -> Settled
-    ensures { λ x. ⌜ ((views : List View) (joined len : List ℕ) → Short len → Governs (T.Step.refreshController) g c views joined len x) ⌝ }
+    ensures { λ x. ⌜ ((views : List View) (joined len : List ℕ) → Short len
+        → Governs (T.Step.refreshController) g c views joined len x) ⌝ }
 {
     let a = steps_controller::refresh_controller(c, g);
     let d = a.controller;
@@ -145,7 +150,8 @@ pub fn read_leader(g: Registry, c: Controller, views: [View; 8], len: &[u16]) ->
 // Step 12, the controller reads b. Inner layer: callers see to the lengths.
 pub fn read(g: Registry, c: Controller, joined: &[u16], len: &[u16], b: u8) -> Settled
     requires { ⌜ (length (now joined) ≡ 8) × Short (now len) ⌝ }
-    ensures { λ x. ⌜ ((views : List View) → Governs (T.Step.read b) g c views (now (joined .entry)) (now (len .entry)) x) ⌝ }
+    ensures { λ x. ⌜ ((views : List View)
+        → Governs (T.Step.read b) g c views (now (joined .entry)) (now (len .entry)) x) ⌝ }
 {
     let k = seat(b);
     let i = (k - 1) as usize;
@@ -162,7 +168,8 @@ pub fn read(g: Registry, c: Controller, joined: &[u16], len: &[u16], b: u8) -> S
 
 // Step 13, the registry goes normal on the controller's word.
 pub fn set_normal(g: Registry, c: Controller) -> Settled
-    ensures { λ x. ⌜ ((views : List View) (joined len : List ℕ) → Short len → Governs (T.Step.setNormal) g c views joined len x) ⌝ }
+    ensures { λ x. ⌜ ((views : List View) (joined len : List ℕ) → Short len
+        → Governs (T.Step.setNormal) g c views joined len x) ⌝ }
 {
     steps_both::set_normal(g, c)
 }
@@ -195,7 +202,8 @@ pub fn hear(
 
 // Step 15, the controller installs b.
 pub fn install(g: Registry, c: Controller, b: u8) -> Settled
-    ensures { λ x. ⌜ ((views : List View) (joined len : List ℕ) → Short len → Governs (T.Step.install b) g c views joined len x) ⌝ }
+    ensures { λ x. ⌜ ((views : List View) (joined len : List ℕ) → Short len
+        → Governs (T.Step.install b) g c views joined len x) ⌝ }
 {
     let a = steps_both::install(g, c, b);
     let installed = a.registry;

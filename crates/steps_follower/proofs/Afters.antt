@@ -34,24 +34,37 @@ upd-cond f b true x = refl
 upd-cond f b false x = sym (upd-idle f b (f b) refl)
 
 -- What is shared is no longer than the log was.
-pub join-short : (store ys : List ℕ) (k n m : ℕ) → length store ≡ 4096 → 1 ≤ k → k ≤ 8 → n ≤ 512 → m ≡ length (shared eqb (logOf store k n) ys) → m ≤ 512
-join-short store ys k n m full low high h e = omega (arith, shared-length (logOf store k n) ys, log-length store full k low high n h)
+pub join-short : (store ys : List ℕ) (k n m : ℕ) → length store ≡ 4096 → 1 ≤ k → k ≤ 8 → n ≤ 512 → m
+    ≡ length (shared eqb (logOf store k n) ys) → m ≤ 512
+join-short store ys k n m full low high h e =
+    omega (arith, shared-length (logOf store k n) ys, log-length store full k low high n h)
 
 -- The entry that step 8 writes is the one after its own log in its leader's.
-pub receive-place : (row : Cluster) (b k : ℕ) (hk : isReplica b ≡ true → k ≡ b) (v : View) (ev : v ≡ getD (row .views) (k - 1) noView) (l : ℕ) → (isReplica (v .leader) ≡ true → l ≡ v .leader)
+pub receive-place : (row : Cluster) (b k : ℕ) (hk : isReplica b ≡ true → k ≡ b) (v : View)
+    (ev : v ≡ getD (row .views) (k - 1) noView) (l : ℕ) → (isReplica (v .leader) ≡ true → l ≡ v .leader)
     → ((x : ℕ) → at noView (row .views) x .leader ≤ 8) → (store : List ℕ) → accepted (outlineOf row) (receive b) ≡ true
-    → set store (place k (getD (row .len) (k - 1) 0)) (getD store (place l (getD (row .len) (k - 1) 0)) 0) ≡ set store (place b (at 0 (row .len) b)) (getD store (place (at noView (row .views) b .leader) (at 0 (row .len) b)) 0)
+    → set store (place k (getD (row .len) (k - 1) 0)) (getD store (place l (getD (row .len) (k - 1) 0)) 0)
+    ≡ set store (place b (at 0 (row .len) b))
+    (getD store (place (at noView (row .views) b .leader) (at 0 (row .len) b)) 0)
 receive-place row b k hk v ev l hl small store t =
     let h = facts (checks (outlineOf row) (receive b)) (of-true t) in
-    rw (at-seat 0 (row .len) b k hk (h 1), leader-seat row b k hk v ev l hl small (h 1) (h 9) .1, hk (is-true (isReplica b) (h 1)))
+    rw (
+      at-seat 0 (row .len) b k hk (h 1),
+      leader-seat row b k hk v ev l hl small (h 1) (h 9) .1,
+      hk (is-true (isReplica b) (h 1)),
+    )
 
 module _ (row : Cluster) (short : Short (row .len)) (p : Places) (full : Full p) where
   open Places p using (store, list)
 
   -- Step 6.
-  pub refresh-after : (b k j n : ℕ) (v : View) (acked : List ℕ) → (isReplica b ≡ true → k ≡ b) → v ≡ getD (row .views) (k - 1) noView → n ≡ getD (row .len) (k - 1) 0 → length (row .views) ≡ 8 → length (row .joined) ≡ 8
-      → j ≡ cond (not (eqb (v .term) (row .registry .view .term)) && eqb (row .registry .view .leader) k) (row .registry .view .term) (getD (row .joined) (k - 1) 0)
-      → atPair acked ≡ cond (not (eqb (v .term) (row .registry .view .term))) (upd (atPair (row .acked)) k (upd M.zeros k n)) (atPair (row .acked))
+  pub refresh-after : (b k j n : ℕ) (v : View) (acked : List ℕ) → (isReplica b ≡ true → k ≡ b) → v
+      ≡ getD (row .views) (k - 1) noView → n ≡ getD (row .len) (k - 1) 0 → length (row .views) ≡ 8
+      → length (row .joined) ≡ 8
+      → j ≡ cond (not (eqb (v .term) (row .registry .view .term)) && eqb (row .registry .view .leader) k)
+      (row .registry .view .term) (getD (row .joined) (k - 1) 0)
+      → atPair acked ≡ cond (not (eqb (v .term) (row .registry .view .term)))
+      (upd (atPair (row .acked)) k (upd M.zeros k n)) (atPair (row .acked))
       → accepted (outlineOf row) (refresh b) ≡ true
       → abs (record {
         registry = row .registry;
@@ -67,15 +80,21 @@ module _ (row : Cluster) (short : Short (row .len)) (p : Places) (full : Full p)
       let h = facts (checks (outlineOf row) (refresh b)) (of-true t) in
       let r = replica-range b (h 1) in
       let q : k ≡ b = hk (is-true (isReplica b) (h 1)) in
-      let vb : getD (row .views) (b - 1) noView ≡ at noView (row .views) b = sym (at-index noView (row .views) b (r .0)) in
-      let views : (λ x. viewOf (at noView (set (row .views) (k - 1) (row .registry .view)) x)) ≡ upd (λ x. viewOf (at noView (row .views) x)) b (viewOf (row .registry .view)) =
-      rw q (fun-ext (λ x. ap (λ f. viewOf (f x)) (at-set noView (row .views) b (row .registry .view) (r .0) (r .1) lv) ∙ cond-ap viewOf (eqb x b) (row .registry .view) (at noView (row .views) x))) in
+      let vb : getD (row .views) (b - 1) noView ≡ at noView (row .views) b =
+      sym (at-index noView (row .views) b (r .0)) in
+      let views : (λ x. viewOf (at noView (set (row .views) (k - 1) (row .registry .view)) x))
+      ≡ upd (λ x. viewOf (at noView (row .views) x)) b (viewOf (row .registry .view)) =
+      rw q (fun-ext (λ x. ap (λ f. viewOf (f x)) (at-set noView (row .views) b (row .registry .view) (r .0) (r .1) lv)
+      ∙ cond-ap viewOf (eqb x b) (row .registry .view) (at noView (row .views) x))) in
       let nj : getD (row .joined) (b - 1) 0 ≡ at 0 (row .joined) b = sym (at-index 0 (row .joined) b (r .0)) in
-      let nb : getD (row .len) (b - 1) 0 ≡ length (logOf store b (at 0 (row .len) b)) = sym (log-len store (full .store) (row .len) short b ∙ at-index 0 (row .len) b (r .0)) in
+      let nb : getD (row .len) (b - 1) 0 ≡ length (logOf store b (at 0 (row .len) b)) =
+      sym (log-len store (full .store) (row .len) short b ∙ at-index 0 (row .len) b (r .0)) in
       let joined : at 0 (set (row .joined) (k - 1) j) ≡ next entries (abs row p) (refresh b) .joined =
       rw (ej, ev, q, vb, nj) (at-set 0 (row .joined) b _ (r .0) (r .1) lj) in
       let counts : atPair acked ≡ next entries (abs row p) (refresh b) .acked =
-      ea ∙ rw (ev, en, q, vb, nb) (upd-cond (atPair (row .acked)) b (not (eqb (at noView (row .views) b .term) (row .registry .view .term))) (upd M.zeros b (length (logOf store b (at 0 (row .len) b))))) in
+      ea ∙ rw (ev, en, q, vb, nb) (upd-cond (atPair (row .acked)) b
+      (not (eqb (at noView (row .views) b .term) (row .registry .view .term)))
+      (upd M.zeros b (length (logOf store b (at 0 (row .len) b))))) in
       λ i. record {
         registry = abs row p .registry;
         controller = abs row p .controller;
@@ -87,7 +106,8 @@ module _ (row : Cluster) (short : Short (row .len)) (p : Places) (full : Full p)
       }
 
   -- Step 7.
-  pub join-after : (b k l n : ℕ) (v : View) → (isReplica b ≡ true → k ≡ b) → length (row .joined) ≡ 8 → v ≡ getD (row .views) (k - 1) noView
+  pub join-after : (b k l n : ℕ) (v : View) → (isReplica b ≡ true → k ≡ b) → length (row .joined) ≡ 8 → v
+      ≡ getD (row .views) (k - 1) noView
       → (isReplica (v .leader) ≡ true → l ≡ v .leader) → ((x : ℕ) → at noView (row .views) x .leader ≤ 8)
       → n ≡ length (shared eqb (logOf store k (getD (row .len) (k - 1) 0)) (logOf store l (getD (row .len) (l - 1) 0)))
       → accepted (outlineOf row) (join b) ≡ true
@@ -106,17 +126,22 @@ module _ (row : Cluster) (short : Short (row .len)) (p : Places) (full : Full p)
       let r = replica-range b (h 1) in
       let q : k ≡ b = hk (is-true (isReplica b) (h 1)) in
       let ld = leader-seat row b k hk v ev l hl small (h 1) (h 9) in
-      let vb : getD (row .views) (b - 1) noView ≡ at noView (row .views) b = sym (at-index noView (row .views) b (r .0)) in
+      let vb : getD (row .views) (b - 1) noView ≡ at noView (row .views) b =
+      sym (at-index noView (row .views) b (r .0)) in
       let nb : getD (row .len) (b - 1) 0 ≡ at 0 (row .len) b = sym (at-index 0 (row .len) b (r .0)) in
       let ll : at noView (row .views) b .leader ≡ l = sym (ld .1) in
       let nl : getD (row .len) (l - 1) 0 ≡ at 0 (row .len) l = sym (at-index 0 (row .len) l (ld .0)) in
       let m = at 0 (row .len) b in
       let other = logOf store (at noView (row .views) b .leader) (at 0 (row .len) (at noView (row .views) b .leader)) in
       let en′ : n ≡ length (shared eqb (logOf store b m) other) = en ∙ rw (q, nb, nl, ll) in
-      let joined : at 0 (set (row .joined) (k - 1) (v .term)) ≡ upd (at 0 (row .joined)) b (at noView (row .views) b .term) =
+      let joined : at 0 (set (row .joined) (k - 1) (v .term))
+      ≡ upd (at 0 (row .joined)) b (at noView (row .views) b .term) =
       rw (ev, q, vb) (at-set 0 (row .joined) b (at noView (row .views) b .term) (r .0) (r .1) lj) in
-      let logs : (λ x. logOf store x (at 0 (set (row .len) (k - 1) n) x)) ≡ upd (λ x. logOf store x (at 0 (row .len) x)) b (shared eqb (logOf store b m) other) =
-      rw q (logs-set (row .len) short b n (r .0) (r .1) store store (λ _ _ _. refl)) ∙ ap (upd (λ x. logOf store x (at 0 (row .len) x)) b) (ap (logOf store b) en′ ∙ log-joins store (full .store) b (r .0) (r .1) m other (short .most b)) in
+      let logs : (λ x. logOf store x (at 0 (set (row .len) (k - 1) n) x))
+      ≡ upd (λ x. logOf store x (at 0 (row .len) x)) b (shared eqb (logOf store b m) other) =
+      rw q (logs-set (row .len) short b n (r .0) (r .1) store store (λ _ _ _. refl))
+      ∙ ap (upd (λ x. logOf store x (at 0 (row .len) x)) b)
+      (ap (logOf store b) en′ ∙ log-joins store (full .store) b (r .0) (r .1) m other (short .most b)) in
       λ j. record {
         registry = abs row p .registry;
         controller = abs row p .controller;
@@ -130,7 +155,8 @@ module _ (row : Cluster) (short : Short (row .len)) (p : Places) (full : Full p)
   -- Step 8.
   pub receive-after : (b k l : ℕ) (v : View) → (isReplica b ≡ true → k ≡ b) → v ≡ getD (row .views) (k - 1) noView
       → (isReplica (v .leader) ≡ true → l ≡ v .leader) → ((x : ℕ) → at noView (row .views) x .leader ≤ 8)
-      → (store′ : List ℕ) → store′ ≡ set store (place k (getD (row .len) (k - 1) 0)) (getD store (place l (getD (row .len) (k - 1) 0)) 0)
+      → (store′ : List ℕ) → store′ ≡ set store (place k (getD (row .len) (k - 1) 0))
+      (getD store (place l (getD (row .len) (k - 1) 0)) 0)
       → accepted (outlineOf row) (receive b) ≡ true
       → abs (record {
         registry = row .registry;
@@ -151,9 +177,14 @@ module _ (row : Cluster) (short : Short (row .len)) (p : Places) (full : Full p)
       let nb : getD (row .len) (b - 1) 0 ≡ n = sym (at-index 0 (row .len) b (r .0)) in
       let lt = ltb→lt n (at 0 (row .len) o) (h 12) in
       let e : getD store (place o n) 0 ≡ getD (logOf store o (at 0 (row .len) o)) (length (logOf store b n)) 0 =
-      sym (log-entry store o (at 0 (row .len) o) n lt) ∙ ap (λ x. getD (logOf store o (at 0 (row .len) o)) x 0) (sym (log-len store (full .store) (row .len) short b)) in
-      let logs : (λ x. logOf store′ x (at 0 (set (row .len) (k - 1) (getD (row .len) (k - 1) 0 + 1)) x)) ≡ upd (λ x. logOf store x (at 0 (row .len) x)) b (logOf store b n ++ (getD (logOf store o (at 0 (row .len) o)) (length (logOf store b n)) 0 ∷ [])) =
-      rw (es ∙ receive-place row b k hk v ev l hl small store t, q, nb) (logs-grow (row .len) short store (full .store) b _ (r .0) (r .1) (omega (arith, lt, short .most o))) ∙ ap (λ x. upd (λ x. logOf store x (at 0 (row .len) x)) b (logOf store b n ++ (x ∷ []))) e in
+      sym (log-entry store o (at 0 (row .len) o) n lt)
+      ∙ ap (λ x. getD (logOf store o (at 0 (row .len) o)) x 0) (sym (log-len store (full .store) (row .len) short b)) in
+      let logs : (λ x. logOf store′ x (at 0 (set (row .len) (k - 1) (getD (row .len) (k - 1) 0 + 1)) x))
+      ≡ upd (λ x. logOf store x (at 0 (row .len) x)) b
+      (logOf store b n ++ (getD (logOf store o (at 0 (row .len) o)) (length (logOf store b n)) 0 ∷ [])) =
+      rw (es ∙ receive-place row b k hk v ev l hl small store t, q, nb)
+      (logs-grow (row .len) short store (full .store) b _ (r .0) (r .1) (omega (arith, lt, short .most o)))
+      ∙ ap (λ x. upd (λ x. logOf store x (at 0 (row .len) x)) b (logOf store b n ++ (x ∷ []))) e in
       λ j. record {
         registry = abs row p .registry;
         controller = abs row p .controller;

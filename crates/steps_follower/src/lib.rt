@@ -21,10 +21,10 @@ use cluster::seat;
 use refinement::lookup;
 use refinement::view;
 
-// The steps by which a replica follows: refresh (6), join (7), receive (8), over the parts of a row that they use: the replicas' views
-// by value; their joined epochs, counts and lengths and the store lent. Each promise is for every row with these parts, at
-// most 512 receipts and lent places of their lengths. Inner layer: callers see to it that the lent places have their lengths, that no log is longer than 512, and that the leaders in the views
-// are replicas or none.
+// The steps by which a replica follows: refresh (6), join (7), receive (8), over the parts of a row that they use: the
+// replicas' views by value; their joined epochs, counts and lengths and the store lent. Each promise is for every row
+// with these parts, at most 512 receipts and lent places of their lengths. Inner layer: callers see to it that the lent
+// places have their lengths, that no log is longer than 512, and that the leaders in the views are replicas or none.
 
 // What step 6 answers, and the view it leaves at a place among the views.
 pub struct Taken {
@@ -66,7 +66,9 @@ fn joins(t: u16, w: View, b: u8, j: u16) -> u16
 // Step 6: the counts after news w for b, whose leader epoch was t and whose log has n entries.
 fn counts(t: u16, w: View, b: u8, acked: &mut [u16], n: u16)
     requires { ⌜ (1 ≤ b) × (b ≤ 8) × (length (now acked) ≡ 64) ⌝ }
-    ensures { λ x. ⌜ atPair (now (acked .exit)) ≡ cond (not (eqb t (w .term))) (upd (atPair (now (acked .entry))) b (upd M.zeros b n)) (atPair (now (acked .entry))) ⌝ }
+    ensures { λ x. ⌜ atPair (now (acked .exit))
+        ≡ cond (not (eqb t (w .term))) (upd (atPair (now (acked .entry))) b (upd M.zeros b n)) (atPair (now (acked .entry)))
+        ⌝ }
 {
     if t == w.term {
         return;
@@ -95,8 +97,10 @@ pub fn refresh(
     ensures { λ x. ⌜ (x .place < 8) × (
         (s : Status) (c : Controller) (issued : ℕ) (p : Places) → issued ≤ 512 → Full p
         → Leaves (T.Step.refresh b)
-        (rowOf (record { view = w; status = s }) c views (now (joined .entry)) (now (acked .entry)) (now (len .entry)) issued) p
-        (x .answer) (rowOf (record { view = w; status = s }) c (set views (x .place) (x .view)) (now (joined .exit)) (now (acked .exit)) (now (len .entry)) issued) p
+        (rowOf (record { view = w; status = s }) c views (now (joined .entry)) (now (acked .entry)) (now (len .entry))
+        issued) p
+        (x .answer) (rowOf (record { view = w; status = s }) c (set views (x .place) (x .view)) (now (joined .exit))
+        (now (acked .exit)) (now (len .entry)) issued) p
         ) ⌝ }
 {
     let k = seat(b);
@@ -178,7 +182,8 @@ fn both_have(m: u8, o: u8, b: u8) -> bool
     members::has(m, b) & members::has(o, b)
 }
 
-// Step 8: what b, whose seat is k, is answered: its view v, its leader's view w, its joined epoch j, the lengths n and o of their logs.
+// Step 8: what b, whose seat is k, is answered: its view v, its leader's view w, its joined epoch j, the lengths n and
+// o of their logs.
 fn may_receive(v: View, w: View, j: u16, n: u16, o: u16, k: u8, b: u8) -> u8
     requires { ⌜ (1 ≤ k) × (k ≤ 8) ⌝ }
     ensures { λ x. ⌜ x ≡ firstFailed (receiveChecks v w j n o k b) ⌝ }

@@ -22,7 +22,8 @@ use Rattle.refinement.specs.Memory.{Places, lent, Full, abs, Short}
 use Rattle.refinement.proofs.Turning.{log-len, logs-grow, pair-set}
 
 -- The place that step 1 writes.
-pub append-place : (row : Cluster) (b value k : ℕ) → (isReplica b ≡ true → k ≡ b) → accepted (outlineOf row) (append b value) ≡ true
+pub append-place : (row : Cluster) (b value k : ℕ) → (isReplica b ≡ true → k ≡ b)
+    → accepted (outlineOf row) (append b value) ≡ true
     → place k (getD (row .len) (k - 1) 0) ≡ place b (at 0 (row .len) b)
 append-place row b value k hk t =
     let h = facts (checks (outlineOf row) (append b value)) (of-true t) in
@@ -30,7 +31,8 @@ append-place row b value k hk t =
 
 -- The entry that step 2 writes.
 pub commit-entry : (row : Cluster) (b k : ℕ) → (isReplica b ≡ true → k ≡ b) → (store : List ℕ)
-    → accepted (outlineOf row) (commit b) ≡ true → getD store (place k (row .issued)) 0 ≡ getD store (place b (row .issued)) 0
+    → accepted (outlineOf row) (commit b) ≡ true → getD store (place k (row .issued)) 0
+    ≡ getD store (place b (row .issued)) 0
 commit-entry row b k hk store t =
     let h = facts (checks (outlineOf row) (commit b)) (of-true t) in
     ap (λ x. getD store (place x (row .issued)) 0) (hk (is-true (isReplica b) (h 1)))
@@ -39,7 +41,8 @@ module _ (row : Cluster) (short : Short (row .len)) (p : Places) (full : Full p)
   open Places p using (store, list)
 
   -- Step 1.
-  pub append-after : (b value k : ℕ) → (isReplica b ≡ true → k ≡ b) → length (row .acked) ≡ 64 → (store′ : List ℕ) → store′ ≡ set store (place k (getD (row .len) (k - 1) 0)) value
+  pub append-after : (b value k : ℕ) → (isReplica b ≡ true → k ≡ b) → length (row .acked) ≡ 64 → (store′ : List ℕ)
+      → store′ ≡ set store (place k (getD (row .len) (k - 1) 0)) value
       → accepted (outlineOf row) (append b value) ≡ true
       → abs (record {
         registry = row .registry;
@@ -59,9 +62,11 @@ module _ (row : Cluster) (short : Short (row .len)) (p : Places) (full : Full p)
       let ni : getD (row .len) (b - 1) 0 ≡ n = sym (at-index 0 (row .len) b (r .0)) in
       let ln : n + 1 ≡ suc (length (logOf store b n)) = omega (arith, log-len store (full .store) (row .len) short b) in
       let nine : 9 * (b - 1) ≡ 8 * (b - 1) + (b - 1) = omega arith in
-      let ack : atPair (set (row .acked) (9 * (k - 1)) (getD (row .len) (k - 1) 0 + 1)) ≡ upd (atPair (row .acked)) b (upd (atPair (row .acked) b) b (suc (length (logOf store b n)))) =
+      let ack : atPair (set (row .acked) (9 * (k - 1)) (getD (row .len) (k - 1) 0 + 1))
+      ≡ upd (atPair (row .acked)) b (upd (atPair (row .acked) b) b (suc (length (logOf store b n)))) =
       rw (q, ni, nine, ln) (pair-set (row .acked) b b _ (h 1) (h 1) e) in
-      let logs : (λ x. logOf store′ x (at 0 (set (row .len) (k - 1) (getD (row .len) (k - 1) 0 + 1)) x)) ≡ upd (λ x. logOf store x (at 0 (row .len) x)) b (logOf store b n ++ (value ∷ [])) =
+      let logs : (λ x. logOf store′ x (at 0 (set (row .len) (k - 1) (getD (row .len) (k - 1) 0 + 1)) x))
+      ≡ upd (λ x. logOf store x (at 0 (row .len) x)) b (logOf store b n ++ (value ∷ [])) =
       rw (es, q, ni) (logs-grow (row .len) short store (full .store) b value (r .0) (r .1) (ltb→lt n 512 (h 13))) in
       λ j. record {
         registry = abs row p .registry;
@@ -74,17 +79,30 @@ module _ (row : Cluster) (short : Short (row .len)) (p : Places) (full : Full p)
       }
 
   -- Step 2.
-  pub commit-after : (b : ℕ) (list′ : List ℕ) → list′ ≡ set list (row .issued) (getD store (place b (row .issued)) 0) → row .issued < 512
+  pub commit-after : (b : ℕ) (list′ : List ℕ) → list′ ≡ set list (row .issued) (getD store (place b (row .issued)) 0)
+      → row .issued < 512
       → accepted (outlineOf row) (commit b) ≡ true
-      → abs (record { registry = row .registry; controller = row .controller; views = row .views; joined = row .joined; acked = row .acked; len = row .len; issued = row .issued + 1 }) (lent store list′)
+      → abs (record {
+        registry = row .registry;
+        controller = row .controller;
+        views = row .views;
+        joined = row .joined;
+        acked = row .acked;
+        len = row .len;
+        issued = row .issued + 1;
+      }) (lent store list′)
       ≡ next entries (abs row p) (commit b)
   commit-after b list′ el room t =
       let h = facts (checks (outlineOf row) (commit b)) (of-true t) in
       let e : getD store (place b (row .issued)) 0 ≡ getD (logOf store b (at 0 (row .len) b)) (row .issued) 0 =
       sym (log-entry store b (at 0 (row .len) b) (row .issued) (ltb→lt (row .issued) (at 0 (row .len) b) (h 12))) in
-      let c : length (take (row .issued) list) ≡ row .issued = length-take-le (row .issued) list (omega (arith, full .list)) in
-      let q : take (row .issued + 1) list′ ≡ take (row .issued) list ++ (getD (logOf store b (at 0 (row .len) b)) (length (take (row .issued) list)) 0 ∷ []) =
-      ap (take (row .issued + 1)) el ∙ list-gains list (row .issued) _ (omega (arith, full .list)) ∙ ap (λ x. take (row .issued) list ++ (x ∷ [])) (e ∙ ap (λ n. getD (logOf store b (at 0 (row .len) b)) n 0) (sym c)) in
+      let c : length (take (row .issued) list) ≡ row .issued =
+      length-take-le (row .issued) list (omega (arith, full .list)) in
+      let q : take (row .issued + 1) list′ ≡ take (row .issued) list
+      ++ (getD (logOf store b (at 0 (row .len) b)) (length (take (row .issued) list)) 0 ∷ []) =
+      ap (take (row .issued + 1)) el ∙ list-gains list (row .issued) _ (omega (arith, full .list))
+      ∙ ap (λ x. take (row .issued) list ++ (x ∷ []))
+      (e ∙ ap (λ n. getD (logOf store b (at 0 (row .len) b)) n 0) (sym c)) in
       λ j. record {
         registry = abs row p .registry;
         controller = abs row p .controller;
@@ -96,7 +114,8 @@ module _ (row : Cluster) (short : Short (row .len)) (p : Places) (full : Full p)
       }
 
   -- Step 9.
-  pub acknowledge-after : (a b i k j n : ℕ) → (isReplica a ≡ true → i ≡ a) → (isReplica b ≡ true → k ≡ b) → j ≡ 8 * (i - 1) + (k - 1) → n ≡ getD (row .len) (k - 1) 0 → length (row .acked) ≡ 64
+  pub acknowledge-after : (a b i k j n : ℕ) → (isReplica a ≡ true → i ≡ a) → (isReplica b ≡ true → k ≡ b) → j
+      ≡ 8 * (i - 1) + (k - 1) → n ≡ getD (row .len) (k - 1) 0 → length (row .acked) ≡ 64
       → accepted (outlineOf row) (acknowledge a b) ≡ true
       → abs (record {
         registry = row .registry;
@@ -112,9 +131,12 @@ module _ (row : Cluster) (short : Short (row .len)) (p : Places) (full : Full p)
       let h = facts (checks (outlineOf row) (acknowledge a b)) (of-true t) in
       let z = split-and (isReplica a && isReplica b) (not (eqb a b)) (h 1) in
       let w = split-and (isReplica a) (isReplica b) (z .0) in
-      let l : getD (row .len) (b - 1) 0 ≡ length (logOf store b (at 0 (row .len) b)) = sym (log-len store (full .store) (row .len) short b ∙ at-index 0 (row .len) b (replica-range b (w .1) .0)) in
-      let q : atPair (set (row .acked) j n) ≡ upd (atPair (row .acked)) a (upd (atPair (row .acked) a) b (length (logOf store b (at 0 (row .len) b)))) =
-      rw (ep, en, ha (is-true (isReplica a) (w .0)), hb (is-true (isReplica b) (w .1)), l) (pair-set (row .acked) a b _ (w .0) (w .1) e) in
+      let l : getD (row .len) (b - 1) 0 ≡ length (logOf store b (at 0 (row .len) b)) =
+      sym (log-len store (full .store) (row .len) short b ∙ at-index 0 (row .len) b (replica-range b (w .1) .0)) in
+      let q : atPair (set (row .acked) j n)
+      ≡ upd (atPair (row .acked)) a (upd (atPair (row .acked) a) b (length (logOf store b (at 0 (row .len) b)))) =
+      rw (ep, en, ha (is-true (isReplica a) (w .0)), hb (is-true (isReplica b) (w .1)), l)
+      (pair-set (row .acked) a b _ (w .0) (w .1) e) in
       λ i. record {
         registry = abs row p .registry;
         controller = abs row p .controller;

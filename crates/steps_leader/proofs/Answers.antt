@@ -22,28 +22,42 @@ pub append-room : (v : View) (n b : ℕ) {x : ℕ} → x ≡ firstFailed (append
 append-room v n b e z = ltb→lt n 512 (zero-holds (appendChecks v n b) tt (sym e ∙ z) 13)
 
 -- Step 2 finds an entry.
-pub commit-room : (v : View) (n issued q b : ℕ) {x : ℕ} → x ≡ firstFailed (commitChecks v n issued q b) → x ≡ 0 → issued < n
+pub commit-room : (v : View) (n issued q b : ℕ) {x : ℕ} → x ≡ firstFailed (commitChecks v n issued q b) → x ≡ 0
+    → issued < n
 commit-room v n issued q b e z = ltb→lt issued n (zero-holds (commitChecks v n issued q b) tt (sym e ∙ z) 12)
 
 module _ (row : Cluster) where
   -- The replica b, found at the place k - 1 if it is one.
   module _ (b k : ℕ) (hk : isReplica b ≡ true → k ≡ b) where
     -- Step 1.
-    pub append-answer : (value : ℕ) {v : View} → v ≡ getD (row .views) (k - 1) noView → firstFailed (appendChecks v (getD (row .len) (k - 1) 0) b) ≡ answerOf (outlineOf row) (append b value)
+    pub append-answer : (value : ℕ) {v : View} → v ≡ getD (row .views) (k - 1) noView
+        → firstFailed (appendChecks v (getD (row .len) (k - 1) 0) b) ≡ answerOf (outlineOf row) (append b value)
     append-answer value ev = rw ev (guarded (isReplica b) _ _ 1 (λ t.
         let r = of-true t in rw (at-seat noView (row .views) b k hk r, at-seat 0 (row .len) b k hk r)))
 
     -- Step 2.
-    pub commit-answer : (q : ℕ) {v : View} {n : ℕ} → v ≡ getD (row .views) (k - 1) noView → n ≡ getD (row .len) (k - 1) 0 → bits q ≡ under 9 (countedAbove (atPair (row .acked) k) (row .issued))
+    pub commit-answer : (q : ℕ) {v : View} {n : ℕ} → v ≡ getD (row .views) (k - 1) noView → n
+        ≡ getD (row .len) (k - 1) 0 → bits q ≡ under 9 (countedAbove (atPair (row .acked) k) (row .issued))
         → firstFailed (commitChecks v n (row .issued) q b) ≡ answerOf (outlineOf row) (commit b)
-    commit-answer q ev en e = rw (ev, en, e, under-quorum (countedAbove (atPair (row .acked) k) (row .issued)) (bits (getD (row .views) (k - 1) noView .members))) (guarded (isReplica b) _ _ 1 (λ t.
+    commit-answer q ev en e =
+        rw (
+          ev,
+          en,
+          e,
+          under-quorum (countedAbove (atPair (row .acked) k) (row .issued))
+              (bits (getD (row .views) (k - 1) noView .members)),
+        ) (guarded (isReplica b) _ _ 1 (λ t.
         let r = of-true t in rw (at-seat noView (row .views) b k hk r, at-seat 0 (row .len) b k hk r, hk t)))
 
   -- Step 9.
-  pub acknowledge-answer : (a b i k : ℕ) → (isReplica a ≡ true → i ≡ a) → (isReplica b ≡ true → k ≡ b) → {v w : View} {t p n : ℕ}
-      → v ≡ getD (row .views) (i - 1) noView → w ≡ getD (row .views) (k - 1) noView → t ≡ getD (row .joined) (k - 1) 0 → p ≡ 8 * (i - 1) + (k - 1) → n ≡ getD (row .len) (k - 1) 0
-      → firstFailed (acknowledgeChecks v w t (getD (row .acked) p 0) n k a b) ≡ answerOf (outlineOf row) (acknowledge a b)
-  acknowledge-answer a b i k ha hb ev ew et ep en = rw (ev, ew, et, ep, en) (guarded (isReplica a && isReplica b && not (eqb a b)) _ _ 1 (λ t.
+  pub acknowledge-answer : (a b i k : ℕ) → (isReplica a ≡ true → i ≡ a) → (isReplica b ≡ true → k ≡ b)
+      → {v w : View} {t p n : ℕ}
+      → v ≡ getD (row .views) (i - 1) noView → w ≡ getD (row .views) (k - 1) noView → t ≡ getD (row .joined) (k - 1) 0
+      → p ≡ 8 * (i - 1) + (k - 1) → n ≡ getD (row .len) (k - 1) 0
+      → firstFailed (acknowledgeChecks v w t (getD (row .acked) p 0) n k a b)
+      ≡ answerOf (outlineOf row) (acknowledge a b)
+  acknowledge-answer a b i k ha hb ev ew et ep en =
+      rw (ev, ew, et, ep, en) (guarded (isReplica a && isReplica b && not (eqb a b)) _ _ 1 (λ t.
       let z = split-and (isReplica a && isReplica b) (not (eqb a b)) (of-true t) in
       let r = split-and (isReplica a) (isReplica b) (z .0) in
       let ra = is-true (isReplica a) (r .0) in

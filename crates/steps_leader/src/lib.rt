@@ -20,10 +20,10 @@ use cluster::seat;
 use refinement::lookup;
 use refinement::view;
 
-// The steps of a leader: append (1), commit (2), acknowledge (9), over the parts of a row that they use: the replicas' views by
-// value; their joined epochs, counts and lengths, the store and the list lent. Each promise is for every row with these parts, at
-// most 512 receipts and lent places of their lengths.
-// Inner layer: callers see to it that the lent places have their lengths and that no log is longer than 512.
+// The steps of a leader: append (1), commit (2), acknowledge (9), over the parts of a row that they use: the replicas'
+// views by value; their joined epochs, counts and lengths, the store and the list lent. Each promise is for every row
+// with these parts, at most 512 receipts and lent places of their lengths. Inner layer: callers see to it that the lent
+// places have their lengths and that no log is longer than 512.
 
 // What step 2 answers, and the number of receipts it leaves.
 pub struct Given {
@@ -120,8 +120,10 @@ pub fn commit(
     ensures { λ x. ⌜ (
         (g : Registry) (c : Controller) (joined : List ℕ)
         → Leaves (T.Step.commit b)
-        (rowOf g c views joined (now (acked .entry)) (now (len .entry)) issued) (lent (now (store .entry)) (now (list .entry)))
-        (x .answer) (rowOf g c views joined (now (acked .entry)) (now (len .entry)) (x .issued)) (lent (now (store .entry)) (now (list .exit)))
+        (rowOf g c views joined (now (acked .entry)) (now (len .entry)) issued)
+        (lent (now (store .entry)) (now (list .entry)))
+        (x .answer) (rowOf g c views joined (now (acked .entry)) (now (len .entry)) (x .issued))
+        (lent (now (store .entry)) (now (list .exit)))
         ) ⌝ }
 {
     let k = seat(b);
@@ -150,8 +152,8 @@ fn two(a: u8, b: u8) -> bool
     replica(a) & replica(b) & (a != b)
 }
 
-// Step 9: what a is answered about b, whose seat is k: their views v and w, b's joined epoch t, the count c that a has of b, the
-// length n of b's log.
+// Step 9: what a is answered about b, whose seat is k: their views v and w, b's joined epoch t, the count c that a has
+// of b, the length n of b's log.
 fn may_acknowledge(v: View, w: View, t: u16, c: u16, n: u16, k: u8, a: u8, b: u8) -> u8
     requires { ⌜ (1 ≤ k) × (k ≤ 8) ⌝ }
     ensures { λ x. ⌜ x ≡ firstFailed (acknowledgeChecks v w t c n k a b) ⌝ }

@@ -1,5 +1,5 @@
--- `dispatch::send` meets its contract: in each arm of the match the step's number is known, and its step does what its record says.
--- Assumes nothing.
+-- `dispatch::send` meets its contract: in each arm of the match the step's number is known, and its step does what its
+-- record says. Assumes nothing.
 use mathlib.Core.Path.{_≡_, refl}
 use Prim.Native.Nat.{ℕ, _≤_}
 use native.Mathlib.Omega.{arith}
@@ -45,7 +45,8 @@ eight c =
     omega (arith, c .before .before .before .before .if3 .left, c .before .before .before .if6 .taken)
 
 -- 10 or 11, and not 10.
-eleven : (c : tie.Then9) → (number (c .before .before .before .before) ≡ 10 → ⊥) → number (c .before .before .before .before) ≡ 11
+eleven : (c : tie.Then9) → (number (c .before .before .before .before) ≡ 10 → ⊥)
+    → number (c .before .before .before .before) ≡ 11
 eleven c n10 =
     let n = number (c .before .before .before .before) in
     let n9 : n ≡ 9 → ⊥ = c .before .before .before .match .rest .0 .0 .1 in
@@ -155,23 +156,31 @@ returns-2 c =
     let z = c .before .before .before .before .before .before .before .before .before .before .before .before in
     let a = start z .args in
     let p = start z .pre in
-    rw (c .before .before .before .before .before .before .before .before .before .before .before .match .keys2) (sends-kept (by-board _ (places z) _ _ (λ b. append b (a .r .value)) (a .r .board) (a .r .other) (a .r .spare) 0 _ (c .before .before .before .before .before .before .before .before .before .before .board .ensures) (λ m. refl) (λ m. refl)
-    (c .before .before .before .before .before .before .append .ensures (a .g) (a .c) (now (a .joined)) (a .issued) (now (a .list)) (p .0 .issued) (p .1))))
+    rw (c .before .before .before .before .before .before .before .before .before .before .before .match .keys2)
+    (sends-kept (by-board _ (places z) _ _ (λ b. append b (a .r .value)) (a .r .board) (a .r .other) (a .r .spare) 0 _
+    (c .before .before .before .before .before .before .before .before .before .before .board .ensures) (λ m. refl)
+    (λ m. refl)
+    (c .before .before .before .before .before .before .append .ensures (a .g) (a .c) (now (a .joined)) (a .issued)
+    (now (a .list)) (p .0 .issued) (p .1))))
 
 returns-3 : tie.Need-returns-3
 returns-3 c =
     let z = c .before .before .before .before in
     let a = start z .args in
     let p = start z .pre in
-    rw (c .before .before .before .match .keys3) (sends-kept (alone-taken _ (places z) _ _ changeLeader (a .r .board) (a .r .other) (a .r .spare) (a .r .value) (c .before .before .bare .ensures) (c .before .if1 .taken)
-    (c .change .ensures (a .t3) (now (a .joined)) (now (a .len)) (p .0 .short) (now (a .acked)) (a .issued) (places z) (p .0 .issued) (p .1))))
+    rw (c .before .before .before .match .keys3)
+    (sends-kept (alone-taken _ (places z) _ _ changeLeader (a .r .board) (a .r .other) (a .r .spare) (a .r .value)
+    (c .before .before .bare .ensures) (c .before .if1 .taken)
+    (c .change .ensures (a .t3) (now (a .joined)) (now (a .len)) (p .0 .short) (now (a .acked)) (a .issued) (places z)
+    (p .0 .issued) (p .1))))
 
 returns-4 : tie.Need-returns-4
 returns-4 c =
     let z = c .before .before .before in
     let a = start z .args in
     let p = start z .pre in
-    rw (c .before .before .match .keys3) (sends-kept (alone-refused _ (places z) _ _ changeLeader (a .r .board) (a .r .other) (a .r .spare) (a .r .value)
+    rw (c .before .before .match .keys3)
+    (sends-kept (alone-refused _ (places z) _ _ changeLeader (a .r .board) (a .r .other) (a .r .spare) (a .r .value)
     (c .before .bare .ensures) (c .if1 .left) (malformed-leaves _ (p .0) (places z) (p .1))))
 
 same-length-4 : tie.Need-same-length-4
@@ -188,7 +197,9 @@ returns-5 c =
     let z = c .before .before .before .before .before .before .before .before in
     let a = start z .args in
     let p = start z .pre in
-    rw (c .before .before .before .before .before .before .before .match .keys4) (sends-kept (by-board _ (places z) _ _ (λ x. acknowledge x (a .r .other)) (a .r .board) 0 (a .r .spare) (a .r .value) _ (c .before .before .before .before .before .before .board2 .ensures) (λ m. refl) (λ m. refl)
+    rw (c .before .before .before .before .before .before .before .match .keys4)
+    (sends-kept (by-board _ (places z) _ _ (λ x. acknowledge x (a .r .other)) (a .r .board) 0 (a .r .spare)
+    (a .r .value) _ (c .before .before .before .before .before .before .board2 .ensures) (λ m. refl) (λ m. refl)
     (c .before .before .acknowledge .ensures (a .g) (a .c) (a .issued) (places z) (p .0 .issued) (p .1))))
 
 same-length-7 : tie.Need-same-length-7
@@ -202,7 +213,9 @@ returns-6 c =
     let z = c .before .before .before .before .before in
     let a = start z .args in
     let p = start z .pre in
-    rw (c .before .before .before .before .match .keys5) (sends-kept (by-board _ (places z) _ _ read (a .r .board) (a .r .other) (a .r .spare) (a .r .value) _ (c .before .before .before .board3 .ensures) (λ m. refl) (λ m. refl)
+    rw (c .before .before .before .before .match .keys5)
+    (sends-kept (by-board _ (places z) _ _ read (a .r .board) (a .r .other) (a .r .spare) (a .r .value) _
+    (c .before .before .before .board3 .ensures) (λ m. refl) (λ m. refl)
     (c .read .ensures (a .t3) (now (a .acked)) (a .issued) (places z) (p .0 .issued) (p .1))))
 
 returns-7 : tie.Need-returns-7
@@ -210,15 +223,19 @@ returns-7 c =
     let z = c .before .before .before .before in
     let a = start z .args in
     let p = start z .pre in
-    rw (c .before .before .before .match .keys6) (sends-kept (alone-taken _ (places z) _ _ setNormal (a .r .board) (a .r .other) (a .r .spare) (a .r .value) (c .before .before .bare2 .ensures) (c .before .if2 .taken)
-    (c .set-normal .ensures (a .t3) (now (a .joined)) (now (a .len)) (p .0 .short) (now (a .acked)) (a .issued) (places z) (p .0 .issued) (p .1))))
+    rw (c .before .before .before .match .keys6)
+    (sends-kept (alone-taken _ (places z) _ _ setNormal (a .r .board) (a .r .other) (a .r .spare) (a .r .value)
+    (c .before .before .bare2 .ensures) (c .before .if2 .taken)
+    (c .set-normal .ensures (a .t3) (now (a .joined)) (now (a .len)) (p .0 .short) (now (a .acked)) (a .issued)
+    (places z) (p .0 .issued) (p .1))))
 
 returns-8 : tie.Need-returns-8
 returns-8 c =
     let z = c .before .before .before in
     let a = start z .args in
     let p = start z .pre in
-    rw (c .before .before .match .keys6) (sends-kept (alone-refused _ (places z) _ _ setNormal (a .r .board) (a .r .other) (a .r .spare) (a .r .value)
+    rw (c .before .before .match .keys6)
+    (sends-kept (alone-refused _ (places z) _ _ setNormal (a .r .board) (a .r .other) (a .r .spare) (a .r .value)
     (c .before .bare2 .ensures) (c .if2 .left) (malformed-leaves _ (p .0) (places z) (p .1))))
 
 same-length-9 : tie.Need-same-length-9
@@ -238,7 +255,9 @@ returns-9 c =
     let z = c .before .before .before .before .before .before .before .before .before .before .before in
     let a = start z .args in
     let p = start z .pre in
-    rw (c .before .before .before .before .before .before .before .if4 .taken) (sends-kept (by-board _ (places z) _ _ commit (a .r .board) (a .r .other) (a .r .spare) (a .r .value) _ (c .before .before .before .before .before .before .before .before .board4 .ensures) (λ m. refl) (λ m. refl)
+    rw (c .before .before .before .before .before .before .before .if4 .taken)
+    (sends-kept (by-board _ (places z) _ _ commit (a .r .board) (a .r .other) (a .r .spare) (a .r .value) _
+    (c .before .before .before .before .before .before .before .before .board4 .ensures) (λ m. refl) (λ m. refl)
     (c .before .before .commit .ensures (a .g) (a .c) (now (a .joined)))))
 
 returns-10 : tie.Need-returns-10
@@ -246,16 +265,22 @@ returns-10 c =
     let z = c .before .before .before .before .before .before in
     let a = start z .args in
     let p = start z .pre in
-    rw (c .before .if5 .taken) (sends-kept (by-board _ (places z) _ _ add (a .r .board) (a .r .other) (a .r .spare) (a .r .value) _ (c .before .before .before .board4 .ensures) (λ m. refl) (λ m. refl)
-    (c .add .ensures (a .t3) (now (a .joined)) (now (a .len)) (p .0 .short) (now (a .acked)) (a .issued) (places z) (p .0 .issued) (p .1))))
+    rw (c .before .if5 .taken) (sends-kept
+    (by-board _ (places z) _ _ add (a .r .board) (a .r .other) (a .r .spare) (a .r .value) _
+    (c .before .before .before .board4 .ensures) (λ m. refl) (λ m. refl)
+    (c .add .ensures (a .t3) (now (a .joined)) (now (a .len)) (p .0 .short) (now (a .acked)) (a .issued) (places z)
+    (p .0 .issued) (p .1))))
 
 returns-11 : tie.Need-returns-11
 returns-11 c =
     let z = c .before .before .before .before .before .before in
     let a = start z .args in
     let p = start z .pre in
-    rw (four (c .before)) (sends-kept (by-board _ (places z) _ _ remove (a .r .board) (a .r .other) (a .r .spare) (a .r .value) _ (c .before .before .before .board4 .ensures) (λ m. refl) (λ m. refl)
-    (c .remove .ensures (a .t3) (now (a .joined)) (now (a .len)) (p .0 .short) (now (a .acked)) (a .issued) (places z) (p .0 .issued) (p .1))))
+    rw (four (c .before)) (sends-kept
+    (by-board _ (places z) _ _ remove (a .r .board) (a .r .other) (a .r .spare) (a .r .value) _
+    (c .before .before .before .board4 .ensures) (λ m. refl) (λ m. refl)
+    (c .remove .ensures (a .t3) (now (a .joined)) (now (a .len)) (p .0 .short) (now (a .acked)) (a .issued) (places z)
+    (p .0 .issued) (p .1))))
 
 same-length-13 : tie.Need-same-length-13
 same-length-13 c = search needs
@@ -268,13 +293,18 @@ same-length-15 c = search needs
 
 returns-12 : tie.Need-returns-12
 returns-12 c =
-    let z = c .before .before .before .before .before .before .before .before .before .before .before .before .before .before .before in
+    let z = c .before .before .before .before .before .before .before .before .before .before .before .before .before
+    .before .before in
     let a = start z .args in
     let p = start z .pre in
     rw (c .before .before .before .before .before .before .before .before .before .before .if7 .taken) (record {
       place = c .before .before .before .before .before .refresh .ensures .0;
-      leaves = by-board _ (places z) _ _ refresh (a .r .board) (a .r .other) (a .r .spare) (a .r .value) _ (c .before .before .before .before .before .before .before .before .before .before .before .board5 .ensures) (λ m. refl) (λ m. refl)
-          (c .before .before .before .before .before .refresh .ensures .1 (a .g .status) (a .c) (a .issued) (places z) (p .0 .issued) (p .1));
+      leaves =
+          by-board _ (places z) _ _ refresh (a .r .board) (a .r .other) (a .r .spare) (a .r .value) _
+          (c .before .before .before .before .before .before .before .before .before .before .before .board5 .ensures)
+          (λ m. refl) (λ m. refl)
+          (c .before .before .before .before .before .refresh .ensures .1 (a .g .status) (a .c) (a .issued) (places z)
+          (p .0 .issued) (p .1));
     })
 
 same-length-16 : tie.Need-same-length-16
@@ -288,11 +318,17 @@ same-length-18 c = search needs
 
 returns-13 : tie.Need-returns-13
 returns-13 c =
-    let z = c .before .before .before .before .before .before .before .before .before .before .before .before .before .before in
+    let z = c .before .before .before .before .before .before .before .before .before .before .before .before .before
+    .before in
     let a = start z .args in
     let p = start z .pre in
-    rw (c .before .before .before .before .before .before .before .before .if8 .taken) (sends-kept (by-board _ (places z) _ _ join (a .r .board) (a .r .other) (a .r .spare) (a .r .value) _ (c .before .before .before .before .before .before .before .before .before .before .board5 .ensures) (λ m. refl) (λ m. refl)
-    (c .before .before .before .before .join .ensures (a .g) (a .c) (now (a .acked)) (a .issued) (now (a .list)) (p .0 .issued) (p .1))))
+    rw (c .before .before .before .before .before .before .before .before .if8 .taken)
+    (sends-kept (by-board _ (places z) _ _ join
+    (a .r .board) (a .r .other) (a .r .spare) (a .r .value) _
+    (c .before .before .before .before .before .before .before .before .before .before .board5 .ensures) (λ m. refl)
+    (λ m. refl)
+    (c .before .before .before .before .join .ensures (a .g) (a .c) (now (a .acked)) (a .issued) (now (a .list))
+    (p .0 .issued) (p .1))))
 
 same-length-19 : tie.Need-same-length-19
 same-length-19 c = search needs
@@ -305,19 +341,27 @@ same-length-21 c = search needs
 
 returns-14 : tie.Need-returns-14
 returns-14 c =
-    let z = c .before .before .before .before .before .before .before .before .before .before .before .before .before .before in
+    let z = c .before .before .before .before .before .before .before .before .before .before .before .before .before
+    .before in
     let a = start z .args in
     let p = start z .pre in
-    rw (eight (c .before .before .before .before .before .before .before .before)) (sends-kept (by-board _ (places z) _ _ receive (a .r .board) (a .r .other) (a .r .spare) (a .r .value) _ (c .before .before .before .before .before .before .before .before .before .before .board5 .ensures) (λ m. refl) (λ m. refl)
-    (c .before .before .before .before .receive .ensures (a .g) (a .c) (now (a .acked)) (a .issued) (now (a .list)) (p .0 .issued) (p .1))))
+    rw (eight (c .before .before .before .before .before .before .before .before))
+    (sends-kept (by-board _ (places z) _ _ receive (a .r .board) (a .r .other) (a .r .spare) (a .r .value) _
+    (c .before .before .before .before .before .before .before .before .before .before .board5 .ensures) (λ m. refl)
+    (λ m. refl)
+    (c .before .before .before .before .receive .ensures (a .g) (a .c) (now (a .acked)) (a .issued) (now (a .list))
+    (p .0 .issued) (p .1))))
 
 returns-15 : tie.Need-returns-15
 returns-15 c =
     let z = c .before .before .before .before .before .before .before .before in
     let a = start z .args in
     let p = start z .pre in
-    rw (c .before .if11 .taken) (sends-kept (alone-taken _ (places z) _ _ refreshController (a .r .board) (a .r .other) (a .r .spare) (a .r .value) (c .before .before .before .bare3 .ensures) (c .before .before .if10 .taken)
-    (c .refresh-controller .ensures (a .t3) (now (a .joined)) (now (a .len)) (p .0 .short) (now (a .acked)) (a .issued) (places z) (p .0 .issued) (p .1))))
+    rw (c .before .if11 .taken) (sends-kept
+    (alone-taken _ (places z) _ _ refreshController (a .r .board) (a .r .other) (a .r .spare) (a .r .value)
+    (c .before .before .before .bare3 .ensures) (c .before .before .if10 .taken)
+    (c .refresh-controller .ensures (a .t3) (now (a .joined)) (now (a .len)) (p .0 .short) (now (a .acked)) (a .issued)
+    (places z) (p .0 .issued) (p .1))))
 
 same-length-22 : tie.Need-same-length-22
 same-length-22 c = search needs
@@ -327,7 +371,8 @@ returns-16 c =
     let z = c .before .before .before .before .before .before .before .before .before in
     let a = start z .args in
     let p = start z .pre in
-    rw (eleven (c .before .before .before .before .before) (c .before .before .if11 .left)) (sends-kept (alone-taken _ (places z) _ _ readLeader (a .r .board) (a .r .other) (a .r .spare) (a .r .value)
+    rw (eleven (c .before .before .before .before .before) (c .before .before .if11 .left))
+    (sends-kept (alone-taken _ (places z) _ _ readLeader (a .r .board) (a .r .other) (a .r .spare) (a .r .value)
     (c .before .before .before .before .bare3 .ensures) (c .before .before .before .if10 .taken)
     (c .read-leader .ensures (now (a .joined)) (now (a .acked)) (a .issued) (places z) (p .0 .issued) (p .1))))
 
@@ -338,9 +383,11 @@ returns-17 c =
     let p = start z .pre in
     let n = number z in
     by-test (eqb n 10)
-    (λ t. rw (eqb→eq n 10 t) (sends-kept (alone-refused _ (places z) _ _ refreshController (a .r .board) (a .r .other) (a .r .spare) (a .r .value)
+    (λ t. rw (eqb→eq n 10 t) (sends-kept
+    (alone-refused _ (places z) _ _ refreshController (a .r .board) (a .r .other) (a .r .spare) (a .r .value)
     (c .before .bare3 .ensures) (c .if10 .left) (malformed-leaves _ (p .0) (places z) (p .1)))))
-    (λ t. rw (eleven (c .before .before) (ne-fact n 10 t)) (sends-kept (alone-refused _ (places z) _ _ readLeader (a .r .board) (a .r .other) (a .r .spare) (a .r .value)
+    (λ t. rw (eleven (c .before .before) (ne-fact n 10 t))
+    (sends-kept (alone-refused _ (places z) _ _ readLeader (a .r .board) (a .r .other) (a .r .spare) (a .r .value)
     (c .before .bare3 .ensures) (c .if10 .left) (malformed-leaves _ (p .0) (places z) (p .1)))))
 
 same-length-23 : tie.Need-same-length-23
@@ -354,7 +401,9 @@ returns-18 c =
     let z = c .before .before .before .before .before .before .before .before .before .before in
     let a = start z .args in
     let p = start z .pre in
-    rw (c .before .before .before .if13 .taken) (sends-kept (by-board _ (places z) _ _ hear (a .r .board) (a .r .other) (a .r .spare) (a .r .value) _ (c .before .before .before .before .board6 .ensures) (λ m. refl) (λ m. refl)
+    rw (c .before .before .before .if13 .taken)
+    (sends-kept (by-board _ (places z) _ _ hear (a .r .board) (a .r .other) (a .r .spare) (a .r .value) _
+    (c .before .before .before .before .board6 .ensures) (λ m. refl) (λ m. refl)
     (c .hear .ensures (now (a .acked)) (a .issued) (places z) (p .0 .issued) (p .1))))
 
 returns-19 : tie.Need-returns-19
@@ -362,8 +411,11 @@ returns-19 c =
     let z = c .before .before .before .before .before .before .before .before in
     let a = start z .args in
     let p = start z .pre in
-    rw (fifteen (c .before)) (sends-kept (by-board _ (places z) _ _ install (a .r .board) (a .r .other) (a .r .spare) (a .r .value) _ (c .before .before .board6 .ensures) (λ m. refl) (λ m. refl)
-    (c .install .ensures (a .t3) (now (a .joined)) (now (a .len)) (p .0 .short) (now (a .acked)) (a .issued) (places z) (p .0 .issued) (p .1))))
+    rw (fifteen (c .before)) (sends-kept
+    (by-board _ (places z) _ _ install (a .r .board) (a .r .other) (a .r .spare) (a .r .value) _
+    (c .before .before .board6 .ensures) (λ m. refl) (λ m. refl)
+    (c .install .ensures (a .t3) (now (a .joined)) (now (a .len)) (p .0 .short) (now (a .acked)) (a .issued) (places z)
+    (p .0 .issued) (p .1))))
 
 returns-20 : tie.Need-returns-20
 returns-20 c =

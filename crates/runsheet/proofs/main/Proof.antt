@@ -38,7 +38,8 @@ array-share-prefix-listing : tie.Need-array-share-prefix-listing
 array-share-prefix-listing c = readable _ _ (c .before .before .run-sheet .ensures) (omega arith)
 
 slice-aggregate-write-all : tie.Need-slice-aggregate-write-all
-slice-aggregate-write-all c = sym (length-take-le _ _ (readable _ _ (c .before .before .before .run-sheet .ensures) (omega arith)))
+slice-aggregate-write-all c =
+    sym (length-take-le _ _ (readable _ _ (c .before .before .before .run-sheet .ensures) (omega arith)))
 
 write-all-requires : tie.Need-write-all-requires
 write-all-requires c κs = search needs

@@ -25,7 +25,8 @@ returns-3 : tie.Need-returns-3
 returns-3 c =
     let s = c .before .before .before .before .before in
     c .in-range .ensures
-    ∙ sym (all-tests (s .args .row) (places s) (record { store = c .before .before .if1 .left; list = c .before .if2 .left }))
+    ∙ sym (all-tests (s .args .row) (places s)
+    (record { store = c .before .before .if1 .left; list = c .before .if2 .left }))
 
 pub fits-spec : {M : Type 1} → statement M
 fits-spec = tie.close (tie.spec returns returns-2 in-range-requires returns-3)

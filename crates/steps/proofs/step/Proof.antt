@@ -47,14 +47,17 @@ same-length-2 c = search needs
 returns : tie.Need-returns
 returns c =
     let s = c .before .before .before .before .before .before .before in
-    did-refused _ (s .args .row) (places s) (sym (c .before .before .fits2 .ensures) ∙ not-true _ (c .before .if1 .taken)) _
+    did-refused _ (s .args .row) (places s)
+    (sym (c .before .before .fits2 .ensures) ∙ not-true _ (c .before .if1 .taken)) _
     (c .refused .ensures .0) (c .refused .ensures .1)
 
 turn-requires : tie.Need-turn-requires
 turn-requires c κs =
     let d = c .before .before in
-    let s = start d in
-    (ready (s .args .row) (shape s) (valid-range (s .args .row) (places s) (passed d)), valid-full (s .args .row) (places s) (passed d))
+    let s = start d in (
+      ready (s .args .row) (shape s) (valid-range (s .args .row) (places s) (passed d)),
+      valid-full (s .args .row) (places s) (passed d),
+    )
 
 same-length-3 : tie.Need-same-length-3
 same-length-3 c = search needs
@@ -66,7 +69,8 @@ returns-2 : tie.Need-returns-2
 returns-2 c =
     let d = c .before .before .before .before .before .before .before in
     let s = start d in
-    did-step _ (s .args .row) (places s) (passed d) (valid-full (s .args .row) (places s) (passed d)) (c .before .before .before .before .turn .ensures)
+    did-step _ (s .args .row) (places s) (passed d) (valid-full (s .args .row) (places s) (passed d))
+    (c .before .before .before .before .turn .ensures)
 
 pub step-spec : {M : Type 1} → statement M
 step-spec =

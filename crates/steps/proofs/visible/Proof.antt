@@ -1,5 +1,5 @@
--- `steps::visible` meets its contract: an empty part of the list, else the part that the store's and the list's own function shows.
--- Assumes nothing.
+-- `steps::visible` meets its contract: an empty part of the list, else the part that the store's and the list's own
+-- function shows. Assumes nothing.
 use mathlib.Core.Bool.{true}
 use mathlib.Core.Path.{_≡_, sym, _∙_}
 use lib.ListN.{length-map}
@@ -75,8 +75,13 @@ visible-requires c κs =
     let row = s .args .t1 in
     let f = valid-full row (places s) (passed d) in
     let t = valid-range row (places s) (passed d) in
-    let r = ready row (shape s) t in
-    (f .store, f .list, leader-small row t, short-at (row .len) (c .before .seat .result) (r .short) (c .before .seat .ensures .0), r .issued)
+    let r = ready row (shape s) t in (
+      f .store,
+      f .list,
+      leader-small row t,
+      short-at (row .len) (c .before .seat .result) (r .short) (c .before .seat .ensures .0),
+      r .issued,
+    )
 
 returns-2 : tie.Need-returns-2
 returns-2 c =
@@ -84,7 +89,8 @@ returns-2 c =
     let s = start d in
     let row = s .args .t1 in
     let seat = c .before .before .seat in (
-      c .visible .ensures .0 ∙ shown-is row (places s) (seat .result) (passed d) (leader-small row (valid-range row (places s) (passed d))) (seat .ensures .2),
+      c .visible .ensures .0 ∙ shown-is row (places s) (seat .result) (passed d)
+          (leader-small row (valid-range row (places s) (passed d))) (seat .ensures .2),
       rw (passed d) (c .visible .ensures .1),
     )
 

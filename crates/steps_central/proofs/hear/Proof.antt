@@ -36,15 +36,19 @@ shared-slice-read-n : tie.Need-shared-slice-read-n
 shared-slice-read-n c = search needs
 
 hear-requires : tie.Need-hear-requires
-hear-requires c κs = short-at (now (c .before .before .before .before .before .before .args .len)) _ (c .before .before .before .before .before .before .pre .1) (c .before .before .before .seat .ensures .0)
+hear-requires c κs =
+    short-at (now (c .before .before .before .before .before .before .args .len)) _
+    (c .before .before .before .before .before .before .pre .1) (c .before .before .before .seat .ensures .0)
 
 returns : tie.Need-returns
 returns c =
     let a = c .before .before .before .before .before .before .before .before .args in
     let p = c .before .before .before .before .before .before .before .before .pre in
     let k = c .before .before .before .before .before .seat .ensures in
-    tells-govern (hear (a .b)) (a .g) (a .c) (a .t3) (now (a .joined)) (now (a .len)) (p .1) (record { state = λ _. refl; places = refl }) _ (c .before .hear .ensures)
-    (λ acked issued q full t. seated (now (a .len)) (p .1) _ (k .0) (a .g) (a .c) (a .t3) (now (a .joined)) acked issued (a .b) (k .2) q full t)
+    tells-govern (hear (a .b)) (a .g) (a .c) (a .t3) (now (a .joined)) (now (a .len)) (p .1)
+    (record { state = λ _. refl; places = refl }) _ (c .before .hear .ensures)
+    (λ acked issued q full t. seated (now (a .len)) (p .1) _ (k .0) (a .g) (a .c) (a .t3) (now (a .joined)) acked issued
+    (a .b) (k .2) q full t)
 
 pub hear-spec : {M : Type 1} → statement M
 hear-spec =

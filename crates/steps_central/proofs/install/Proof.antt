@@ -12,7 +12,8 @@ install-requires c κs = search needs
 returns : tie.Need-returns
 returns c =
     let a = c .before .before .before .args in
-    λ views joined len s. settles-govern (install (a .b)) (a .g) (a .c) views joined len s (record { state = λ _. refl; places = refl }) _ (c .before .before .install .ensures)
+    λ views joined len s. settles-govern (install (a .b)) (a .g) (a .c) views joined len s
+    (record { state = λ _. refl; places = refl }) _ (c .before .before .install .ensures)
 
 pub install-spec : {M : Type 1} → statement M
 install-spec = tie.close (tie.spec install-requires returns)

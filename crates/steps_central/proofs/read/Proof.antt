@@ -30,15 +30,19 @@ shared-slice-read-n : tie.Need-shared-slice-read-n
 shared-slice-read-n c = search needs
 
 read-requires : tie.Need-read-requires
-read-requires c κs = short-at (now (c .before .before .before .before .before .args .len)) _ (c .before .before .before .before .before .pre .1) (c .before .before .seat .ensures .0)
+read-requires c κs =
+    short-at (now (c .before .before .before .before .before .args .len)) _
+    (c .before .before .before .before .before .pre .1) (c .before .before .seat .ensures .0)
 
 returns : tie.Need-returns
 returns c =
     let a = c .before .before .before .before .before .before .before .args in
     let p = c .before .before .before .before .before .before .before .pre in
     let k = c .before .before .before .before .seat .ensures in
-    λ views. tells-govern (read (a .b)) (a .g) (a .c) views (now (a .joined)) (now (a .len)) (p .1) (record { state = λ _. refl; places = refl }) _ (c .before .read .ensures)
-    (λ acked issued q full t. let f = seated (now (a .len)) (p .1) _ (k .0) (a .g) (a .c) views (now (a .joined)) acked issued (a .b) (k .2) q full t in (f .1, f .2))
+    λ views. tells-govern (read (a .b)) (a .g) (a .c) views (now (a .joined)) (now (a .len)) (p .1)
+    (record { state = λ _. refl; places = refl }) _ (c .before .read .ensures)
+    (λ acked issued q full t. let f = seated (now (a .len)) (p .1) _ (k .0) (a .g) (a .c) views (now (a .joined)) acked
+    issued (a .b) (k .2) q full t in (f .1, f .2))
 
 pub read-spec : {M : Type 1} → statement M
 read-spec =

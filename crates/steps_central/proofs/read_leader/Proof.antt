@@ -39,9 +39,11 @@ returns c =
     let a = c .before .before .before .before .before .before .before .args in
     let p = c .before .before .before .before .before .before .before .pre in
     let k = c .before .before .before .before .seat .ensures in
-    λ joined. tells-govern readLeader (a .g) (a .c) (a .t3) joined (now (a .len)) (p .1) (record { state = λ _. refl; places = refl }) _ (c .before .read-leader .ensures)
+    λ joined. tells-govern readLeader (a .g) (a .c) (a .t3) joined (now (a .len)) (p .1)
+    (record { state = λ _. refl; places = refl }) _ (c .before .read-leader .ensures)
     (λ acked issued q full t.
-    let f = seated (now (a .len)) (p .1) _ (k .0) (a .g) (a .c) (a .t3) joined acked issued (a .c .view .leader) (k .2) q full (p .0 t) in
+    let f = seated (now (a .len)) (p .1) _ (k .0) (a .g) (a .c) (a .t3) joined acked issued (a .c .view .leader) (k .2)
+    q full (p .0 t) in
     (f .0, f .2))
 
 pub read-leader-spec : {M : Type 1} → statement M

@@ -12,7 +12,8 @@ set-normal-requires c κs = search needs
 returns : tie.Need-returns
 returns c =
     let a = c .before .args in
-    λ views joined len s. settles-govern setNormal (a .g) (a .c) views joined len s (record { state = λ _. refl; places = refl }) _ (c .set-normal .ensures)
+    λ views joined len s. settles-govern setNormal (a .g) (a .c) views joined len s
+    (record { state = λ _. refl; places = refl }) _ (c .set-normal .ensures)
 
 pub set-normal-spec : {M : Type 1} → statement M
 set-normal-spec = tie.close (tie.spec set-normal-requires returns)

@@ -29,11 +29,16 @@ abbrev other : tie.After-may-join → tie.After-seat2
 other c = c .before .before
 
 abbrev row : tie.After-may-join → Registry → Controller → List ℕ → ℕ → Cluster
-row c g k acked issued = rowOf g k (entry c .args .views) (now (entry c .args .joined)) acked (now (entry c .args .len)) issued
+row c g k acked issued =
+    rowOf g k (entry c .args .views) (now (entry c .args .joined)) acked (now (entry c .args .len)) issued
 
 -- the checks
-answers : (c : tie.After-may-join) (g : Registry) (k : Controller) (acked : List ℕ) (issued : ℕ) → c .may-join .result ≡ answerOf (outlineOf (row c g k acked issued)) (join (entry c .args .b))
-answers c g k acked issued = c .may-join .ensures ∙ join-answer (row c g k acked issued) (entry c .args .b) _ (own c .seat .ensures .2) _ (c .before .before .before .before .view .ensures) _ (other c .seat2 .ensures .2) (entry c .pre .0) _ (c .before .view2 .ensures)
+answers : (c : tie.After-may-join) (g : Registry) (k : Controller) (acked : List ℕ) (issued : ℕ) → c .may-join .result
+    ≡ answerOf (outlineOf (row c g k acked issued)) (join (entry c .args .b))
+answers c g k acked issued =
+    c .may-join .ensures ∙ join-answer (row c g k acked issued) (entry c .args .b) _ (own c .seat .ensures .2) _
+    (c .before .before .before .before .view .ensures) _ (other c .seat2 .ensures .2) (entry c .pre .0) _
+    (c .before .view2 .ensures)
 
 seat-requires : tie.Need-seat-requires
 seat-requires c κs = search needs
@@ -70,7 +75,8 @@ may-join-requires c κs = search needs
 
 returns : tie.Need-returns
 returns c g k acked issued list few full =
-    turns-refused (row (c .before) g k acked issued) (entry (c .before) .pre .2) few _ full _ _ (answers (c .before) g k acked issued) (c .if1 .taken)
+    turns-refused (row (c .before) g k acked issued) (entry (c .before) .pre .2) few _ full _ _
+    (answers (c .before) g k acked issued) (c .if1 .taken)
 
 mul-own : tie.Need-mul-own
 mul-own c = search needs
@@ -90,20 +96,39 @@ shared-requires c κs =
     let p = entry d .pre in
     let l = now (entry d .args .len) in
     let h = own d .seat in
-    let o = other d .seat2 in
-    (p .3, h .ensures .0, h .ensures .1, short-at l (h .result) (p .2) (h .ensures .0), o .ensures .0, o .ensures .1, short-at l (o .result) (p .2) (o .ensures .0))
+    let o = other d .seat2 in (
+      p .3,
+      h .ensures .0,
+      h .ensures .1,
+      short-at l (h .result) (p .2) (h .ensures .0),
+      o .ensures .0,
+      o .ensures .1,
+      short-at l (o .result) (p .2) (o .ensures .0),
+    )
 
 mul-len : tie.Need-mul-len
 mul-len c = search needs
 
 slice-write-len : tie.Need-slice-write-len
-slice-write-len c = omega (arith, own (c .before .before .before .before) .seat .ensures .0, own (c .before .before .before .before) .seat .ensures .1, entry (c .before .before .before .before) .pre .2 .eight)
+slice-write-len c =
+    omega (
+      arith,
+      own (c .before .before .before .before) .seat .ensures .0,
+      own (c .before .before .before .before) .seat .ensures .1,
+      entry (c .before .before .before .before) .pre .2 .eight,
+    )
 
 mul-joined : tie.Need-mul-joined
 mul-joined c = search needs
 
 slice-write-joined : tie.Need-slice-write-joined
-slice-write-joined c = omega (arith, own (c .before .before .before .before) .seat .ensures .0, own (c .before .before .before .before) .seat .ensures .1, entry (c .before .before .before .before) .pre .1)
+slice-write-joined c =
+    omega (
+      arith,
+      own (c .before .before .before .before) .seat .ensures .0,
+      own (c .before .before .before .before) .seat .ensures .1,
+      entry (c .before .before .before .before) .pre .1,
+    )
 
 same-length : tie.Need-same-length
 same-length c = search needs
@@ -118,9 +143,12 @@ returns-2 c g k acked issued list few full =
     let p = entry d .pre in
     let h = own d .seat .ensures in
     let short = short-at (now (a .len)) (own d .seat .result) (p .2) (h .0) in
-    turns-accepted (row d g k acked issued) (p .2) few _ full _ _ _ _ (answers d g k acked issued) (c .before .before .before .if1 .left)
-    (join-after (row d g k acked issued) (p .2) _ full (a .b) _ _ _ _ (h .2) (p .1) (d .before .before .before .before .view .ensures) (other d .seat2 .ensures .2) (p .0) (c .shared .ensures))
-    (len-short (now (a .len)) (p .2) _ _ (h .0) (h .1) (join-short _ _ _ _ _ (p .3) (h .0) (h .1) short (c .shared .ensures)))
+    turns-accepted (row d g k acked issued) (p .2) few _ full _ _ _ _ (answers d g k acked issued)
+    (c .before .before .before .if1 .left)
+    (join-after (row d g k acked issued) (p .2) _ full (a .b) _ _ _ _ (h .2) (p .1)
+    (d .before .before .before .before .view .ensures) (other d .seat2 .ensures .2) (p .0) (c .shared .ensures))
+    (len-short (now (a .len)) (p .2) _ _ (h .0) (h .1)
+    (join-short _ _ _ _ _ (p .3) (h .0) (h .1) short (c .shared .ensures)))
     few refl
 
 pub join-spec : {M : Type 1} → statement M

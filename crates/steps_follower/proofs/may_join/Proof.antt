@@ -29,7 +29,16 @@ check-requires-5 : tie.Need-check-requires-5
 check-requires-5 c κs = search needs
 
 returns : tie.Need-returns
-returns c = c .check5 .ensures ∙ rw (c .before .replica .ensures, c .before .before .check4 .ensures, c .before .before .before .follows .ensures, c .before .before .before .before .check3 .ensures, c .before .before .before .before .before .has .ensures, c .before .before .before .before .before .before .check2 .ensures, c .before .before .before .before .before .before .before .before .before .check .ensures)
+returns c =
+    c .check5 .ensures ∙ rw (
+      c .before .replica .ensures,
+      c .before .before .check4 .ensures,
+      c .before .before .before .follows .ensures,
+      c .before .before .before .before .check3 .ensures,
+      c .before .before .before .before .before .has .ensures,
+      c .before .before .before .before .before .before .check2 .ensures,
+      c .before .before .before .before .before .before .before .before .before .check .ensures,
+    )
 
 pub may-join-spec : {M : Type 1} → statement M
 may-join-spec =

@@ -32,7 +32,17 @@ check-requires-6 : tie.Need-check-requires-6
 check-requires-6 c κs = search needs
 
 returns : tie.Need-returns
-returns c = c .check6 .ensures ∙ rw (c .before .replica .ensures, c .before .before .check5 .ensures, c .before .before .before .follows .ensures, c .before .before .before .before .check4 .ensures, c .before .before .before .before .before .both-have .ensures, c .before .before .before .before .before .before .check3 .ensures, c .before .before .before .before .before .before .before .before .before .check2 .ensures, c .before .before .before .before .before .before .before .before .before .before .before .check .ensures)
+returns c =
+    c .check6 .ensures ∙ rw (
+      c .before .replica .ensures,
+      c .before .before .check5 .ensures,
+      c .before .before .before .follows .ensures,
+      c .before .before .before .before .check4 .ensures,
+      c .before .before .before .before .before .both-have .ensures,
+      c .before .before .before .before .before .before .check3 .ensures,
+      c .before .before .before .before .before .before .before .before .before .check2 .ensures,
+      c .before .before .before .before .before .before .before .before .before .before .before .check .ensures,
+    )
 
 pub may-receive-spec : {M : Type 1} → statement M
 may-receive-spec =

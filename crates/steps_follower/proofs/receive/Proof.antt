@@ -30,13 +30,19 @@ abbrev other : tie.After-may-receive → tie.After-seat2
 other c = c .before .before .before
 
 abbrev row : tie.After-may-receive → Registry → Controller → List ℕ → ℕ → Cluster
-row c g k acked issued = rowOf g k (entry c .args .views) (now (entry c .args .joined)) acked (now (entry c .args .len)) issued
+row c g k acked issued =
+    rowOf g k (entry c .args .views) (now (entry c .args .joined)) acked (now (entry c .args .len)) issued
 
 -- the checks, and what their 0 says
-answers : (c : tie.After-may-receive) (g : Registry) (k : Controller) (acked : List ℕ) (issued : ℕ) → c .may-receive .result ≡ answerOf (outlineOf (row c g k acked issued)) (receive (entry c .args .b))
-answers c g k acked issued = c .may-receive .ensures ∙ receive-answer (row c g k acked issued) (entry c .args .b) _ (own c .seat .ensures .2) _ (c .before .before .before .before .before .before .view .ensures) _ (other c .seat2 .ensures .2) (entry c .pre .0) _ (c .before .before .view2 .ensures) (c .before .before .before .before .before .lookup .ensures)
+answers : (c : tie.After-may-receive) (g : Registry) (k : Controller) (acked : List ℕ) (issued : ℕ)
+    → c .may-receive .result ≡ answerOf (outlineOf (row c g k acked issued)) (receive (entry c .args .b))
+answers c g k acked issued =
+    c .may-receive .ensures ∙ receive-answer (row c g k acked issued) (entry c .args .b) _ (own c .seat .ensures .2) _
+    (c .before .before .before .before .before .before .view .ensures) _ (other c .seat2 .ensures .2) (entry c .pre .0)
+    _ (c .before .before .view2 .ensures) (c .before .before .before .before .before .lookup .ensures)
 
-room : (c : tie.After-may-receive) → c .may-receive .result ≡ 0 → getD (now (entry c .args .len)) (own c .seat .result - 1) 0 < 512
+room : (c : tie.After-may-receive) → c .may-receive .result ≡ 0
+    → getD (now (entry c .args .len)) (own c .seat .result - 1) 0 < 512
 room c e =
     let a = entry c .args in
     let k = own c .seat .result in
@@ -44,7 +50,9 @@ room c e =
     let len = now (a .len) in
     omega (
       arith,
-      receive-room (c .before .before .before .before .before .before .view .result) (c .before .before .view2 .result) (c .before .before .before .before .before .lookup .result) (getD len (k - 1) 0) (getD len (l - 1) 0) k (a .b) (c .may-receive .ensures) e,
+      receive-room (c .before .before .before .before .before .before .view .result) (c .before .before .view2 .result)
+          (c .before .before .before .before .before .lookup .result) (getD len (k - 1) 0) (getD len (l - 1) 0) k (a .b)
+          (c .may-receive .ensures) e,
       short-at len l (entry c .pre .2) (other c .seat2 .ensures .0),
     )
 
@@ -92,7 +100,8 @@ may-receive-requires c κs = search needs
 
 returns : tie.Need-returns
 returns c g k acked issued list few full =
-    turns-refused (row (c .before) g k acked issued) (entry (c .before) .pre .2) few _ full _ _ (answers (c .before) g k acked issued) (c .if1 .taken)
+    turns-refused (row (c .before) g k acked issued) (entry (c .before) .pre .2) few _ full _ _
+    (answers (c .before) g k acked issued) (c .if1 .taken)
 
 receive-entry-requires : tie.Need-receive-entry-requires
 receive-entry-requires c κs =
@@ -107,7 +116,13 @@ mul-len : tie.Need-mul-len
 mul-len c = search needs
 
 slice-write-len : tie.Need-slice-write-len
-slice-write-len c = omega (arith, own (c .before .before .before .before .before) .seat .ensures .0, own (c .before .before .before .before .before) .seat .ensures .1, entry (c .before .before .before .before .before) .pre .2 .eight)
+slice-write-len c =
+    omega (
+      arith,
+      own (c .before .before .before .before .before) .seat .ensures .0,
+      own (c .before .before .before .before .before) .seat .ensures .1,
+      entry (c .before .before .before .before .before) .pre .2 .eight,
+    )
 
 same-length : tie.Need-same-length
 same-length c = search needs
@@ -130,7 +145,8 @@ returns-2 c g k acked issued list few full =
     turns-accepted r (p .2) few _ full _ _ _ _ e z
     (receive-after r (p .2) _ full (a .b) _ _ _ (h .2) v m (p .0) _ s)
     (len-short (now (a .len)) (p .2) _ _ (h .0) (h .1) (omega (arith, room d z))) few
-    (ap (λ x. lent x list) (s ∙ receive-place r (a .b) _ (h .2) _ v _ m (p .0) (now (a .store)) (zero-accepted (outlineOf r) (receive (a .b)) (sym e ∙ z))))
+    (ap (λ x. lent x list) (s ∙ receive-place r (a .b) _ (h .2) _ v _ m (p .0) (now (a .store))
+    (zero-accepted (outlineOf r) (receive (a .b)) (sym e ∙ z))))
 
 pub receive-spec : {M : Type 1} → statement M
 receive-spec =

@@ -26,11 +26,16 @@ abbrev own : tie.After-may-refresh → tie.After-seat
 own c = c .before .before
 
 abbrev row : tie.After-may-refresh → Status → Controller → List View → ℕ → Cluster
-row c s k vs issued = rowOf (record { view = entry c .args .w; status = s }) k vs (now (entry c .args .joined)) (now (entry c .args .acked)) (now (entry c .args .len)) issued
+row c s k vs issued =
+    rowOf (record { view = entry c .args .w; status = s }) k vs (now (entry c .args .joined))
+    (now (entry c .args .acked)) (now (entry c .args .len)) issued
 
 -- the checks
-answers : (c : tie.After-may-refresh) (s : Status) (k : Controller) (issued : ℕ) → c .may-refresh .result ≡ answerOf (outlineOf (row c s k (entry c .args .views) issued)) (refresh (entry c .args .b))
-answers c s k issued = c .may-refresh .ensures ∙ refresh-answer (row c s k (entry c .args .views) issued) (entry c .args .b) _ (own c .seat .ensures .2) _ (c .before .view .ensures)
+answers : (c : tie.After-may-refresh) (s : Status) (k : Controller) (issued : ℕ) → c .may-refresh .result
+    ≡ answerOf (outlineOf (row c s k (entry c .args .views) issued)) (refresh (entry c .args .b))
+answers c s k issued =
+    c .may-refresh .ensures ∙ refresh-answer (row c s k (entry c .args .views) issued) (entry c .args .b) _
+    (own c .seat .ensures .2) _ (c .before .view .ensures)
 
 eight : (c : tie.Start) → length (c .args .views) ≡ 8
 eight c = search needs
@@ -57,7 +62,9 @@ returns c =
     let i = own (c .before) .seat .result - 1 in (
       search needs,
       λ s k issued q few full.
-          subst (λ vs. Leaves (refresh (a .b)) (row (c .before) s k (a .views) issued) q (c .before .may-refresh .result) (row (c .before) s k vs issued) q) (sym (ap (set (a .views) i) (c .before .before .view .ensures) ∙ set-idle noView (a .views) i))
+          subst (λ vs. Leaves (refresh (a .b)) (row (c .before) s k (a .views) issued) q
+          (c .before .may-refresh .result) (row (c .before) s k vs issued) q)
+          (sym (ap (set (a .views) i) (c .before .before .view .ensures) ∙ set-idle noView (a .views) i))
           (turns-refused _ (p .2) few q full _ _ (answers (c .before) s k issued) (c .if1 .taken)),
     )
 
@@ -95,8 +102,12 @@ returns-2 c =
     let p = entry d .pre in (
       search needs,
       λ s k issued q few full.
-          turns-accepted (row d s k (a .views) issued) (p .2) few q full _ _ _ _ (answers d s k issued) (c .before .before .before .before .before .before .before .if1 .left)
-          (refresh-after (row d s k (a .views) issued) (p .2) q full (a .b) _ _ _ _ (c .before .before .counts .last .1 .1 .1 .0) (own d .seat .ensures .2) (d .before .view .ensures) (c .before .before .before .before .before .before .lookup .ensures) (eight (entry d)) (p .0) (c .before .before .before .before .joins .ensures) (c .before .before .counts .ensures))
+          turns-accepted (row d s k (a .views) issued) (p .2) few q full _ _ _ _ (answers d s k issued)
+          (c .before .before .before .before .before .before .before .if1 .left)
+          (refresh-after (row d s k (a .views) issued) (p .2) q full (a .b) _ _ _ _
+          (c .before .before .counts .last .1 .1 .1 .0) (own d .seat .ensures .2) (d .before .view .ensures)
+          (c .before .before .before .before .before .before .lookup .ensures) (eight (entry d)) (p .0)
+          (c .before .before .before .before .joins .ensures) (c .before .before .counts .ensures))
           (p .2) few refl,
     )
 

@@ -10,7 +10,8 @@ use Rattle.steps_follower.proofs.restart.Statement.{statement}
 use Rattle.steps_follower.proofs.restart.Tie as tie
 
 -- the eight places of b's counts stay inside the list
-room : (c : tie.Start) (k j : ℕ) → k ≤ 8 → j < 8 → 8 * (c .args .b - 1) + j < length (wiped (now (c .args .acked)) (8 * (c .args .b - 1)) k)
+room : (c : tie.Start) (k j : ℕ) → k ≤ 8 → j < 8
+    → 8 * (c .args .b - 1) + j < length (wiped (now (c .args .acked)) (8 * (c .args .b - 1)) k)
 room c = wiped-room (now (c .args .acked)) (c .args .b) (c .args .n) (c .pre .0) (c .pre .1) (c .pre .2)
 
 sub-i : tie.Need-sub-i
@@ -107,7 +108,8 @@ slice-write-acked-9 : tie.Need-slice-write-acked-9
 slice-write-acked-9 c = room c 8 _ (omega arith) (omega arith)
 
 same-length : tie.Need-same-length
-same-length c = restart (now (c .args .acked)) (c .args .b) (c .args .n) (c .pre .0) (c .pre .1) (c .pre .2) .0 ∙ sym (c .pre .2)
+same-length c =
+    restart (now (c .args .acked)) (c .args .b) (c .args .n) (c .pre .0) (c .pre .1) (c .pre .2) .0 ∙ sym (c .pre .2)
 
 returns : tie.Need-returns
 returns c = restart (now (c .args .acked)) (c .args .b) (c .args .n) (c .pre .0) (c .pre .1) (c .pre .2) .1

@@ -27,13 +27,19 @@ abbrev other : tie.After-may-acknowledge → tie.After-seat2
 other c = c .before .before .before .before .before .before .before
 
 abbrev row : tie.After-may-acknowledge → Registry → Controller → ℕ → Cluster
-row c g k issued = rowOf g k (entry c .args .views) (now (entry c .args .joined)) (now (entry c .args .acked)) (now (entry c .args .len)) issued
+row c g k issued =
+    rowOf g k (entry c .args .views) (now (entry c .args .joined)) (now (entry c .args .acked))
+    (now (entry c .args .len)) issued
 
 -- the checks
-answers : (c : tie.After-may-acknowledge) (g : Registry) (k : Controller) (issued : ℕ) → c .may-acknowledge .result ≡ answerOf (outlineOf (row c g k issued)) (acknowledge (entry c .args .a) (entry c .args .b))
+answers : (c : tie.After-may-acknowledge) (g : Registry) (k : Controller) (issued : ℕ) → c .may-acknowledge .result
+    ≡ answerOf (outlineOf (row c g k issued)) (acknowledge (entry c .args .a) (entry c .args .b))
 answers c g k issued = c .may-acknowledge .ensures
-    ∙ acknowledge-answer (row c g k issued) (entry c .args .a) (entry c .args .b) _ _ (one c .seat .ensures .2) (other c .seat2 .ensures .2)
-    (c .before .before .before .before .before .view .ensures) (c .before .before .before .before .view2 .ensures) (c .before .before .before .lookup .ensures) (c .before .before .before .before .before .before .pair .ensures) (c .before .lookup2 .ensures)
+    ∙ acknowledge-answer (row c g k issued) (entry c .args .a) (entry c .args .b) _ _ (one c .seat .ensures .2)
+    (other c .seat2 .ensures .2)
+    (c .before .before .before .before .before .view .ensures) (c .before .before .before .before .view2 .ensures)
+    (c .before .before .before .lookup .ensures) (c .before .before .before .before .before .before .pair .ensures)
+    (c .before .lookup2 .ensures)
 
 seat-requires : tie.Need-seat-requires
 seat-requires c κs = search needs
@@ -57,7 +63,16 @@ mul-c : tie.Need-mul-c
 mul-c c = search needs
 
 slice-read-c : tie.Need-slice-read-c
-slice-read-c c = omega (arith, c .before .before .before .before .pair .ensures, c .before .before .before .before .before .before .seat .ensures .0, c .before .before .before .before .before .before .seat .ensures .1, c .before .before .before .before .before .seat2 .ensures .0, c .before .before .before .before .before .seat2 .ensures .1, c .before .before .before .before .before .before .before .before .before .before .pre .1)
+slice-read-c c =
+    omega (
+      arith,
+      c .before .before .before .before .pair .ensures,
+      c .before .before .before .before .before .before .seat .ensures .0,
+      c .before .before .before .before .before .before .seat .ensures .1,
+      c .before .before .before .before .before .seat2 .ensures .0,
+      c .before .before .before .before .before .seat2 .ensures .1,
+      c .before .before .before .before .before .before .before .before .before .before .pre .1,
+    )
 
 lookup-requires-2 : tie.Need-lookup-requires-2
 lookup-requires-2 c κs = search needs
@@ -67,13 +82,23 @@ may-acknowledge-requires c κs = search needs
 
 returns : tie.Need-returns
 returns c g k issued q few full =
-    turns-refused (row (c .before) g k issued) (entry (c .before) .pre .2) few q full _ _ (answers (c .before) g k issued) (c .if1 .taken)
+    turns-refused (row (c .before) g k issued) (entry (c .before) .pre .2) few q full _ _
+    (answers (c .before) g k issued) (c .if1 .taken)
 
 mul-acked : tie.Need-mul-acked
 mul-acked c = search needs
 
 slice-write-acked : tie.Need-slice-write-acked
-slice-write-acked c = omega (arith, c .before .before .before .before .before .before .before .pair .ensures, one (c .before) .seat .ensures .0, one (c .before) .seat .ensures .1, other (c .before) .seat2 .ensures .0, other (c .before) .seat2 .ensures .1, entry (c .before) .pre .1)
+slice-write-acked c =
+    omega (
+      arith,
+      c .before .before .before .before .before .before .before .pair .ensures,
+      one (c .before) .seat .ensures .0,
+      one (c .before) .seat .ensures .1,
+      other (c .before) .seat2 .ensures .0,
+      other (c .before) .seat2 .ensures .1,
+      entry (c .before) .pre .1,
+    )
 
 same-length : tie.Need-same-length
 same-length c = search needs
@@ -82,8 +107,12 @@ returns-2 : tie.Need-returns-2
 returns-2 c g k issued q few full =
     let a = entry (c .before) .args in
     let p = entry (c .before) .pre in
-    turns-accepted (row (c .before) g k issued) (p .2) few q full _ _ _ _ (answers (c .before) g k issued) (c .if1 .left)
-    (acknowledge-after (row (c .before) g k issued) (p .2) q full (a .a) (a .b) _ _ _ _ (one (c .before) .seat .ensures .2) (other (c .before) .seat2 .ensures .2) (c .before .before .before .before .before .before .before .pair .ensures) (c .before .before .lookup2 .ensures) (p .1))
+    turns-accepted (row (c .before) g k issued) (p .2) few q full _ _ _ _ (answers (c .before) g k issued)
+    (c .if1 .left)
+    (acknowledge-after (row (c .before) g k issued) (p .2) q full (a .a) (a .b) _ _ _ _
+    (one (c .before) .seat .ensures .2) (other (c .before) .seat2 .ensures .2)
+    (c .before .before .before .before .before .before .before .pair .ensures) (c .before .before .lookup2 .ensures)
+    (p .1))
     (p .2) few refl
 
 pub acknowledge-spec : {M : Type 1} → statement M

@@ -27,13 +27,19 @@ abbrev own : tie.After-may-append → tie.After-seat
 own c = c .before .before .before
 
 abbrev row : tie.After-may-append → Registry → Controller → List ℕ → ℕ → Cluster
-row c g k joined issued = rowOf g k (entry c .args .views) joined (now (entry c .args .acked)) (now (entry c .args .len)) issued
+row c g k joined issued =
+    rowOf g k (entry c .args .views) joined (now (entry c .args .acked)) (now (entry c .args .len)) issued
 
 -- the checks, and what their 0 says
-answers : (c : tie.After-may-append) (g : Registry) (k : Controller) (joined : List ℕ) (issued : ℕ) → c .may-append .result ≡ answerOf (outlineOf (row c g k joined issued)) (append (entry c .args .b) (entry c .args .value))
-answers c g k joined issued = c .may-append .ensures ∙ append-answer (row c g k joined issued) (entry c .args .b) _ (own c .seat .ensures .2) (entry c .args .value) (c .before .before .view .ensures)
+answers : (c : tie.After-may-append) (g : Registry) (k : Controller) (joined : List ℕ) (issued : ℕ)
+    → c .may-append .result ≡ answerOf (outlineOf (row c g k joined issued))
+    (append (entry c .args .b) (entry c .args .value))
+answers c g k joined issued =
+    c .may-append .ensures ∙ append-answer (row c g k joined issued) (entry c .args .b) _ (own c .seat .ensures .2)
+    (entry c .args .value) (c .before .before .view .ensures)
 
-room : (c : tie.After-may-append) → c .may-append .result ≡ 0 → getD (now (entry c .args .len)) (own c .seat .result - 1) 0 < 512
+room : (c : tie.After-may-append) → c .may-append .result ≡ 0
+    → getD (now (entry c .args .len)) (own c .seat .result - 1) 0 < 512
 room c e = append-room (c .before .before .view .result) _ (entry c .args .b) (c .may-append .ensures) e
 
 seat-requires : tie.Need-seat-requires
@@ -59,10 +65,12 @@ may-append-requires c κs = search needs
 
 returns : tie.Need-returns
 returns c g k joined issued list few full =
-    turns-refused (row (c .before) g k joined issued) (entry (c .before) .pre .1) few _ full _ _ (answers (c .before) g k joined issued) (c .if1 .taken)
+    turns-refused (row (c .before) g k joined issued) (entry (c .before) .pre .1) few _ full _ _
+    (answers (c .before) g k joined issued) (c .if1 .taken)
 
 append-entry-requires : tie.Need-append-entry-requires
-append-entry-requires c κs = (entry (c .before .before) .pre .2, search needs, search needs, room (c .before .before) (c .before .if1 .left))
+append-entry-requires c κs =
+    (entry (c .before .before) .pre .2, search needs, search needs, room (c .before .before) (c .before .if1 .left))
 
 add-m : tie.Need-add-m
 add-m c = fits-next (room (c .before .before .before .before .before) (c .before .before .before .before .if1 .left))
@@ -104,7 +112,8 @@ returns-2 c g k joined issued list few full =
     turns-accepted r (p .1) few _ full _ _ _ _ e z
     (append-after r (p .1) _ full (a .b) (a .value) _ (h .2) (p .0) _ s)
     (len-short (now (a .len)) (p .1) _ _ (h .0) (h .1) (omega (arith, room d z))) few
-    (ap (λ x. lent x list) (s ∙ ap (λ x. set (now (a .store)) x (a .value)) (append-place r (a .b) (a .value) _ (h .2) (zero-accepted (outlineOf r) (append (a .b) (a .value)) (sym e ∙ z)))))
+    (ap (λ x. lent x list) (s ∙ ap (λ x. set (now (a .store)) x (a .value))
+    (append-place r (a .b) (a .value) _ (h .2) (zero-accepted (outlineOf r) (append (a .b) (a .value)) (sym e ∙ z)))))
 
 pub append-spec : {M : Type 1} → statement M
 append-spec =

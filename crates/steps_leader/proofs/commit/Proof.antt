@@ -27,11 +27,16 @@ abbrev own : tie.After-may-commit → tie.After-seat
 own c = c .before .before .before .before
 
 abbrev row : tie.After-may-commit → Registry → Controller → List ℕ → Cluster
-row c g k joined = rowOf g k (entry c .args .views) joined (now (entry c .args .acked)) (now (entry c .args .len)) (entry c .args .issued)
+row c g k joined =
+    rowOf g k (entry c .args .views) joined (now (entry c .args .acked)) (now (entry c .args .len))
+    (entry c .args .issued)
 
 -- the checks, and what their 0 says
-answers : (c : tie.After-may-commit) (g : Registry) (k : Controller) (joined : List ℕ) → c .may-commit .result ≡ answerOf (outlineOf (row c g k joined)) (commit (entry c .args .b))
-answers c g k joined = c .may-commit .ensures ∙ commit-answer (row c g k joined) (entry c .args .b) _ (own c .seat .ensures .2) _ (c .before .before .before .view .ensures) (c .before .before .lookup .ensures) (c .before .counted .ensures)
+answers : (c : tie.After-may-commit) (g : Registry) (k : Controller) (joined : List ℕ) → c .may-commit .result
+    ≡ answerOf (outlineOf (row c g k joined)) (commit (entry c .args .b))
+answers c g k joined =
+    c .may-commit .ensures ∙ commit-answer (row c g k joined) (entry c .args .b) _ (own c .seat .ensures .2) _
+    (c .before .before .before .view .ensures) (c .before .before .lookup .ensures) (c .before .counted .ensures)
 
 room : (c : tie.After-may-commit) → c .may-commit .result ≡ 0 → entry c .args .issued < 512
 room c e =
@@ -39,7 +44,8 @@ room c e =
     let n = c .before .before .lookup in
     omega (
       arith,
-      commit-room (c .before .before .before .view .result) (n .result) (a .issued) (c .before .counted .result) (a .b) (c .may-commit .ensures) e,
+      commit-room (c .before .before .before .view .result) (n .result) (a .issued) (c .before .counted .result) (a .b)
+          (c .may-commit .ensures) e,
       n .ensures,
       short-at (now (a .len)) (own c .seat .result) (entry c .pre .2) (own c .seat .ensures .0),
     )
@@ -62,7 +68,8 @@ may-commit-requires c κs = search needs
 returns : tie.Need-returns
 returns c g k joined =
     let p = entry (c .before) .pre in
-    turns-refused (row (c .before) g k joined) (p .2) (p .0) _ (p .3) _ _ (answers (c .before) g k joined) (c .if1 .taken)
+    turns-refused (row (c .before) g k joined) (p .2) (p .0) _ (p .3) _ _ (answers (c .before) g k joined)
+    (c .if1 .taken)
 
 entry-requires : tie.Need-entry-requires
 entry-requires c κs =
@@ -70,7 +77,10 @@ entry-requires c κs =
     (entry (c .before) .pre .3 .store, h .0, h .1, room (c .before) (c .if1 .left))
 
 commit-requires : tie.Need-commit-requires
-commit-requires c κs = subst (λ n. entry (c .before .before .before) .args .issued < n) (sym (entry (c .before .before .before) .pre .3 .list)) (room (c .before .before .before) (c .before .before .if1 .left))
+commit-requires c κs =
+    subst (λ n. entry (c .before .before .before) .args .issued < n)
+    (sym (entry (c .before .before .before) .pre .3 .list))
+    (room (c .before .before .before) (c .before .before .if1 .left))
 
 add-t18 : tie.Need-add-t18
 add-t18 c = search needs
@@ -86,7 +96,11 @@ returns-2 c g k joined =
     let p = entry d .pre in
     let e = answers d g k joined in
     let r = row d g k joined in
-    let l = c .before .before .commit .ensures ∙ ap (set (now (a .list)) (a .issued)) (c .before .before .before .before .entry .ensures ∙ commit-entry r (a .b) _ (own d .seat .ensures .2) (now (a .store)) (zero-accepted (outlineOf r) (commit (a .b)) (sym e ∙ z))) in
+    let l = c .before .before .commit .ensures
+    ∙ ap (set (now (a .list)) (a .issued))
+    (c .before .before .before .before .entry .ensures
+    ∙ commit-entry r (a .b) _ (own d .seat .ensures .2) (now (a .store))
+    (zero-accepted (outlineOf r) (commit (a .b)) (sym e ∙ z))) in
     let n = room d z in
     turns-accepted r (p .2) (p .0) _ (p .3) _ _ _ _ e z
     (commit-after r (p .2) _ (p .3) (a .b) _ l n) (p .2) (omega (arith, n)) (ap (lent (now (a .store))) l)

@@ -46,8 +46,13 @@ loop-again : tie.Need-loop-again Inv-loop μ-loop
 loop-again c =
     let l = c .before .before .before .before .loop in
     let a = c .before .before .before .before .before .before .args in
-    let e = c .put .ensures ∙ ap (λ i. upd (bits (l .q)) (l .x) (ltb (a .n) (getD (now (a .acked)) i 0))) (c .before .before .pair .ensures) in
-    (search needs, search needs, counted-more (now (a .acked)) (a .b) (a .n) (l .x) (l .q) _ (search needs) (search needs) (l .inv .0) (search needs) (l .inv .2) e)
+    let e = c .put .ensures ∙ ap (λ i. upd (bits (l .q)) (l .x) (ltb (a .n) (getD (now (a .acked)) i 0)))
+    (c .before .before .pair .ensures) in (
+      search needs,
+      search needs,
+      counted-more (now (a .acked)) (a .b) (a .n) (l .x) (l .q) _ (search needs)
+          (search needs) (l .inv .0) (search needs) (l .inv .2) e,
+    )
 
 returns : tie.Need-returns Inv-loop μ-loop
 returns c =

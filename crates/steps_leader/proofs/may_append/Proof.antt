@@ -17,7 +17,12 @@ check-requires-3 : tie.Need-check-requires-3
 check-requires-3 c κs = search needs
 
 returns : tie.Need-returns
-returns c = c .check3 .ensures ∙ rw (c .before .replica .ensures, c .before .before .check2 .ensures, c .before .before .before .before .check .ensures)
+returns c =
+    c .check3 .ensures ∙ rw (
+      c .before .replica .ensures,
+      c .before .before .check2 .ensures,
+      c .before .before .before .before .check .ensures,
+    )
 
 pub may-append-spec : {M : Type 1} → statement M
 may-append-spec = tie.close (tie.spec check-requires check-requires-2 replica-requires check-requires-3 returns)

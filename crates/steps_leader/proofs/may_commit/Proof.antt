@@ -23,7 +23,14 @@ check-requires-4 : tie.Need-check-requires-4
 check-requires-4 c κs = search needs
 
 returns : tie.Need-returns
-returns c = c .check4 .ensures ∙ rw (c .before .replica .ensures, c .before .before .check3 .ensures, c .before .before .before .before .check2 .ensures, c .before .before .before .before .before .check .ensures, c .before .before .before .before .before .before .has-quorum .ensures)
+returns c =
+    c .check4 .ensures ∙ rw (
+      c .before .replica .ensures,
+      c .before .before .check3 .ensures,
+      c .before .before .before .before .check2 .ensures,
+      c .before .before .before .before .before .check .ensures,
+      c .before .before .before .before .before .before .has-quorum .ensures,
+    )
 
 pub may-commit-spec : {M : Type 1} → statement M
 may-commit-spec =

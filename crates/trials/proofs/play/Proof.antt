@@ -10,7 +10,8 @@ use Rattle.trials.proofs.play.Lts as lts
 use Rattle.trials.proofs.tell.Reads as tell-reads
 
 abbrev Inv-loop : tie.InvT-loop
-Inv-loop store₀ list₀ sheet now₀ i₀ store list now i = (i ≤ length sheet) × (length store ≡ length store₀) × (length list ≡ length list₀)
+Inv-loop store₀ list₀ sheet now₀ i₀ store list now i =
+    (i ≤ length sheet) × (length store ≡ length store₀) × (length list ≡ length list₀)
 
 abbrev μ-loop : tie.MeasureT-loop
 μ-loop store₀ list₀ sheet now₀ i₀ store list now i = length sheet - i

@@ -10,7 +10,8 @@ use Rattle.trials.proofs.turns.Lts as lts
 use Rattle.steps.proofs.step.Reads as step-reads
 
 abbrev Inv-loop : tie.InvT-loop
-Inv-loop store₀ list₀ a b times now₀ i₀ store list now i = (i ≤ times) × (length store ≡ length store₀) × (length list ≡ length list₀)
+Inv-loop store₀ list₀ a b times now₀ i₀ store list now i =
+    (i ≤ times) × (length store ≡ length store₀) × (length list ≡ length list₀)
 
 abbrev μ-loop : tie.MeasureT-loop
 μ-loop store₀ list₀ a b times now₀ i₀ store list now i = times - i

@@ -25,7 +25,9 @@ returns : tie.Need-returns
 returns c =
     let a = c .before .before .before .before .before .args in
     let ok = c .before .before .before .before .news .ensures in
-    lends refreshController (λ s. refl) (a .c) (λ s. s .registry ≡ registryOf (a .g)) _ _ (c .before .before .before .refresh-controller .ensures) refl (registryFits (a .g) && controllerFits (a .c)) (λ s. s .registry ≡ registryOf (a .g))
+    lends refreshController (λ s. refl) (a .c) (λ s. s .registry ≡ registryOf (a .g)) _ _
+    (c .before .before .before .refresh-controller .ensures) refl (registryFits (a .g) && controllerFits (a .c))
+    (λ s. s .registry ≡ registryOf (a .g))
     (λ s t k. k) _ (c .before .check .ensures ∙ rw ok) _ (c .ended .ensures .0) (c .ended .ensures .1)
 
 pub refresh-controller-spec : {M : Type 1} → statement M

@@ -23,7 +23,12 @@ both-requires-2 c κs = search needs
 returns : tie.Need-returns
 returns c =
     c .both2 .ensures
-    ∙ rw (c .before .view .ensures, c .before .before .both .ensures, c .before .before .before .before .reads .ensures, c .before .before .before .hearings .ensures)
+    ∙ rw (
+      c .before .view .ensures,
+      c .before .before .both .ensures,
+      c .before .before .before .before .reads .ensures,
+      c .before .before .before .hearings .ensures,
+    )
     (controller-fits (c .before .before .before .before .before .before .before .before .args .c))
 
 pub controller-spec : {M : Type 1} → statement M

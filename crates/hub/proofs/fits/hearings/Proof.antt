@@ -1,4 +1,5 @@
--- `hub::fits::hearings` meets its contract. The loop's invariant: ok is the tests of the boards above b. Assumes nothing.
+-- `hub::fits::hearings` meets its contract. The loop's invariant: ok is the tests of the boards above b. Assumes
+-- nothing.
 use mathlib.Core.Bool.{and-true}
 use mathlib.Core.List.{[], _∷_}
 use mathlib.Core.Path.{_≡_, _∙_}
@@ -14,7 +15,8 @@ use Rattle.hub.proofs.fits.hearings.Statement.{statement}
 use Rattle.hub.proofs.fits.hearings.Tie as tie
 
 abbrev Inv-loop : tie.InvT-loop
-Inv-loop heard joined ok₀ b₀ ok b = (b ≤ 8) × (ok ≡ rest (λ x. every (leb (at 0 heard x) 513 ∷ leb (at 0 joined x) 4000 ∷ [])) b)
+Inv-loop heard joined ok₀ b₀ ok b =
+    (b ≤ 8) × (ok ≡ rest (λ x. every (leb (at 0 heard x) 513 ∷ leb (at 0 joined x) 4000 ∷ [])) b)
 
 abbrev μ-loop : tie.MeasureT-loop
 μ-loop heard joined ok₀ b₀ ok b = b
@@ -54,8 +56,11 @@ loop-again c =
     let a = c .before .before .before .before .args in
     let l = c .before .before .before .loop in
     let h = at-index 0 (a .t1) (l .b) (search needs) in
-    let j = at-index 0 (a .t2) (l .b) (search needs) in
-    (search needs, rest-more _ (l .b) _ (l .inv .1) _ (search needs) (search needs) (c .both2 .ensures ∙ rw (c .before .both .ensures, h, j, and-true (leb (getD (a .t2) (l .b - 1) 0) 4000))))
+    let j = at-index 0 (a .t2) (l .b) (search needs) in (
+      search needs,
+      rest-more _ (l .b) _ (l .inv .1) _ (search needs) (search needs)
+          (c .both2 .ensures ∙ rw (c .before .both .ensures, h, j, and-true (leb (getD (a .t2) (l .b - 1) 0) 4000))),
+    )
 
 returns : tie.Need-returns Inv-loop μ-loop
 returns c = rest-all _ _ _ (c .before .loop .inv .1) (c .loop-test .left)

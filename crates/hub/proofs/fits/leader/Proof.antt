@@ -17,7 +17,12 @@ both-requires : tie.Need-both-requires
 both-requires c κs = search needs
 
 returns : tie.Need-returns
-returns c = c .both .ensures ∙ rw (c .before .report .ensures, c .before .before .either .ensures, c .before .before .before .before .before .number .ensures) refl
+returns c =
+    c .both .ensures ∙ rw (
+      c .before .report .ensures,
+      c .before .before .either .ensures,
+      c .before .before .before .before .before .number .ensures,
+    ) refl
 
 pub leader-spec : {M : Type 1} → statement M
 leader-spec =

@@ -15,7 +15,9 @@ both-requires : tie.Need-both-requires
 both-requires c κs = search needs
 
 returns : tie.Need-returns
-returns c = c .both .ensures ∙ rw (c .before .before .view .ensures, c .before .named .ensures) (registry-fits (c .before .before .before .before .args .g))
+returns c =
+    c .both .ensures ∙ rw (c .before .before .view .ensures, c .before .named .ensures)
+    (registry-fits (c .before .before .before .before .args .g))
 
 pub registry-spec : {M : Type 1} → statement M
 registry-spec = tie.close (tie.spec view-requires named-requires both-requires returns)

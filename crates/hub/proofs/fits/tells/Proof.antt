@@ -27,7 +27,14 @@ both-requires-3 c κs = search needs
 returns : tie.Need-returns
 returns c =
     c .both3 .ensures
-    ∙ rw (c .before .replica .ensures, c .before .before .both2 .ensures, c .before .before .before .epoch2 .ensures, c .before .before .before .before .both .ensures, c .before .before .before .before .before .before .epoch .ensures, and-true (leb (c .before .before .before .before .before .before .before .args .x .len) 512))
+    ∙ rw (
+      c .before .replica .ensures,
+      c .before .before .both2 .ensures,
+      c .before .before .before .epoch2 .ensures,
+      c .before .before .before .before .both .ensures,
+      c .before .before .before .before .before .before .epoch .ensures,
+      and-true (leb (c .before .before .before .before .before .before .before .args .x .len) 512),
+    )
 
 pub tells-spec : {M : Type 1} → statement M
 tells-spec =
