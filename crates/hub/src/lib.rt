@@ -1,3 +1,7 @@
+// The controller's steps over its record as the hub lends it: news (10), read leader (11), read (12), hear (14). Bad
+// input is refused with 1. Each copies the record out, calls the function of `copied` with it and stores what that
+// leaves.
+
 ghost use Rattle.hub.specs.Lent.{TakesNews, ReadsLeader, Reads, Hears};
 ghost use Rattle.hub.specs.Whole.{PutBack, LinksSafe};
 use cluster::Controller;
@@ -5,10 +9,6 @@ use cluster::Registry;
 
 pub mod copied;
 mod fits;
-
-// The controller's steps over its record as the hub lends it: news (10), read leader (11), read (12), hear (14). Bad
-// input is refused with 1. Each copies the record out, calls the function of `copied` with it and stores what that
-// leaves.
 
 // What a board tells of itself: its number, its epoch, its joined epoch, the length of its log. Each must be in range,
 // also one that the step does not use.

@@ -1,10 +1,13 @@
+// What is proved of the rules of document 01 alone. Nothing here is to be run: each function is the carrier of a statement, which is
+// its promise.
+
 ghost use Rattle.model.specs.Claim.{DemandThree};
 ghost use Rattle.model.specs.Majority.{Majorities};
 ghost use Rattle.model.specs.Ranges.{RunsInRange};
 ghost use Rattle.model.specs.Records.{Forms};
 ghost use Rattle.model.specs.Trials.{TrialsHold, OthersHold};
 
-// Demand 3, for every opening and every list of records. Nothing to run: the promise is the statement.
+// Demand 3, for every opening and every list of steps.
 pub fn claim()
     ensures { λ r. ⌜ DemandThree ⌝ }
 {}
@@ -24,7 +27,8 @@ pub fn records()
     ensures { λ r. ⌜ Forms ⌝ }
 {}
 
-// The trials of document 01 hold of the definitions: P1 to P9, and the three longer ones.
+// The trials of document 01 hold of the definitions: P1 to P9, the three longer ones, and
+// two that have every answer of steps 7 and 8.
 pub fn trials()
     ensures { λ r. ⌜ TrialsHold × OthersHold ⌝ }
 {}

@@ -1,11 +1,11 @@
+// A row with the lent places, as a state of the model: definitions and laws, and how a replica's part is read. Inner
+// layer: callers see to it that k is a replica, 1 to 8.
+
 ghost use mathlib.Core.Path.{_≡_};
 ghost use Prim.Native.Nat.{_-_, _≤_};
 ghost use lib.ListN.{length, getD};
 ghost use Rattle.cluster.specs.Layout.{noView};
 use cluster::View;
-
-// A row with the lent places, as a state of the model: definitions and laws, and how a replica's part is read. Inner
-// layer: callers see to it that k is a replica, 1 to 8.
 
 // The view of the replica k. Inner layer: callers see to k.
 pub fn view(views: [View; 8], k: u8) -> View

@@ -41,8 +41,8 @@ fn refused(row: Cluster) -> Outcome
 // The step of a record, of a row by value. Callers see to refusal 1 of the row and of the lent lengths.
 fn turn(row: Cluster, store: &mut [u32], list: &mut [u32], r: Record) -> Outcome
     requires { ⌜ Ready row × Full (lent (now store) (now list)) ⌝ }
-    ensures { λ x. ⌜ Turns (R.stepOf (recordOf r)) row (lent (now (store .entry)) (now (list .entry))) x
-        (lent (now (store .exit)) (now (list .exit))) ⌝ }
+    ensures { λ x. ⌜ Turns (R.stepOf (recordOf r)) row (lent (now (store .entry)) (now (list .entry)))
+        x (lent (now (store .exit)) (now (list .exit))) ⌝ }
 {
     let g = row.registry;
     let c = row.controller;
@@ -84,8 +84,8 @@ fn turn(row: Cluster, store: &mut [u32], list: &mut [u32], r: Record) -> Outcome
 
 // Any record: refusal 1 first, then its step.
 pub fn step(row: Cluster, store: &mut [u32], list: &mut [u32], r: Record) -> Outcome
-    ensures { λ x. ⌜ Did (R.stepOf (recordOf r)) row (lent (now (store .entry)) (now (list .entry))) x
-        (lent (now (store .exit)) (now (list .exit))) ⌝ }
+    ensures { λ x. ⌜ Did (R.stepOf (recordOf r)) row (lent (now (store .entry)) (now (list .entry)))
+        x (lent (now (store .exit)) (now (list .exit))) ⌝ }
 {
     if !fits(row, &*store, &*list) {
         return refused(row);
@@ -105,8 +105,8 @@ pub fn opening(b: u8) -> Outcome
 
 // Step 1, b appends the value.
 pub fn append(row: Cluster, store: &mut [u32], list: &mut [u32], b: u8, value: u32) -> Outcome
-    ensures { λ x. ⌜ Did (T.Step.append b value) row (lent (now (store .entry)) (now (list .entry))) x
-        (lent (now (store .exit)) (now (list .exit))) ⌝ }
+    ensures { λ x. ⌜ Did (T.Step.append b value) row (lent (now (store .entry)) (now (list .entry)))
+        x (lent (now (store .exit)) (now (list .exit))) ⌝ }
 {
     step(
         row,
@@ -124,8 +124,8 @@ pub fn append(row: Cluster, store: &mut [u32], list: &mut [u32], b: u8, value: u
 
 // Step 2, a receipt by b.
 pub fn commit(row: Cluster, store: &mut [u32], list: &mut [u32], b: u8) -> Outcome
-    ensures { λ x. ⌜ Did (T.Step.commit b) row (lent (now (store .entry)) (now (list .entry))) x
-        (lent (now (store .exit)) (now (list .exit))) ⌝ }
+    ensures { λ x. ⌜ Did (T.Step.commit b) row (lent (now (store .entry)) (now (list .entry)))
+        x (lent (now (store .exit)) (now (list .exit))) ⌝ }
 {
     step(
         row,
@@ -143,8 +143,8 @@ pub fn commit(row: Cluster, store: &mut [u32], list: &mut [u32], b: u8) -> Outco
 
 // Step 3, add b.
 pub fn add(row: Cluster, store: &mut [u32], list: &mut [u32], b: u8) -> Outcome
-    ensures { λ x. ⌜ Did (T.Step.add b) row (lent (now (store .entry)) (now (list .entry))) x
-        (lent (now (store .exit)) (now (list .exit))) ⌝ }
+    ensures { λ x. ⌜ Did (T.Step.add b) row (lent (now (store .entry)) (now (list .entry)))
+        x (lent (now (store .exit)) (now (list .exit))) ⌝ }
 {
     step(
         row,
@@ -162,8 +162,8 @@ pub fn add(row: Cluster, store: &mut [u32], list: &mut [u32], b: u8) -> Outcome
 
 // Step 4, remove b.
 pub fn remove(row: Cluster, store: &mut [u32], list: &mut [u32], b: u8) -> Outcome
-    ensures { λ x. ⌜ Did (T.Step.remove b) row (lent (now (store .entry)) (now (list .entry))) x
-        (lent (now (store .exit)) (now (list .exit))) ⌝ }
+    ensures { λ x. ⌜ Did (T.Step.remove b) row (lent (now (store .entry)) (now (list .entry)))
+        x (lent (now (store .exit)) (now (list .exit))) ⌝ }
 {
     step(
         row,
@@ -181,8 +181,8 @@ pub fn remove(row: Cluster, store: &mut [u32], list: &mut [u32], b: u8) -> Outco
 
 // Step 5, change leader.
 pub fn change(row: Cluster, store: &mut [u32], list: &mut [u32]) -> Outcome
-    ensures { λ x. ⌜ Did T.Step.changeLeader row (lent (now (store .entry)) (now (list .entry))) x
-        (lent (now (store .exit)) (now (list .exit))) ⌝ }
+    ensures { λ x. ⌜ Did T.Step.changeLeader row (lent (now (store .entry)) (now (list .entry)))
+        x (lent (now (store .exit)) (now (list .exit))) ⌝ }
 {
     step(
         row,
@@ -200,8 +200,8 @@ pub fn change(row: Cluster, store: &mut [u32], list: &mut [u32]) -> Outcome
 
 // Step 6, b takes news.
 pub fn refresh(row: Cluster, store: &mut [u32], list: &mut [u32], b: u8) -> Outcome
-    ensures { λ x. ⌜ Did (T.Step.refresh b) row (lent (now (store .entry)) (now (list .entry))) x
-        (lent (now (store .exit)) (now (list .exit))) ⌝ }
+    ensures { λ x. ⌜ Did (T.Step.refresh b) row (lent (now (store .entry)) (now (list .entry)))
+        x (lent (now (store .exit)) (now (list .exit))) ⌝ }
 {
     step(
         row,
@@ -219,8 +219,8 @@ pub fn refresh(row: Cluster, store: &mut [u32], list: &mut [u32], b: u8) -> Outc
 
 // Step 7, b joins.
 pub fn join(row: Cluster, store: &mut [u32], list: &mut [u32], b: u8) -> Outcome
-    ensures { λ x. ⌜ Did (T.Step.join b) row (lent (now (store .entry)) (now (list .entry))) x
-        (lent (now (store .exit)) (now (list .exit))) ⌝ }
+    ensures { λ x. ⌜ Did (T.Step.join b) row (lent (now (store .entry)) (now (list .entry)))
+        x (lent (now (store .exit)) (now (list .exit))) ⌝ }
 {
     step(
         row,
@@ -238,8 +238,8 @@ pub fn join(row: Cluster, store: &mut [u32], list: &mut [u32], b: u8) -> Outcome
 
 // Step 8, b receives.
 pub fn receive(row: Cluster, store: &mut [u32], list: &mut [u32], b: u8) -> Outcome
-    ensures { λ x. ⌜ Did (T.Step.receive b) row (lent (now (store .entry)) (now (list .entry))) x
-        (lent (now (store .exit)) (now (list .exit))) ⌝ }
+    ensures { λ x. ⌜ Did (T.Step.receive b) row (lent (now (store .entry)) (now (list .entry)))
+        x (lent (now (store .exit)) (now (list .exit))) ⌝ }
 {
     step(
         row,
@@ -257,8 +257,8 @@ pub fn receive(row: Cluster, store: &mut [u32], list: &mut [u32], b: u8) -> Outc
 
 // Step 9, the leader a counts b.
 pub fn acknowledge(row: Cluster, store: &mut [u32], list: &mut [u32], a: u8, b: u8) -> Outcome
-    ensures { λ x. ⌜ Did (T.Step.acknowledge a b) row (lent (now (store .entry)) (now (list .entry))) x
-        (lent (now (store .exit)) (now (list .exit))) ⌝ }
+    ensures { λ x. ⌜ Did (T.Step.acknowledge a b) row (lent (now (store .entry)) (now (list .entry)))
+        x (lent (now (store .exit)) (now (list .exit))) ⌝ }
 {
     step(
         row,
@@ -276,8 +276,8 @@ pub fn acknowledge(row: Cluster, store: &mut [u32], list: &mut [u32], a: u8, b: 
 
 // Step 10, the controller takes news.
 pub fn refresh_controller(row: Cluster, store: &mut [u32], list: &mut [u32]) -> Outcome
-    ensures { λ x. ⌜ Did T.Step.refreshController row (lent (now (store .entry)) (now (list .entry))) x
-        (lent (now (store .exit)) (now (list .exit))) ⌝ }
+    ensures { λ x. ⌜ Did T.Step.refreshController row (lent (now (store .entry)) (now (list .entry)))
+        x (lent (now (store .exit)) (now (list .exit))) ⌝ }
 {
     step(
         row,
@@ -295,8 +295,8 @@ pub fn refresh_controller(row: Cluster, store: &mut [u32], list: &mut [u32]) -> 
 
 // Step 11, the controller reads its leader.
 pub fn read_leader(row: Cluster, store: &mut [u32], list: &mut [u32]) -> Outcome
-    ensures { λ x. ⌜ Did T.Step.readLeader row (lent (now (store .entry)) (now (list .entry))) x
-        (lent (now (store .exit)) (now (list .exit))) ⌝ }
+    ensures { λ x. ⌜ Did T.Step.readLeader row (lent (now (store .entry)) (now (list .entry)))
+        x (lent (now (store .exit)) (now (list .exit))) ⌝ }
 {
     step(
         row,
@@ -314,8 +314,8 @@ pub fn read_leader(row: Cluster, store: &mut [u32], list: &mut [u32]) -> Outcome
 
 // Step 12, the controller reads b.
 pub fn read(row: Cluster, store: &mut [u32], list: &mut [u32], b: u8) -> Outcome
-    ensures { λ x. ⌜ Did (T.Step.read b) row (lent (now (store .entry)) (now (list .entry))) x
-        (lent (now (store .exit)) (now (list .exit))) ⌝ }
+    ensures { λ x. ⌜ Did (T.Step.read b) row (lent (now (store .entry)) (now (list .entry)))
+        x (lent (now (store .exit)) (now (list .exit))) ⌝ }
 {
     step(
         row,
@@ -333,8 +333,8 @@ pub fn read(row: Cluster, store: &mut [u32], list: &mut [u32], b: u8) -> Outcome
 
 // Step 13, set normal.
 pub fn set_normal(row: Cluster, store: &mut [u32], list: &mut [u32]) -> Outcome
-    ensures { λ x. ⌜ Did T.Step.setNormal row (lent (now (store .entry)) (now (list .entry))) x
-        (lent (now (store .exit)) (now (list .exit))) ⌝ }
+    ensures { λ x. ⌜ Did T.Step.setNormal row (lent (now (store .entry)) (now (list .entry)))
+        x (lent (now (store .exit)) (now (list .exit))) ⌝ }
 {
     step(
         row,
@@ -352,8 +352,8 @@ pub fn set_normal(row: Cluster, store: &mut [u32], list: &mut [u32]) -> Outcome
 
 // Step 14, the controller hears b.
 pub fn hear(row: Cluster, store: &mut [u32], list: &mut [u32], b: u8) -> Outcome
-    ensures { λ x. ⌜ Did (T.Step.hear b) row (lent (now (store .entry)) (now (list .entry))) x
-        (lent (now (store .exit)) (now (list .exit))) ⌝ }
+    ensures { λ x. ⌜ Did (T.Step.hear b) row (lent (now (store .entry)) (now (list .entry)))
+        x (lent (now (store .exit)) (now (list .exit))) ⌝ }
 {
     step(
         row,
@@ -371,8 +371,8 @@ pub fn hear(row: Cluster, store: &mut [u32], list: &mut [u32], b: u8) -> Outcome
 
 // Step 15, install b.
 pub fn install(row: Cluster, store: &mut [u32], list: &mut [u32], b: u8) -> Outcome
-    ensures { λ x. ⌜ Did (T.Step.install b) row (lent (now (store .entry)) (now (list .entry))) x
-        (lent (now (store .exit)) (now (list .exit))) ⌝ }
+    ensures { λ x. ⌜ Did (T.Step.install b) row (lent (now (store .entry)) (now (list .entry)))
+        x (lent (now (store .exit)) (now (list .exit))) ⌝ }
 {
     step(
         row,

@@ -1,3 +1,9 @@
+// The opening, and the steps of the registry and the controller: add (3), remove (4), change leader (5), controller
+// news (10), read leader (11), read (12), set normal (13), hear (14), install (15), over the two and the parts of a row
+// that they look at. Each promise is for every row with these parts, logs of at most 512 entries, at most 512 receipts
+// and lent places of their lengths. Inner layer: callers see to it that the lent places have their lengths and that no
+// log is longer than 512. A refused step of a part gives that part back, so no step here tests the answer.
+
 ghost use mathlib.Core.Path.{_≡_};
 ghost use mathlib.Core.List.{List};
 ghost use Prim.Native.Nat.{ℕ, _≤_};
@@ -18,12 +24,6 @@ use cluster::View;
 use cluster::check;
 use cluster::replica;
 use cluster::seat;
-
-// The opening, and the steps of the registry and the controller: add (3), remove (4), change leader (5), controller
-// news (10), read leader (11), read (12), set normal (13), hear (14), install (15), over the two and the parts of a row
-// that they look at. Each promise is for every row with these parts, logs of at most 512 entries, at most 512 receipts
-// and lent places of their lengths. Inner layer: callers see to it that the lent places have their lengths and that no
-// log is longer than 512. A refused step of a part gives that part back, so no step here tests the answer.
 
 // The row opened with the replica b.
 fn opened(b: u8) -> Cluster

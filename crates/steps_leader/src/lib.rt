@@ -1,3 +1,8 @@
+// The steps of a leader: append (1), commit (2), acknowledge (9), over the parts of a row that they use: the replicas'
+// views by value; their joined epochs, counts and lengths, the store and the list lent. Each promise is for every row
+// with these parts, at most 512 receipts and lent places of their lengths. Inner layer: callers see to it that the lent
+// places have their lengths and that no log is longer than 512.
+
 ghost use mathlib.Core.Path.{_≡_};
 ghost use mathlib.Core.Bool.{not, _&&_};
 ghost use mathlib.Core.List.{List};
@@ -19,11 +24,6 @@ use cluster::replica;
 use cluster::seat;
 use refinement::lookup;
 use refinement::view;
-
-// The steps of a leader: append (1), commit (2), acknowledge (9), over the parts of a row that they use: the replicas'
-// views by value; their joined epochs, counts and lengths, the store and the list lent. Each promise is for every row
-// with these parts, at most 512 receipts and lent places of their lengths. Inner layer: callers see to it that the lent
-// places have their lengths and that no log is longer than 512.
 
 // What step 2 answers, and the number of receipts it leaves.
 pub struct Given {
