@@ -1,0 +1,3 @@
+mod lend;
+
+fn main() {}
