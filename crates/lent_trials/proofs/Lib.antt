@@ -1,1 +1,2 @@
+pub mod Linking
 pub mod Walk

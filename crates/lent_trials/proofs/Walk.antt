@@ -43,7 +43,7 @@ use denote.Triple.Call.{calls-at}
 use denote.Triple.Clauses.{Ended, Clauses, Lasts, ensured, lasts, closing}
 use denote.Triple.Table.{entered, cited}
 use denote.Triple.Walked.{says, Stays, stay-none, walkOf, goes-none, Walks, ends-at, walked, walk-meets}
-use denote.Exit.{yes, Last}
+use denote.Exit.{yes}
 use Rattle.cluster.specs.declared.Controller.{Controller}
 use Rattle.cluster.specs.declared.Told.{Told}
 use Rattle.cluster.proofs.Controller as Ctl

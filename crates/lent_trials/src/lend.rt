@@ -38,3 +38,14 @@ pub fn read(mut c: Controller, x: Report) -> Told
         controller: c,
     }
 }
+
+// Step 14.
+pub fn hear(mut c: Controller, x: Report) -> Told
+    ensures { λ t. ⌜ Hears c x (t .answer) (t .controller) ⌝ }
+{
+    let n = hub::hear(&mut c, x);
+    Told {
+        answer: n,
+        controller: c,
+    }
+}
