@@ -20,51 +20,40 @@ fn show(n: u8) {
     io::write_all(1, &two);
 }
 
-fn wide(x: u8) -> u32 {
-    x as u32
-}
-
-// One record: its step, board, second board and value.
-fn turn(row: Cluster, store: &mut [u32], list: &mut [u32], r: [u8; 4]) -> Outcome {
-    let k = r[0];
-    let b = r[1];
-    let v = r[3];
-    match k {
-        10 => whole::refresh_controller(row),
-        11 => whole::read_leader(row),
-        12 => whole::read(row, cluster::seat(b)),
-        14 => whole::hear(row, cluster::seat(b)),
-        _ => steps::step(
-            row,
-            &mut *store,
-            &mut *list,
-            Record {
-                step: k,
-                board: b,
-                other: r[2],
-                spare: 0,
-                value: wide(v),
-            },
-        ),
+// A record in short: its step, a digit for its board, one for the second board, two for the value.
+fn record(n: u32) -> Record {
+    Record {
+        step: (n / 10000 % 16) as u8,
+        board: (n / 1000 % 10) as u8,
+        other: (n / 100 % 10) as u8,
+        spare: 0,
+        value: n % 100,
     }
 }
 
-// The row goes on, and the answer is shown.
-fn tell(row: Cluster, store: &mut [u32], list: &mut [u32], r: [u8; 4]) -> Cluster {
-    let x = turn(row, &mut *store, &mut *list, r);
-    show(x.answer);
-    x.row
+// One record: the controller's own steps over its record, all others by value.
+fn turn(row: Cluster, store: &mut [u32], list: &mut [u32], r: Record) -> Outcome {
+    let k = r.step;
+    let b = cluster::seat(r.board);
+    match k {
+        10 => whole::refresh_controller(row),
+        11 => whole::read_leader(row),
+        12 => whole::read(row, b),
+        14 => whole::hear(row, b),
+        _ => steps::step(row, &mut *store, &mut *list, r),
+    }
 }
 
-// Records in short, four bytes each: step, board, second board, value.
-fn play(row: Cluster, store: &mut [u32], list: &mut [u32], sheet: &[u8]) -> Cluster {
+// The records of a trial. The row goes on, and each answer is shown.
+fn play(row: Cluster, store: &mut [u32], list: &mut [u32], sheet: &[u32]) -> Cluster {
     let mut now = row;
     let mut i: usize = 0;
-    while i < sheet.len() / 4 {
-        let k = 4 * i;
+    while i < sheet.len() {
+        let n = sheet[i];
         i += 1;
-        let r = [sheet[k], sheet[k + 1], sheet[k + 2], sheet[k + 3]];
-        let next = tell(now, &mut *store, &mut *list, r);
+        let x = turn(now, &mut *store, &mut *list, record(n));
+        show(x.answer);
+        let next = x.row;
         now = next;
     }
     now
@@ -100,38 +89,17 @@ fn longer() {
     let mut list = [7u32; 512];
     io::write_all(1, b"P7 ");
     let p7 = [
-        3u8,
-        2,
-        0,
-        0,
-        5,
-        0,
-        0,
-        0,
-        11,
-        0,
-        0,
-        0,
-        10,
-        0,
-        0,
-        0,
-        11,
-        0,
-        0,
-        0,
-        6,
-        1,
-        0,
-        0,
-        11,
-        0,
-        0,
-        0,
+        3_2_0_00u32,
+        5_0_0_00,
+        11_0_0_00,
+        10_0_0_00,
+        11_0_0_00,
+        6_1_0_00,
+        11_0_0_00,
     ];
     let a = play(opened(), &mut store, &mut list, &p7);
     io::write_all(1, b"\nP8 ");
-    let p8 = [13u8, 0, 0, 0, 12, 2, 0, 0, 13, 0, 0, 0];
+    let p8 = [13_0_0_00u32, 12_2_0_00, 13_0_0_00];
     let b = play(a, &mut store, &mut list, &p8);
     epoch(b);
 }
@@ -142,117 +110,36 @@ fn four() {
     let mut list = [7u32; 512];
     io::write_all(1, b"\nfour ");
     let ready = [
-        3u8,
-        2,
-        0,
-        0,
-        3,
-        3,
-        0,
-        0,
-        3,
-        4,
-        0,
-        0,
-        10,
-        0,
-        0,
-        0,
-        6,
-        1,
-        0,
-        0,
-        11,
-        0,
-        0,
-        0,
-        12,
-        2,
-        0,
-        0,
-        12,
-        3,
-        0,
-        0,
-        13,
-        0,
-        0,
-        0,
-        6,
-        1,
-        0,
-        0,
-        6,
-        2,
-        0,
-        0,
-        6,
-        3,
-        0,
-        0,
-        6,
-        4,
-        0,
-        0,
+        3_2_0_00u32,
+        3_3_0_00,
+        3_4_0_00,
+        10_0_0_00,
+        6_1_0_00,
+        11_0_0_00,
+        12_2_0_00,
+        12_3_0_00,
+        13_0_0_00,
+        6_1_0_00,
+        6_2_0_00,
+        6_3_0_00,
+        6_4_0_00,
     ];
     let a = play(opened(), &mut store, &mut list, &ready);
     let rest = [
-        1u8,
-        1,
-        0,
-        41,
-        8,
-        4,
-        0,
-        0,
-        5,
-        0,
-        0,
-        0,
-        6,
-        2,
-        0,
-        0,
-        6,
-        3,
-        0,
-        0,
-        10,
-        0,
-        0,
-        0,
-        14,
-        2,
-        0,
-        0,
-        14,
-        3,
-        0,
-        0,
-        15,
-        2,
-        0,
-        0,
-        6,
-        2,
-        0,
-        0,
-        1,
-        2,
-        0,
-        42,
-        6,
-        4,
-        0,
-        0,
-        9,
-        2,
-        4,
-        0,
-        7,
-        4,
-        0,
-        0,
+        1_1_0_41u32,
+        8_4_0_00,
+        5_0_0_00,
+        6_2_0_00,
+        6_3_0_00,
+        10_0_0_00,
+        14_2_0_00,
+        14_3_0_00,
+        15_2_0_00,
+        6_2_0_00,
+        1_2_0_42,
+        6_4_0_00,
+        9_2_4_00,
+        7_4_0_00,
     ];
     let b = play(a, &mut store, &mut list, &rest);
     length(b);
