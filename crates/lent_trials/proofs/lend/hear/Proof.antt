@@ -12,4 +12,6 @@ use Rattle.lent_trials.proofs.lend.hear.Code as code
 pub hear-spec : {M : Type 1} → statement M
 unfolding code.routine
 hear-spec 𝓤 H 𝓜 𝓖 𝓡 =
-    met Rep.the-type Rep′.the-laws Rep′.the-plain Rep′.the-copy Hears 𝓤 H 𝓜 𝓖 𝓡 code.env key.name called.name (code.unfolded 𝓤 H 𝓜 𝓡) called.routine code.calls-hub·hear (thm.met 𝓤 H 𝓜 𝓖 𝓡)
+    met Rep.the-type Rep′.the-laws Rep′.the-plain Rep′.the-copy Hears 𝓤 H 𝓜 𝓖 𝓡
+    code.env key.name called.name (code.unfolded 𝓤 H 𝓜 𝓡) called.routine
+    code.calls-hub·hear (thm.met 𝓤 H 𝓜 𝓖 𝓡)

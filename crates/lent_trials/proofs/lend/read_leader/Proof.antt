@@ -12,4 +12,6 @@ use Rattle.lent_trials.proofs.lend.read_leader.Code as code
 pub read-leader-spec : {M : Type 1} → statement M
 unfolding code.routine
 read-leader-spec 𝓤 H 𝓜 𝓖 𝓡 =
-    met Rep.the-type Rep′.the-laws Rep′.the-plain Rep′.the-copy ReadsLeader 𝓤 H 𝓜 𝓖 𝓡 code.env key.name called.name (code.unfolded 𝓤 H 𝓜 𝓡) called.routine code.calls-hub·read-leader (thm.met 𝓤 H 𝓜 𝓖 𝓡)
+    met Rep.the-type Rep′.the-laws Rep′.the-plain Rep′.the-copy ReadsLeader 𝓤 H 𝓜 𝓖 𝓡
+    code.env key.name called.name (code.unfolded 𝓤 H 𝓜 𝓡) called.routine
+    code.calls-hub·read-leader (thm.met 𝓤 H 𝓜 𝓖 𝓡)

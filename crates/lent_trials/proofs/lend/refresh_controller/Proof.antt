@@ -12,4 +12,6 @@ use Rattle.lent_trials.proofs.lend.refresh_controller.Code as code
 pub refresh-controller-spec : {M : Type 1} → statement M
 unfolding code.routine
 refresh-controller-spec 𝓤 H 𝓜 𝓖 𝓡 =
-    met Reg.the-type Reg′.the-laws Reg′.the-plain Reg′.the-copy TakesNews 𝓤 H 𝓜 𝓖 𝓡 code.env key.name called.name (code.unfolded 𝓤 H 𝓜 𝓡) called.routine code.calls-hub·refresh-controller (thm.met 𝓤 H 𝓜 𝓖 𝓡)
+    met Reg.the-type Reg′.the-laws Reg′.the-plain Reg′.the-copy TakesNews 𝓤 H 𝓜 𝓖 𝓡
+    code.env key.name called.name (code.unfolded 𝓤 H 𝓜 𝓡) called.routine
+    code.calls-hub·refresh-controller (thm.met 𝓤 H 𝓜 𝓖 𝓡)
