@@ -12,16 +12,17 @@ use Rattle.refinement.specs.Memory.{Places, Shape}
 use Rattle.steps.specs.Call.{valid}
 use Rattle.steps.specs.Calls.{Held}
 use Rattle.steps.proofs.Calling.{ready, valid-range}
-use Rattle.hub.specs.Whole.{putBack, putInto, TellsOfLeader, Link}
+use Rattle.hub.specs.Whole.{putInto, TellsOfLeader, Link}
+use Rattle.lent_trials.specs.Put.{putTo}
 
 abbrev pub held : Cluster → Places → Held
 held row p = record { row = row; places = p }
 
 -- What is put back is what the call left.
-pub linked : {st : Step} (row : Cluster) (p : Places) (x : Outcome) (t : Told) → x .answer ≡ t .answer → x .row ≡ putBack row (t .controller)
-    → Link st (held row p) (putInto (held row p) (t .controller)) (t .answer) → Link st (held row p) (held (x .row) p) (x .answer)
-linked {st} row p x t a r l =
-    subst (λ n. Link st (held row p) (held (x .row) p) n) (sym a) (subst (λ y. Link st (held row p) (held y p) (t .answer)) (sym r) l)
+pub linked : {st : Step} (row : Cluster) (p : Places) (x : Outcome) (t : Told) → x ≡ putTo row t
+    → Link st (held row p) (putInto (held row p) (t .controller)) (t .answer)
+    → Link st (held row p) (held (x .row) p) (x .answer)
+linked {st} row p x t e l = subst (λ y. Link st (held row p) (held (y .row) p) (y .answer)) (sym e) l
 
 -- A board that is the controller's leader if that is one. At stage leader it is: refusal 1 sees to it.
 pub tells-leader : (row : Cluster) (p : Places) → Shape row → valid row p ≡ true → (b : ℕ) → 1 ≤ b → b ≤ 8

@@ -1,9 +1,9 @@
--- The walk of a function that lends its own controller. The record is copied to a place in memory; the place is lent, for a
--- lifetime made for the call, to a function that is lent a controller; the lifetime is ended, and the record taken back as the
--- call left it; it is returned with the call's answer. One walk for every such function: over the type G of the other
--- argument, the relation Q that both functions promise, and the function f that is called. hub's walk takes the promise of a
--- function by value to the function that is lent the record; this one takes it back, so signatures and clauses are hub's.
--- Assumes nothing.
+-- The walk of a function that lends its own controller. The record is copied to a place in memory; the place is lent,
+-- for a lifetime made for the call, to a function that is lent a controller; the lifetime is ended, and the record is
+-- taken back as the call left it and returned with the call's answer. One walk for every such function: over the type G of
+-- the other argument, the relation Q that both functions promise, and the function f that is called. hub's walk takes
+-- the promise of a function by value to one that is lent the record; this one takes it back, so signatures and clauses
+-- are hub's. Assumes nothing.
 use mathlib.Core.Path.{_≡_, refl, ap}
 use Prim.Native.Nat.{ℕ, _<_, _^_}
 use mathlib.Core.List.{[], _∷_, List}
@@ -77,10 +77,11 @@ module _ {M : Type 1} (𝓤 : URA M) (H : Heap 𝓤) (A : Atoms 𝓤) (W : Given
     unfolding partOf
     lies is =
         qed W (cell ∷ []) ∵
-        use1 W (‵ (cellAt fullShare (Ctl.the-row .mir) (mach d ∷ []) b 0)) (W .laws .at-raw fullShare Ctl′.mir b 0 (mach d)) $
+        use1 W (‵ (cellAt fullShare (Ctl.the-row .mir) (mach d ∷ []) b 0))
+        (W .laws .at-raw fullShare Ctl′.mir b 0 (mach d)) $
         owned ! Ctl.the-row (Is Ctl.the-row) makes d _ is $ move ! (1 ∷ 0 ∷ []) $ fjoin ! $
-        fpack ! (List Val) (λ us. fsep (cellAt fullShare (Ctl.the-row .mir) us b 0) (Ctl.the-row .own d us)) (mach d ∷ []) $
-        done !
+        fpack ! (List Val) (λ us. fsep (cellAt fullShare (Ctl.the-row .mir) us b 0) (Ctl.the-row .own d us))
+        (mach d ∷ []) $ done !
 
     stands : ent 𝓤 (sem 𝓤 H A (mem Ctl.the-row .lies d b 0)) (guard 𝓤 (IsCtl d) (H .at fullShare Ctl′.mir b 0 (mach d)))
     unfolding partOf
@@ -175,7 +176,7 @@ module _ (G : Declared) (GL : LL.Laws G) (GP : Plains (fields G)) (GC : LL.Copya
               nothing ! $ owned ! (row G) (Is (row G)) (LL.makes G GP 𝓤 H A) n _ n-is $ fjoin ! $
               move ! (2 ∷ 0 ∷ []) $ fjoin ! $ move ! (1 ∷ 0 ∷ []) $ join ! $ frame ! $ done !
 
-          -- What the call gives back with the machine value w: the token and its answer r; last values, of which it promises Q.
+          -- What the call gives back with the machine value w: the token, its answer r, last values, and Q of them.
           abbrev given-back : Val → Item 𝓤
           given-back w = later (some (λ (r : ℕ). ((‵ (flft (α ∷ []) fullShare) ⊛ ‵ ftrue) ⊛ ‵ (u8 .own r (w ∷ [])))
               ⊛ raw (ensured 𝓤 H A lent lent-clauses (α ∷ [], tt) arg tt r)))
@@ -202,12 +203,15 @@ module _ (G : Declared) (GL : LL.Laws G) (GP : Plains (fields G)) (GC : LL.Copya
               owned ! Ans.the-row (Is Ans.the-row) (LL.makes Ans.the-type Ans′.the-plain 𝓤 H A) told _ told-is $
               move ! (1 ∷ 0 ∷ []) $ nothing ! $ done !
 
-        module _ (C : Calls 𝓤 H) (Λ : Loops 𝓤 H) (fm : FmC 𝓤 H (W .laws) C) (f : Name) (known : Triple 𝓤 (C f) Cited) where
-          walk : ent 𝓤 (onEntry 𝓤 H A (byValue .signature) tt tt x at) (WpFn 𝓤 H C Λ (code f) (mach h ∷ machG n ∷ []) Post)
+        module _ (C : Calls 𝓤 H) (Λ : Loops 𝓤 H) (fm : FmC 𝓤 H (W .laws) C) (f : Name)
+            (known : Triple 𝓤 (C f) Cited) where
+          walk : ent 𝓤 (onEntry 𝓤 H A (byValue .signature) tt tt x at)
+              (WpFn 𝓤 H C Λ (code f) (mach h ∷ machG n ∷ []) Post)
           walk =
-              qed W (‵ ftrue ∷ ‵ (owns (Ctl.the-row ∷ row G ∷ []) x at) ∷ []) ∵ enter ! C Λ (code f) (mach h ∷ machG n ∷ []) _ $
-              alloc1 ! (λ l₀. alloc1 ! (λ l₁. alloc1 ! (λ l₂. alloc1 ! (λ l₃. alloc1 ! (λ l₄. alloc1 ! (λ l₅. alloc1 ! (λ l₆.
-              alloc0 ! $ params1 ! $ pass1 ! (init ! 10 refl (lawful 𝓤 H A W .typed h _ h-is .0)) $
+              qed W (‵ ftrue ∷ ‵ (owns (Ctl.the-row ∷ row G ∷ []) x at) ∷ []) ∵
+              enter ! C Λ (code f) (mach h ∷ machG n ∷ []) _ $
+              alloc1 ! (λ l₀. alloc1 ! (λ l₁. alloc1 ! (λ l₂. alloc1 ! (λ l₃. alloc1 ! (λ l₄. alloc1 ! (λ l₅.
+              alloc1 ! (λ l₆. alloc0 ! $ params1 ! $ pass1 ! (init ! 10 refl (lawful 𝓤 H A W .typed h _ h-is .0)) $
               pass1 ! (init ! 8 refl (LL.lawful G GL 𝓤 H A W .typed n _ n-is .0)) $ pass0 ! $
               -- [_6; …; _5; …; _4; …; _3; …; _2; …; _1; …; _0; …; true; what the parameters own]
               assigns ! (of-opd ! (load ! (from ! (stop !)) (look ! 10 refl))) (from ! (stop !))
@@ -219,15 +223,17 @@ module _ (G : Declared) (GL : LL.Laws G) (GP : Plains (fields G)) (GC : LL.Copya
               use1 W (later (some (λ (δ : GName). ref α l₃ δ ⊛ aside α l₃ δ)))
               (lends-ref 𝓤 H A W Ctl.the-row (named 0) (α ∷ []) h l₃ 0) $ await ! tt $ pick ! (λ δ. split ! $
               move ! (2 ∷ 0 ∷ []) $ use2 W (raw (Cited .pre (passed α l₃ δ))) (goes α l₃ δ) $
-              -- [what the call asks; what the lender keeps; _6; …; _5; …; _4; …; the end of _3; _2; …; _1; …; _0; …; ..]
+              -- [what the call asks; what the lender keeps; _6; …; _5; …; _4; …; the end of _3; _2; …; _1; …; ..]
               calls-at ! fm Cited known (passed α l₃ δ) (and-then ! (load ! (from ! (stop !)) (look ! 4 refl))
               (and-then ! (load ! (from ! (stop !)) (look ! 9 refl)) (no-more !))) (λ w.
               use1 W (given-back α l₃ δ w) (id⊢ 𝓤 _) $ await ! tt $ pick ! (λ r. split ! $ move ! (1 ∷ []) $
-              use1 W (promised α l₃ δ r) (id⊢ 𝓤 _) $ pick ! (λ ws. split ! $ move ! (1 ∷ []) $ heard ! (Q h n r (ws .0)) (λ e.
-              fsplit ! $ move ! (2 ∷ []) $ split ! $ move ! (1 ∷ []) $ peeks ! u8 (Is u8) (shows 𝓤 H A u8) r (w ∷ []) (λ is.
+              use1 W (promised α l₃ δ r) (id⊢ 𝓤 _) $ pick ! (λ ws. split ! $ move ! (1 ∷ []) $
+              heard ! (Q h n r (ws .0)) (λ e. fsplit ! $ move ! (2 ∷ []) $ split ! $ move ! (1 ∷ []) $
+              peeks ! u8 (Is u8) (shows 𝓤 H A u8) r (w ∷ []) (λ is.
               -- [own; the token; the last value; true; what the lender keeps; _6; …; _5; …; _4; …; the end of _3; ..]
               land ! (from ! (stop !)) (init ! 9 refl (uint-lawful 𝓤 H A W w8 .typed r _ is .0)) $
-              rewrite ! 9 (λ (u : Val). ‵ (fat fullShare (tyInt w8) l₄ 0 u)) (ap only (uint-tells w8 r (w ∷ []) is)) refl $
+              rewrite ! 9 (λ (u : Val). ‵ (fat fullShare (tyInt w8) l₄ 0 u))
+              (ap only (uint-tells w8 r (w ∷ []) is)) refl $
               -- the lifetime is ended, and _3 is taken back as the call left it
               move ! (1 ∷ []) $ split ! $ lft-end ! tt $ move ! (0 ∷ 5 ∷ 3 ∷ []) $
               use3 W (later (‵ (mem Ctl.the-row .lies (ws .0) l₃ 0)))
@@ -253,7 +259,8 @@ module _ (G : Declared) (GL : LL.Laws G) (GP : Plains (fields G)) (GC : LL.Copya
             walked 𝓤 H A byValue stayed value-clauses (WpFn 𝓤 H C Λ (code f))
             (λ κs. (LL.vals Ctl.the-type Ctl′.the-laws, (LL.vals G GL, tt)))
             (λ κs. (LL.tells Ctl.the-type Ctl′.the-laws, (LL.tells G GL, tt)))
-            (λ κs qs bounds a g are. via 𝓤 _ (fst∗ 𝓤 _ (emp 𝓤)) (walk W (a .0) (a .1 .0) (are .0) (are .1 .0) C Λ fm f known))
+            (λ κs qs bounds a g are. via 𝓤 _ (fst∗ 𝓤 _ (emp 𝓤))
+            (walk W (a .0) (a .1 .0) (are .0) (are .1 .0) C Λ fm f known))
 
         meets : (𝓣 : Tables 𝓤 H) → Triple 𝓤 (𝓣 .C f) Cited
             → Meets 𝓤 H A (byValue .signature) (WpFn 𝓤 H (𝓣 .C) (𝓣 .Λ) (code f)) (closing 𝓤 H A byValue value-clauses)
@@ -268,7 +275,8 @@ module _ (G : Declared) (GL : LL.Laws G) (GP : Plains (fields G)) (GC : LL.Copya
     -- From the function that is called, which meets its contract, to the one that lends.
     module _ (H : Heap 𝓤) (𝓜 : Model 𝓤 H) (𝓖 : GhostRules 𝓤 H) (𝓡 : Running 𝓤 H 𝓜) where
       pub met : (env : Env) (key f : Name)
-          → Closed 𝓤 H (tables 𝓤 H 𝓜 𝓡 env .C) (tables 𝓤 H 𝓜 𝓡 env .Λ) key (code f) → (called : Routine) → env f ≡ called
+          → Closed 𝓤 H (tables 𝓤 H 𝓜 𝓡 env .C) (tables 𝓤 H 𝓜 𝓡 env .Λ) key (code f)
+          → (called : Routine) → env f ≡ called
           → Meets 𝓤 H (𝓖 .A) (lent .signature) (𝓡 .run called) (closing 𝓤 H (𝓖 .A) lent lent-clauses)
           → Meets 𝓤 H (𝓖 .A) (byValue .signature) (𝓡 .run (env key)) (closing 𝓤 H (𝓖 .A) byValue value-clauses)
       unfolding tablesOf

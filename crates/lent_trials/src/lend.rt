@@ -1,4 +1,5 @@
-// A call of `hub` over a record of the caller's own: the record is lent, and what the call leaves is given back with its answer.
+// A call of `hub` over a record of the caller's own: the record is lent, and what the call leaves is given back with
+// its answer.
 
 ghost use Rattle.hub.specs.Lent.{TakesNews, ReadsLeader, Reads, Hears};
 use cluster::Controller;

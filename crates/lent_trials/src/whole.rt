@@ -4,8 +4,8 @@ ghost use mathlib.Core.Path.{_≡_};
 ghost use Prim.Native.Nat.{_≤_};
 ghost use Rattle.model.specs.Steps as T;
 ghost use Rattle.refinement.specs.Memory.{Shape};
-ghost use Rattle.hub.specs.Whole.{putBack, reportOf};
-ghost use Rattle.lent_trials.specs.Put.{IsLink};
+ghost use Rattle.hub.specs.Whole.{reportOf};
+ghost use Rattle.lent_trials.specs.Put.{putTo, IsLink};
 use crate::lend;
 use cluster::Cluster;
 use cluster::Outcome;
@@ -27,9 +27,9 @@ fn report(row: Cluster, b: u8) -> Report
     }
 }
 
-// The row with the controller as a call left it, and the call's answer. The lengths of the row's arrays are those of its type.
+// The row with the controller as a call left it, and the call's answer. The row's type fixes the lengths of its arrays.
 fn put_back(row: Cluster, t: Told) -> Outcome
-    ensures { λ x. ⌜ (x .answer ≡ t .answer) × (x .row ≡ putBack row (t .controller)) × Shape row ⌝ }
+    ensures { λ x. ⌜ (x ≡ putTo row t) × Shape row ⌝ }
 {
     let mut next = row;
     let c = t.controller;

@@ -7,7 +7,8 @@ use Rattle.lent_trials.proofs.play.Statement.{statement}
 use Rattle.lent_trials.proofs.play.Tie as tie
 
 abbrev Inv-loop : tie.InvT-loop
-Inv-loop store₀ list₀ sheet now₀ i₀ store list now i = (i ≤ length sheet) × (length store ≡ length store₀) × (length list ≡ length list₀)
+Inv-loop store₀ list₀ sheet now₀ i₀ store list now i =
+    (i ≤ length sheet) × (length store ≡ length store₀) × (length list ≡ length list₀)
 
 abbrev μ-loop : tie.MeasureT-loop
 μ-loop store₀ list₀ sheet now₀ i₀ store list now i = length sheet - i

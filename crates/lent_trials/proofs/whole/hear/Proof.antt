@@ -20,8 +20,9 @@ returns : tie.Need-returns
 returns c p v =
     let row = c .before .before .before .before .args .row in
     let t = c .before .hear .result in
-    let l = subst (λ x. Hears (row .controller) x (t .answer) (t .controller)) (c .before .before .report .ensures) (c .before .hear .ensures) in
-    linked row p (c .put-back .result) t (c .put-back .ensures .0) (c .put-back .ensures .1) (Link.hear (c .put-back .ensures .2) l)
+    let told = c .before .before .report .ensures in
+    let l = subst (λ x. Hears (row .controller) x (t .answer) (t .controller)) told (c .before .hear .ensures) in
+    linked row p (c .put-back .result) t (c .put-back .ensures .0) (Link.hear (c .put-back .ensures .1) l)
 
 pub hear-spec : {M : Type 1} → statement M
 hear-spec = tie.close (tie.spec report-requires hear-requires put-back-requires returns)

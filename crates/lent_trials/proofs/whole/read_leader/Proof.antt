@@ -25,9 +25,11 @@ returns c p v =
     let t = c .before .read-leader .result in
     let b = c .before .before .before .seat .result in
     let k = c .before .before .before .seat .ensures in
-    let shape = c .put-back .ensures .2 in
-    let l = subst (λ x. ReadsLeader (row .controller) x (t .answer) (t .controller)) (c .before .before .report .ensures) (c .before .read-leader .ensures) in
-    linked row p (c .put-back .result) t (c .put-back .ensures .0) (c .put-back .ensures .1)
+    let shape = c .put-back .ensures .1 in
+    let told = c .before .before .report .ensures in
+    let l =
+    subst (λ x. ReadsLeader (row .controller) x (t .answer) (t .controller)) told (c .before .read-leader .ensures) in
+    linked row p (c .put-back .result) t (c .put-back .ensures .0)
     (Link.readLeader shape (tells-leader row p shape v b (k .0) (k .1) (k .2)) l)
 
 pub read-leader-spec : {M : Type 1} → statement M

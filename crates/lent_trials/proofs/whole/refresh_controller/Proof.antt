@@ -15,8 +15,8 @@ returns : tie.Need-returns
 returns c p v =
     let row = c .before .before .before .before .args .row in
     let t = c .before .refresh-controller .result in
-    linked row p (c .put-back .result) t (c .put-back .ensures .0) (c .put-back .ensures .1)
-    (Link.news (c .put-back .ensures .2) (c .before .refresh-controller .ensures))
+    linked row p (c .put-back .result) t (c .put-back .ensures .0)
+    (Link.news (c .put-back .ensures .1) (c .before .refresh-controller .ensures))
 
 pub refresh-controller-spec : {M : Type 1} → statement M
 refresh-controller-spec = tie.close (tie.spec refresh-controller-requires put-back-requires returns)
