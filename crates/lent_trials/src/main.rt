@@ -20,8 +20,8 @@ fn show(n: u8) {
     io::write_all(1, &two);
 }
 
-// A record in short: its step, a digit for its board, one for the second board, two for the value. So 3_2_0_00 is add 2,
-// and 1_1_0_41 board 1 appends 41.
+// A record in short: its step, a digit for its board, one for the second board, two for the value. So 3_2_0_00 is
+// add 2, and 1_1_0_41 is append 1, 41.
 fn record(n: u32) -> Record {
     Record {
         step: (n / 10000 % 16) as u8,
