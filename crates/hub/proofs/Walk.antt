@@ -51,15 +51,15 @@ use Rattle.cluster.proofs.Told as Ans
 use Rattle.cluster.proofs.Told.Laws as Ans′
 
 -- The machine value of a controller.
-abbrev mach : Controller → Val
+abbrev pub mach : Controller → Val
 mach d = LL.val Ctl.the-type Ctl′.the-laws d
 
 -- Plain data is seen at exit as it was passed: nothing is bound there, and nothing said.
 module _ {D : Type 0} (e : Exit D) (s : e ≡ unchanged) (x : D) where
-  bound : Last e x
+  pub bound : Last e x
   bound = subst (λ e. Last e x) (sym s) tt
 
-  unsaid : (w : Last e x) → left e x w ≡ ftrue
+  pub unsaid : (w : Last e x) → left e x w ≡ ftrue
   unsaid = subst (λ e. (w : Last e x) → left e x w ≡ ftrue) (sym s) (λ w. refl)
 
 -- The other argument's type, a struct of plain data, with its laws; the promise.

@@ -1,0 +1,17 @@
+-- `lent_trials::lend::read` meets its contract: the walk of `Walk`, at its names. Assumes nothing.
+use Rattle.hub.specs.Lent.{Reads}
+use Rattle.hub.proofs.Report as Rep
+use Rattle.hub.proofs.Report.Laws as Rep′
+use Rattle.lent_trials.proofs.Walk.{met}
+use Rattle.hub.proofs.read.Symbol as called
+use Rattle.hub.proofs.read.Met as thm
+use Rattle.lent_trials.proofs.lend.read.Key as key
+use Rattle.lent_trials.proofs.lend.read.Statement.{statement}
+use Rattle.lent_trials.proofs.lend.read.Code as code
+
+pub read-spec : {M : Type 1} → statement M
+unfolding code.routine
+read-spec 𝓤 H 𝓜 𝓖 𝓡 =
+    met Rep.the-type Rep′.the-laws Rep′.the-plain Rep′.the-copy Reads 𝓤 H 𝓜 𝓖 𝓡
+    code.env key.name called.name (code.unfolded 𝓤 H 𝓜 𝓡) called.routine
+    code.calls-hub·read (thm.met 𝓤 H 𝓜 𝓖 𝓡)
