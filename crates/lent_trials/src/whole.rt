@@ -59,7 +59,7 @@ pub fn read_leader(row: Cluster) -> Outcome
     put_back(row, lend::read_leader(c, x))
 }
 
-// Step 12.
+// Step 12. Inner layer: callers see to b.
 pub fn read(row: Cluster, b: u8) -> Outcome
     requires { ⌜ (1 ≤ b) × (b ≤ 8) ⌝ }
     ensures { λ x. ⌜ IsLink (T.read b) row x ⌝ }
@@ -69,7 +69,7 @@ pub fn read(row: Cluster, b: u8) -> Outcome
     put_back(row, lend::read(c, x))
 }
 
-// Step 14.
+// Step 14. Inner layer: callers see to b.
 pub fn hear(row: Cluster, b: u8) -> Outcome
     requires { ⌜ (1 ≤ b) × (b ≤ 8) ⌝ }
     ensures { λ x. ⌜ IsLink (T.hear b) row x ⌝ }
