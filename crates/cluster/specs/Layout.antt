@@ -1,5 +1,5 @@
--- What the structs stand for in the model. Cited by the contracts of cluster and of the crates over it. Assumes
--- nothing.
+-- What the structs stand for in the model. Cited by the contracts of cluster and of the crates over it.
+-- Assumes nothing.
 use mathlib.Core.Bool.{cond, _&&_}
 use mathlib.Core.List.{List, _∷_}
 use Prim.Native.Nat.{ℕ, _+_, _-_, _*_}

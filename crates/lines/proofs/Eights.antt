@@ -37,13 +37,5 @@ module _ (text : ℕ → Text) where
   upTo-fits n h w r =
       let e : n + 1 + (8 - (n + 1)) ≡ 8 = omega (arith, h) in
       let m = subst (λ k. length (upTo text (n + 1)) ≤ length (upTo text k)) e (upTo-more (n + 1) (8 - (n + 1))) in
-      omega (
-        arith,
-        m,
-        r,
-        w .next,
-        wrote-length w,
-        ap length (upTo-next n),
-        length-append (upTo text n) (text (n + 1)),
-        ap length upTo-eight,
-      )
+      let both = length-append (upTo text n) (text (n + 1)) in
+      omega (arith, wrote-length w, ap length (upTo-next n), both, ap length upTo-eight)

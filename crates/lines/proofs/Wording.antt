@@ -1,5 +1,5 @@
--- Laws that writers of lines share: a text that hangs on a case, and a line of a word, a view and a last text. Assumes
--- nothing.
+-- Laws that writers of lines share: a text that hangs on a case, and a line of a word, a view and a last text.
+-- Assumes nothing.
 use mathlib.Core.List.{_++_}
 use mathlib.Core.Path.{_≡_, sym, subst}
 use Prim.Native.Nat.{ℕ, _+_, _≤_}

@@ -1,6 +1,6 @@
 -- Sheets and listings of document 01, byte for byte, through the model's run; the records stand in the crate records,
--- single lines in lines, the parts of a listing in listing. Cited by the promises of `run_sheet` and `sample`. Assumes
--- nothing.
+-- single lines in lines, the parts of a listing in listing. Cited by the promises of `run_sheet` and `sample`.
+-- Assumes nothing.
 use mathlib.Core.Bool.{Bool, true, cond, _&&_}
 use mathlib.Core.List.{List, [], _∷_, _++_}
 use mathlib.Core.Path.{_≡_}
