@@ -52,8 +52,10 @@ at-seat d xs b k seat t =
     ap (λ x. getD xs (x - 1) d) (seat (is-true (isReplica b) t)) ∙ sym (at-index d xs b (replica-range b t .0))
 
 -- A write at a replica's place is the model's point update.
-pub at-set : {A : Type 0} (d : A) (xs : List A) (b : ℕ) (v : A) → 1 ≤ b → b ≤ 8 → length xs ≡ 8 → at d (set xs (b - 1) v) ≡ upd (at d xs) b v
-at-set d xs b v h k e = fun-ext (λ x. ap (λ l. getD l x d) shift ∙ at-or {P = λ x. getD (set (d ∷ xs) b v) x d ≡ upd (at d xs) b v x} b
+pub at-set : {A : Type 0} (d : A) (xs : List A) (b : ℕ) (v : A) → 1 ≤ b → b ≤ 8 → length xs ≡ 8
+    → at d (set xs (b - 1) v) ≡ upd (at d xs) b v
+at-set d xs b v h k e =
+    fun-ext (λ x. ap (λ l. getD l x d) shift ∙ at-or {P = λ x. getD (set (d ∷ xs) b v) x d ≡ upd (at d xs) b v x} b
     (rw (eqb-same b) (getD-set-same (d ∷ xs) b v d (omega arith)))
     (λ x n. rw (ne-eqb x b n) (getD-set-other (d ∷ xs) b x v d n)) x)
   where

@@ -1,4 +1,5 @@
--- What the structs stand for in the model. Cited by the contracts of cluster and of the crates over it. Assumes nothing.
+-- What the structs stand for in the model. Cited by the contracts of cluster and of the crates over it.
+-- Assumes nothing.
 use mathlib.Core.Bool.{cond, _&&_}
 use mathlib.Core.List.{List, _∷_}
 use Prim.Native.Nat.{ℕ, _+_, _-_, _*_}
@@ -41,7 +42,13 @@ abbrev pub atPair : List ℕ → ℕ → ℕ → ℕ
 atPair xs a b = cond (isReplica a && isReplica b) (getD xs (8 * (a - 1) + (b - 1)) 0) 0
 
 abbrev pub controllerOf : Controller → M.Controller
-controllerOf c = record { view = viewOf (c .view); stage = stageOf (c .stage); heard = at 0 (c .heard); heardJoined = at 0 (c .joined) }
+controllerOf c =
+    record {
+      view = viewOf (c .view);
+      stage = stageOf (c .stage);
+      heard = at 0 (c .heard);
+      heardJoined = at 0 (c .joined);
+    }
 
 -- What a number that is no replica has for a view.
 abbrev pub noView : View

@@ -1,4 +1,6 @@
--- What a step of the registry, of the controller or of both makes of them; `Governs` (crate memory) has that the rest of a row stays. Cited by the contracts of ruling, telling and settling, and by the proofs of control and hub. Assumes nothing.
+-- What a step of the registry, of the controller or of both makes of them; `Governs` (crate refinement) has that the
+-- rest of a row stays. Cited by the contracts of steps_registry, steps_controller and steps_both, and by the proofs of
+-- steps_central and hub. Assumes nothing.
 use mathlib.Core.Logic.{_≢_}
 use mathlib.Core.Path.{_≡_}
 use Prim.Native.Nat.{ℕ}
@@ -17,15 +19,22 @@ pub record Rules (st : Step) (r : Registry) (x : Ruled) : Type 0 where
   pub after : (s : RowState) → registryOf (x .registry) ≡ step entries (withRegistry s (registryOf r)) st .registry
   pub refused : x .answer ≢ 0 → x .registry ≡ r
 
--- The controller c, and what the step st of any state that has it, and of which what the call was told is known, answers and leaves.
+-- The controller c, and what the step st of any state that has it, and of which what the call was told is known,
+-- answers and leaves.
 pub record Tells (Known : RowState → Type 0) (st : Step) (c : Controller) (x : Told) : Type 0 where
   pub answer : (s : RowState) → Known s → x .answer ≡ answerOf (outline (withController s (controllerOf c))) st
-  pub after : (s : RowState) → Known s → controllerOf (x .controller) ≡ step entries (withController s (controllerOf c)) st .controller
+  pub after : (s : RowState) → Known s
+      → controllerOf (x .controller) ≡ step entries (withController s (controllerOf c)) st .controller
   pub refused : x .answer ≢ 0 → x .controller ≡ c
 
 -- Both.
 pub record Settles (st : Step) (r : Registry) (c : Controller) (x : Settled) : Type 0 where
-  pub answer : (s : RowState) → x .answer ≡ answerOf (outline (withController (withRegistry s (registryOf r)) (controllerOf c))) st
-  pub registry : (s : RowState) → registryOf (x .registry) ≡ step entries (withController (withRegistry s (registryOf r)) (controllerOf c)) st .registry
-  pub controller : (s : RowState) → controllerOf (x .controller) ≡ step entries (withController (withRegistry s (registryOf r)) (controllerOf c)) st .controller
+  pub answer : (s : RowState)
+      → x .answer ≡ answerOf (outline (withController (withRegistry s (registryOf r)) (controllerOf c))) st
+  pub registry : (s : RowState)
+      → registryOf (x .registry)
+      ≡ step entries (withController (withRegistry s (registryOf r)) (controllerOf c)) st .registry
+  pub controller : (s : RowState)
+      → controllerOf (x .controller)
+      ≡ step entries (withController (withRegistry s (registryOf r)) (controllerOf c)) st .controller
   pub refused : x .answer ≢ 0 → (x .registry ≡ r) × (x .controller ≡ c)

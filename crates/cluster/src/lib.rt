@@ -1,3 +1,6 @@
+// A row as the hub keeps it, what a step answers and leaves, and what the crates of steps share: seats, checks, epochs,
+// words by number. Refusal 1 stands in ranges.
+
 ghost use mathlib.Core.Path.{_≡_};
 ghost use mathlib.Core.Bool.{true, cond};
 ghost use Prim.Native.Nat.{_≤_, suc};
@@ -43,8 +46,8 @@ pub struct Controller {
     pub joined: [u16; 8],
 }
 
-// A row of document 01. By replica, 1 first: its view, its joined epoch, the length of its log; acked has a's count for b
-// at 8 (a - 1) + b - 1. Then the number of receipts. The entries stand in the lent places.
+// A row of document 01. By replica, 1 first: its view, its joined epoch, the length of its log; acked has a's count for
+// b at 8 (a - 1) + b - 1. Then the number of receipts. The entries stand in the lent places.
 pub struct Cluster {
     pub registry: Registry,
     pub controller: Controller,
@@ -73,7 +76,7 @@ pub struct Told {
     pub controller: Controller,
 }
 
-// What a step of both answers and leaves; `control` has every step of either in this form.
+// What a step of both answers and leaves; `steps_central` has every step of either in this form.
 pub struct Settled {
     pub answer: u8,
     pub registry: Registry,

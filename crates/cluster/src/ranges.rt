@@ -109,7 +109,11 @@ pub fn named(g: Registry) -> bool
 
 // The controller has a leader at stage leader and at stage boards.
 pub fn reads(c: Controller) -> bool
-    ensures { λ r. ⌜ r ≡ (eqb (stageNumber (stageOf (c .stage))) 0 || eqb (stageNumber (stageOf (c .stage))) 3 || not (eqb (c .view .leader) 0)) ⌝ }
+    ensures { λ r. ⌜
+        r ≡ (eqb (stageNumber (stageOf (c .stage))) 0
+        || eqb (stageNumber (stageOf (c .stage))) 3
+        || not (eqb (c .view .leader) 0))
+        ⌝ }
 {
     let v = c.view;
     let s = c.stage;

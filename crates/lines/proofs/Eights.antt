@@ -28,11 +28,14 @@ module _ (text : ℕ → Text) where
   upTo-more : (n d : ℕ) → length (upTo text n) ≤ length (upTo text (n + d))
   unfolding upTo
   upTo-more n zero = rw (add-zero n) (omega arith)
-  upTo-more n (suc d) = rw (add-suc n d) (omega (arith, upTo-more n d, length-append (upTo text (n + d)) (text (suc (n + d)))))
+  upTo-more n (suc d) =
+      rw (add-suc n d) (omega (arith, upTo-more n d, length-append (upTo text (n + d)) (text (suc (n + d)))))
 
   -- Room for all is room for the next one, once those before it are written.
-  pub upTo-fits : {d e : Text} {at p : ℕ} (n : ℕ) → n < 8 → Wrote d at (upTo text n) e p → at + length (eight text) ≤ length d → p + length (text (n + 1)) ≤ length e
+  pub upTo-fits : {d e : Text} {at p : ℕ} (n : ℕ) → n < 8 → Wrote d at (upTo text n) e p
+      → at + length (eight text) ≤ length d → p + length (text (n + 1)) ≤ length e
   upTo-fits n h w r =
       let e : n + 1 + (8 - (n + 1)) ≡ 8 = omega (arith, h) in
       let m = subst (λ k. length (upTo text (n + 1)) ≤ length (upTo text k)) e (upTo-more (n + 1) (8 - (n + 1))) in
-      omega (arith, m, r, w .next, wrote-length w, ap length (upTo-next n), length-append (upTo text n) (text (n + 1)), ap length upTo-eight)
+      let both = length-append (upTo text n) (text (n + 1)) in
+      omega (arith, wrote-length w, ap length (upTo-next n), both, ap length upTo-eight)

@@ -13,7 +13,8 @@ use Rattle.text.proofs.Laws.{digits-most}
 use Rattle.lines.specs.Lines.{word, space, newline, eight, memberText, membersText, viewText, statusWord, stageWord, lateWord, answerLine, registryLine, controlLine, boardText}
 
 -- A line by its numbers.
-pub line-length : (k n a : ℕ) → length (answerLine k n a) ≡ length (digits k) + length (digits n) + length (digits a) + 3
+pub line-length : (k n a : ℕ)
+    → length (answerLine k n a) ≡ length (digits k) + length (digits n) + length (digits a) + 3
 unfolding answerLine
 line-length k n a = omega (
   arith,
@@ -24,8 +25,9 @@ line-length k n a = omega (
 
 -- Eight texts of at most n bytes each.
 pub eight-most :
-    (n : ℕ) (text : ℕ → Text) → length (text 1) ≤ n → length (text 2) ≤ n → length (text 3) ≤ n → length (text 4) ≤ n → length (text 5) ≤ n → length (text 6) ≤ n
-    → length (text 7) ≤ n → length (text 8) ≤ n → length (eight text) ≤ 8 * n
+    (n : ℕ) (text : ℕ → Text) → length (text 1) ≤ n → length (text 2) ≤ n → length (text 3) ≤ n → length (text 4) ≤ n
+    → length (text 5) ≤ n → length (text 6) ≤ n → length (text 7) ≤ n → length (text 8) ≤ n
+    → length (eight text) ≤ 8 * n
 eight-most n text a b c d e f g h = simp length-append (omega (arith, a, b, c, d, e, f, g, h))
 
 member-most : (t : Bool) (x : ℕ) → length (cond {A = Text} t (x ∷ []) []) ≤ 1
@@ -34,18 +36,23 @@ member-most false x = omega arith
 
 pub members-most : (m : Members) → length (membersText m) ≤ 8
 unfolding membersText
-members-most m = eight-most 1 (memberText m) (member-most (m 1) 49) (member-most (m 2) 50) (member-most (m 3) 51) (member-most (m 4) 52) (member-most (m 5) 53) (member-most (m 6) 54) (member-most (m 7) 55) (member-most (m 8) 56)
+members-most m =
+    eight-most 1 (memberText m) (member-most (m 1) 49) (member-most (m 2) 50) (member-most (m 3) 51)
+    (member-most (m 4) 52) (member-most (m 5) 53) (member-most (m 6) 54) (member-most (m 7) 55) (member-most (m 8) 56)
 
 -- The parts of a view, of a line and of a replica's line, as any texts.
-of-view : (e t l m : Text) → length e ≤ 4 → length t ≤ 4 → length l ≤ 1 → length m ≤ 8 → length (e ++ (space ++ (t ++ (space ++ (l ++ (space ++ m)))))) ≤ 20
+of-view : (e t l m : Text) → length e ≤ 4 → length t ≤ 4 → length l ≤ 1 → length m ≤ 8
+    → length (e ++ (space ++ (t ++ (space ++ (l ++ (space ++ m)))))) ≤ 20
 of-view e t l m he ht hl hm = simp length-append (omega arith)
 
-of-line : (n : ℕ) (w v g : Text) → length w ≤ n → length v ≤ 20 → length g ≤ 8 → length (w ++ (v ++ (space ++ (g ++ newline)))) ≤ n + 30
+of-line : (n : ℕ) (w v g : Text) → length w ≤ n → length v ≤ 20 → length g ≤ 8
+    → length (w ++ (v ++ (space ++ (g ++ newline)))) ≤ n + 30
 of-line n w v g hw hv hg = simp length-append (omega arith)
 
 of-board :
     (b v j l t : Text) → length b ≤ 1 → length v ≤ 20 → length j ≤ 4 → length l ≤ 3 → length t ≤ 7
-    → length (word "board " ++ (b ++ (space ++ (v ++ (space ++ (j ++ (space ++ (l ++ (space ++ (t ++ newline)))))))))) ≤ 46
+    → length
+    (word "board " ++ (b ++ (space ++ (v ++ (space ++ (j ++ (space ++ (l ++ (space ++ (t ++ newline)))))))))) ≤ 46
 of-board b v j l t hb hv hj hl ht = simp length-append (omega arith)
 
 one-digit : (n : ℕ) → n ≤ 8 → length (digits n) ≤ 1
@@ -60,7 +67,8 @@ four-digits n h = digits-most 3 n (omega arith)
 pub view-most : (v : M.View) → ViewInRange v → length (viewText v) ≤ 20
 unfolding viewText
 view-most v r =
-    of-view (digits (v .epoch)) (digits (v .term)) (digits (v .leader)) (membersText (v .members)) (four-digits (v .epoch) (r .epoch .1)) (four-digits (v .term) (r .term .1))
+    of-view (digits (v .epoch)) (digits (v .term)) (digits (v .leader)) (membersText (v .members))
+    (four-digits (v .epoch) (r .epoch .1)) (four-digits (v .term) (r .term .1))
     (one-digit (v .leader) (r .leader)) (members-most (v .members))
 
 status-most : (g : M.Status) → length (statusWord g) ≤ 8
@@ -80,13 +88,19 @@ late-most false = omega arith
 
 pub registry-most : (r : M.Registry) → ViewInRange (r .view) → length (registryLine r) ≤ 39
 unfolding registryLine
-registry-most r v = of-line 9 (word "registry ") (viewText (r .view)) (statusWord (r .status)) (omega arith) (view-most (r .view) v) (status-most (r .status))
+registry-most r v =
+    of-line 9 (word "registry ") (viewText (r .view)) (statusWord (r .status)) (omega arith) (view-most (r .view) v)
+    (status-most (r .status))
 
 pub control-most : (c : M.Controller) → ViewInRange (c .view) → length (controlLine c) ≤ 38
 unfolding controlLine
-control-most c v = of-line 8 (word "control ") (viewText (c .view)) (stageWord (c .stage)) (omega arith) (view-most (c .view) v) (stage-most (c .stage))
+control-most c v =
+    of-line 8 (word "control ") (viewText (c .view)) (stageWord (c .stage)) (omega arith) (view-most (c .view) v)
+    (stage-most (c .stage))
 
-pub board-most : (b : ℕ) (v : M.View) (joined len : ℕ) (late : Bool) → b ≤ 8 → ViewInRange v → joined ≤ 4000 → len ≤ 512 → length (boardText b v joined len late) ≤ 46
+pub board-most : (b : ℕ) (v : M.View) (joined len : ℕ) (late : Bool) → b ≤ 8 → ViewInRange v → joined ≤ 4000 → len ≤ 512
+    → length (boardText b v joined len late) ≤ 46
 unfolding boardText
 board-most b v joined len late h r j l =
-    of-board (digits b) (viewText v) (digits joined) (digits len) (lateWord late) (one-digit b h) (view-most v r) (four-digits joined j) (three-digits len l) (late-most late)
+    of-board (digits b) (viewText v) (digits joined) (digits len) (lateWord late) (one-digit b h) (view-most v r)
+    (four-digits joined j) (three-digits len l) (late-most late)

@@ -1,2 +1,3 @@
 pub mod Eights
 pub mod Lengths
+pub mod Wording

@@ -1,5 +1,5 @@
--- Single lines of a listing of document 01, byte for byte. Cited by the promises of the writers of lines and, through `listing`, of `run_sheet`. Assumes
--- nothing.
+-- Single lines of a listing of document 01, byte for byte. Cited by the promises of the writers of lines and, through
+-- `listing`, of `run_sheet`. Assumes nothing.
 use mathlib.Core.Bool.{Bool, cond}
 use mathlib.Core.List.{[], _∷_, _++_}
 use Prim.Native.Nat.{ℕ, _+_}
@@ -39,7 +39,11 @@ membersText m = eight (memberText m)
 -- "epoch, leader epoch, leader, members as digits"
 unfoldable pub viewText : View → Text
 unfolding digits membersText
-viewText v = digits (v .epoch) ++ (space ++ (digits (v .term) ++ (space ++ (digits (v .leader) ++ (space ++ membersText (v .members))))))
+viewText v =
+    digits (v .epoch) ++ (space
+    ++ (digits (v .term) ++ (space
+    ++ (digits (v .leader) ++ (space
+    ++ membersText (v .members))))))
 
 abbrev pub statusWord : M.Status → Text
 statusWord M.normal = word "normal"
@@ -75,4 +79,8 @@ lateWord late = cond late (word "late") (word "current")
 unfoldable pub boardText : ℕ → View → ℕ → ℕ → Bool → Text
 unfolding digits viewText
 boardText b v joined len late =
-    word "board " ++ (digits b ++ (space ++ (viewText v ++ (space ++ (digits joined ++ (space ++ (digits len ++ (space ++ (lateWord late ++ newline)))))))))
+    word "board " ++ (digits b ++ (space
+    ++ (viewText v ++ (space
+    ++ (digits joined ++ (space
+    ++ (digits len ++ (space
+    ++ (lateWord late ++ newline)))))))))

@@ -51,8 +51,14 @@ fn put_members(out: &mut [u8], at: usize, m: u8) -> usize
 
 // Writes the four parts of a view.
 fn put_parts(out: &mut [u8], at: usize, epoch: u16, term: u16, leader: u8, m: u8) -> usize
-    requires { ⌜ at + length (viewText (record { epoch = epoch; term = term; leader = leader; members = bits m })) ≤ length (now out) ⌝ }
-    ensures { λ r. ⌜ Wrote (now (out .entry)) at (viewText (record { epoch = epoch; term = term; leader = leader; members = bits m })) (now (out .exit)) r ⌝ }
+    requires { ⌜
+        at + length (viewText (record { epoch = epoch; term = term; leader = leader; members = bits m }))
+        ≤ length (now out)
+        ⌝ }
+    ensures { λ r. ⌜
+        Wrote (now (out .entry)) at
+        (viewText (record { epoch = epoch; term = term; leader = leader; members = bits m })) (now (out .exit)) r
+        ⌝ }
 {
     let a = text::put_field(&mut *out, at, epoch as u32);
     let b = text::put_field(&mut *out, a, term as u32);
@@ -129,7 +135,8 @@ fn put_late(out: &mut [u8], at: usize, late: bool) -> usize
     text::put_bytes(&mut *out, at, b"current\n")
 }
 
-// Writes the line of a replica: its number, its view, its joined epoch, its log's length, whether it is late. Inner layer: callers see to the room.
+// Writes the line of a replica: its number, its view, its joined epoch, its log's length, whether it is late. Inner
+// layer: callers see to the room.
 pub fn put_board(
     out: &mut [u8],
     at: usize,

@@ -29,12 +29,14 @@ records-suc (suc k) s =
 answerLines-suc : (k : ℕ) (rs : List Record) (ns : List ℕ) → length rs ≡ length ns → (r : Record) (n : ℕ)
     → answerLines k (rs ++ (r ∷ [])) (ns ++ (n ∷ [])) ≡ answerLines k rs ns ++ answerLine (k + length rs) (r .step) n
 unfolding answerLines
-answerLines-suc k [] [] e r n = append-nil (answerLine k (r .step) n) ∙ ap (λ j. answerLine j (r .step) n) (sym (add-zero k))
+answerLines-suc k [] [] e r n =
+    append-nil (answerLine k (r .step) n) ∙ ap (λ j. answerLine j (r .step) n) (sym (add-zero k))
 answerLines-suc k (q ∷ rs) (m ∷ ns) e r n =
     let e′ : length rs ≡ length ns = omega (arith, e) in
     let j : suc k + length rs ≡ k + suc (length rs) = omega arith in
     ap (λ t. answerLine k (q .step) m ++ t) (answerLines-suc (suc k) rs ns e′ r n)
-    ∙ sym (append-assoc (answerLine k (q .step) m) (answerLines (suc k) rs ns) (answerLine (suc k + length rs) (r .step) n))
+    ∙ sym (append-assoc (answerLine k (q .step) m) (answerLines (suc k) rs ns)
+    (answerLine (suc k + length rs) (r .step) n))
     ∙ ap (λ i. (answerLine k (q .step) m ++ answerLines (suc k) rs ns) ++ answerLine i (r .step) n) j
 answerLines-suc k [] (m ∷ ns) e r n = absurd (omega (arith, e))
 answerLines-suc k (q ∷ rs) [] e r n = absurd (omega (arith, e))
@@ -44,13 +46,16 @@ unfolding records
 records-length zero s = refl
 records-length (suc n) s = ap suc (records-length n (drop 8 s))
 
-pub lines-suc : (s : Text) (ns : List ℕ) (i : ℕ) → i < length ns → lines s ns (suc i) ≡ lines s ns i ++ answerLine (suc i) (getD s (8 * i) 0) (getD ns i 0)
+pub lines-suc : (s : Text) (ns : List ℕ) (i : ℕ) → i < length ns
+    → lines s ns (suc i) ≡ lines s ns i ++ answerLine (suc i) (getD s (8 * i) 0) (getD ns i 0)
 unfolding lines
 lines-suc s ns i h =
     let l : length (records i s) ≡ length (take i ns) = records-length i s ∙ sym (length-take-le i ns (omega arith)) in
     let n : 1 + length (records i s) ≡ suc i = omega (arith, records-length i s) in
-    let d : getD (drop (8 * i) s) 0 0 ≡ getD s (8 * i) 0 = getD-drop (8 * i) s 0 0 ∙ ap (λ j. getD s j 0) (add-zero (8 * i)) in
-    ap₂ (answerLines 1) (records-suc i s) (take-suc ns i 0 h) ∙ answerLines-suc 1 (records i s) (take i ns) l (recordAt (drop (8 * i) s)) (getD ns i 0)
+    let d : getD (drop (8 * i) s) 0 0 ≡ getD s (8 * i) 0 = getD-drop (8 * i) s 0 0
+    ∙ ap (λ j. getD s j 0) (add-zero (8 * i)) in
+    ap₂ (answerLines 1) (records-suc i s) (take-suc ns i 0 h)
+    ∙ answerLines-suc 1 (records i s) (take i ns) l (recordAt (drop (8 * i) s)) (getD ns i 0)
     ∙ ap₂ (λ k n. answerLines 1 (records i s) (take i ns) ++ answerLine k n (getD ns i 0)) n d
 
 pub lines-none : (s : Text) (ns : List ℕ) → lines s ns 0 ≡ []
@@ -58,7 +63,8 @@ unfolding lines records answerLines
 lines-none s ns = refl
 
 -- More records take no less room.
-pub lines-more : (s : Text) (ns : List ℕ) (i d : ℕ) → i + d ≤ length ns → length (lines s ns i) ≤ length (lines s ns (i + d))
+pub lines-more : (s : Text) (ns : List ℕ) (i d : ℕ) → i + d ≤ length ns
+    → length (lines s ns i) ≤ length (lines s ns (i + d))
 lines-more s ns i zero h = rw (add-zero i) (omega arith)
 lines-more s ns i (suc d) h =
     rw (add-suc i d) (omega (
@@ -76,10 +82,12 @@ pub one-more : (s : Text) (ns : List ℕ) (i : ℕ) → i < length ns → lines 
 one-more s ns i h = rw (add-one i) (lines-suc s ns i h)
 
 -- Room for the lines of n records is room for each of them after those before it.
-pub lines-room : (s : Text) (ns : List ℕ) (i n : ℕ) → i < n → n ≤ length ns → length (lines s ns i) + length (lineAt s ns i) ≤ length (lines s ns n)
+pub lines-room : (s : Text) (ns : List ℕ) (i n : ℕ) → i < n → n ≤ length ns
+    → length (lines s ns i) + length (lineAt s ns i) ≤ length (lines s ns n)
 lines-room s ns i n h l =
     let e : i + 1 + (n - (i + 1)) ≡ n = omega (arith, h) in
-    let m = subst (λ k. length (lines s ns (i + 1)) ≤ length (lines s ns k)) e (lines-more s ns (i + 1) (n - (i + 1)) (omega (arith, e, l))) in
+    let m = subst (λ k. length (lines s ns (i + 1)) ≤ length (lines s ns k)) e
+    (lines-more s ns (i + 1) (n - (i + 1)) (omega (arith, e, l))) in
     omega (arith, m, ap length (one-more s ns i (omega (arith, h, l))), length-append (lines s ns i) (lineAt s ns i))
 
 -- How many digits there are at most.
@@ -87,7 +95,8 @@ pub few : (n r : ℕ) → r ≡ length (digits n) → n < 2 ^ 32 → r ≤ 10
 few n r e h = omega (arith, e, digits-most-10 n h)
 
 -- A line has at most 12 bytes: four digits of its number, three of the step's byte, two of an answer.
-pub lines-most : (s : Text) (ns : List ℕ) → ((i : ℕ) → getD s i 0 < 256) → (n : ℕ) → ((i : ℕ) → i < n → getD ns i 0 < 100) → n ≤ 4095 → n ≤ length ns → length (lines s ns n) ≤ 12 * n
+pub lines-most : (s : Text) (ns : List ℕ) → ((i : ℕ) → getD s i 0 < 256) → (n : ℕ)
+    → ((i : ℕ) → i < n → getD ns i 0 < 100) → n ≤ 4095 → n ≤ length ns → length (lines s ns n) ≤ 12 * n
 lines-most s ns hs zero hn h l = omega (arith, ap length (lines-none s ns))
 lines-most s ns hs (suc n) hn h l = omega (
   arith,
@@ -102,7 +111,13 @@ lines-most s ns hs (suc n) hn h l = omega (
 
 -- A text that is too long, and one that was written.
 pub too-long : {text out : Text} → length out < length text → Delivered text out out 3
-too-long {text} {out} h = record { answer = rw (lt-leb (length text) (length out) h); left = rw (lt-leb (length text) (length out) h) }
+too-long {text} {out} h =
+    record { answer = rw (lt-leb (length text) (length out) h); left = rw (lt-leb (length text) (length out) h) }
 
-pub fitting : {text out out′ : Text} {r : ℕ} → length text ≤ length out → Wrote out 0 text out′ r → Delivered text out out′ r
-fitting {text} {out} h w = record { answer = w .next ∙ rw (le-leb (length text) (length out) h, zero-add (length text)); left = w .text ∙ rw (le-leb (length text) (length out) h) }
+pub fitting : {text out out′ : Text} {r : ℕ} → length text ≤ length out → Wrote out 0 text out′ r
+    → Delivered text out out′ r
+fitting {text} {out} h w =
+    record {
+      answer = w .next ∙ rw (le-leb (length text) (length out) h, zero-add (length text));
+      left = w .text ∙ rw (le-leb (length text) (length out) h);
+    }

@@ -32,7 +32,8 @@ replica views joined len epoch b =
 pub replica-is :
     (views : List View) (joined len : List ℕ) (epoch b : ℕ) → 1 ≤ b
     → replica views joined len epoch b
-    ≡ boardText b (viewOf (getD views (b - 1) noView)) (getD joined (b - 1) 0) (getD len (b - 1) 0) (ltb (getD views (b - 1) noView .epoch) epoch)
+    ≡ boardText b (viewOf (getD views (b - 1) noView)) (getD joined (b - 1) 0) (getD len (b - 1) 0)
+    (ltb (getD views (b - 1) noView .epoch) epoch)
 replica-is views joined len epoch b h = rw (at-index noView views b h, at-index 0 joined b h, at-index 0 len b h)
 
 -- Values, one after the other
@@ -43,29 +44,36 @@ values-append [] ys = refl
 values-append (x ∷ xs) ys = rw (values-append xs ys, append-assoc (digits x) (valuesText xs) (valuesText ys))
 
 -- The first i values and then the next are the first i + 1.
-pub values-next : (s : List ℕ) (i : ℕ) → i < length s → valuesText (take (i + 1) s) ≡ valuesText (take i s) ++ (space ++ digits (getD s i 0))
+pub values-next : (s : List ℕ) (i : ℕ) → i < length s
+    → valuesText (take (i + 1) s) ≡ valuesText (take i s) ++ (space ++ digits (getD s i 0))
 unfolding valuesText
-values-next s i h = rw (add-one i, take-suc s i 0 h, values-append (take i s) (getD s i 0 ∷ []), append-nil (digits (getD s i 0)))
+values-next s i h =
+    rw (add-one i, take-suc s i 0 h, values-append (take i s) (getD s i 0 ∷ []), append-nil (digits (getD s i 0)))
 
 -- What is left of n values once i are written.
 abbrev pub valuesLeft : List ℕ → ℕ → ℕ → Text
 valuesLeft s n i = valuesText (drop (suc i) (take n s))
 
-values-split : (s : List ℕ) (n i : ℕ) → i < n → n ≤ length s → valuesText (take n s) ≡ valuesText (take i s) ++ (space ++ (digits (getD s i 0) ++ valuesLeft s n i))
+values-split : (s : List ℕ) (n i : ℕ) → i < n → n ≤ length s
+    → valuesText (take n s) ≡ valuesText (take i s) ++ (space ++ (digits (getD s i 0) ++ valuesLeft s n i))
 unfolding valuesText
 values-split s n i h k =
     let l : length (take n s) ≡ n = length-take-le n s k in
-    ap valuesText (split-at (take n s) i 0 (omega arith)) ∙ values-append (take i (take n s)) (getD (take n s) i 0 ∷ drop (suc i) (take n s)) ∙ rw (take-take i n s (omega arith), getD-take n s i 0 h)
+    ap valuesText (split-at (take n s) i 0 (omega arith)) ∙ values-append (take i (take n s))
+    (getD (take n s) i 0 ∷ drop (suc i) (take n s)) ∙ rw (take-take i n s (omega arith), getD-take n s i 0 h)
 
 -- There is room for one more of them.
 pub values-room :
     {d e : Text} {at p : ℕ} (s : List ℕ) (n i : ℕ) → i < n → n ≤ length s → Wrote d at (valuesText (take i s)) e p
-    → at + length (valuesText (take n s)) ≤ length d → p + length (space ++ (digits (getD s i 0) ++ valuesLeft s n i)) ≤ length e
+    → at + length (valuesText (take n s)) ≤ length d
+    → p + length (space ++ (digits (getD s i 0) ++ valuesLeft s n i)) ≤ length e
 values-room {d} {e} {at} {p} s n i h k w r =
-    rest (valuesText (take i s)) (space ++ (digits (getD s i 0) ++ valuesLeft s n i)) w (subst (λ t. at + length t ≤ length d) (values-split s n i h k) r)
+    rest (valuesText (take i s)) (space ++ (digits (getD s i 0) ++ valuesLeft s n i)) w
+    (subst (λ t. at + length t ≤ length d) (values-split s n i h k) r)
 
 -- The line of n receipts.
-pub receipts-is : (s : List ℕ) (n : ℕ) → n ≤ length s → receiptsLine (take n s) ≡ word "receipts " ++ (digits n ++ (valuesText (take n s) ++ newline))
+pub receipts-is : (s : List ℕ) (n : ℕ) → n ≤ length s
+    → receiptsLine (take n s) ≡ word "receipts " ++ (digits n ++ (valuesText (take n s) ++ newline))
 unfolding receiptsLine
 receipts-is s n h = rw (length-take-le n s h)
 
@@ -79,7 +87,8 @@ values-most (suc n) [] h = omega arith
 values-most (suc n) (x ∷ xs) h =
     simp length-append (omega (arith, digits-most-10 x (h 0), values-most n xs (λ i. h (suc i))))
 
-pub receipts-most : (n : ℕ) (s : List ℕ) → n ≤ 512 → ((i : ℕ) → getD s i 0 < 2 ^ 32) → length (receiptsLine (take n s)) ≤ 13 + 11 * n
+pub receipts-most : (n : ℕ) (s : List ℕ) → n ≤ 512 → ((i : ℕ) → getD s i 0 < 2 ^ 32)
+    → length (receiptsLine (take n s)) ≤ 13 + 11 * n
 unfolding receiptsLine
 receipts-most n s k h =
     let c : length (take n s) ≤ 512 = omega (arith, length-take n s) in
@@ -91,11 +100,15 @@ module _ (m : M.Outline) (list : List ℕ) (ranges : inRange m ≡ true) (words 
 
   line-most : (b : ℕ) → T (isReplica b) → length (boardLine m b) ≤ 46
   unfolding boardLine
-  line-most b t = board-most b (m .view b) (m .joined b) (m .len b) (ltb (m .view b .epoch) (m .registry .view .epoch)) (replica-range b t .1) (all .views b t) (all .joined b t .1) (all .logs b t)
+  line-most b t =
+      board-most b (m .view b) (m .joined b) (m .len b) (ltb (m .view b .epoch) (m .registry .view .epoch))
+      (replica-range b t .1) (all .views b t) (all .joined b t .1) (all .logs b t)
 
   boards-most : length (boardLines m) ≤ 368
   unfolding boardLines
-  boards-most = eight-most 46 (boardLine m) (line-most 1 tt) (line-most 2 tt) (line-most 3 tt) (line-most 4 tt) (line-most 5 tt) (line-most 6 tt) (line-most 7 tt) (line-most 8 tt)
+  boards-most =
+      eight-most 46 (boardLine m) (line-most 1 tt) (line-most 2 tt) (line-most 3 tt) (line-most 4 tt) (line-most 5 tt)
+      (line-most 6 tt) (line-most 7 tt) (line-most 8 tt)
 
   pub ending-most : length (ending m (take (m .issued) list)) ≤ 6144
   unfolding ending

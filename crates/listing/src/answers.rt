@@ -1,5 +1,5 @@
-// The first lines of a listing: record, step, answer. Inner layer: callers see to it that there is an answer for each record, 4,095 of
-// them at most, that an answer has two digits at most, and to the room.
+// The first lines of a listing: record, step, answer. Inner layer: callers see to it that there is an answer for each
+// record, 4,095 of them at most, that an answer has two digits at most, and to the room.
 
 ghost use mathlib.Core.Path.{_≡_};
 ghost use mathlib.Core.List.{_++_};
@@ -23,7 +23,10 @@ fn line_length(k: u32, step: u8, answer: u8) -> usize
 // How long the lines of a sheet's records are, where there is an answer for each.
 fn answers_length(sheet: &[u8], answers: &[u8]) -> usize
     requires { ⌜ (length (now sheet) / 8 ≤ 4095) × (length (now sheet) / 8 ≤ length (now answers)) ⌝ }
-    ensures { λ r. ⌜ (r ≡ length (lines (now (sheet .entry)) (now (answers .entry)) (length (now (sheet .entry)) / 8))) × (r ≤ 135135) ⌝ }
+    ensures { λ r. ⌜
+        (r ≡ length (lines (now (sheet .entry)) (now (answers .entry)) (length (now (sheet .entry)) / 8)))
+        × (r ≤ 135135)
+        ⌝ }
 {
     let n = sheet.len() / 8;
     let mut total: usize = 0;
@@ -38,8 +41,16 @@ fn answers_length(sheet: &[u8], answers: &[u8]) -> usize
 // Whether a slice of `room` bytes has place for the lines and `end` bytes more. A line has at most 12 bytes, so
 // where there is place for as many of each record, no line is counted.
 fn has_room(sheet: &[u8], answers: &[u8], end: usize, room: usize) -> bool
-    requires { ⌜ (length (now sheet) / 8 ≤ 4095) × (length (now sheet) / 8 ≤ length (now answers)) × (end ≤ 6144) × ((i : ℕ) → i < length (now sheet) / 8 → getD (now answers) i 0 < 100) ⌝ }
-    ensures { λ r. ⌜ r ≡ leb (length (lines (now (sheet .entry)) (now (answers .entry)) (length (now (sheet .entry)) / 8)) + end) room ⌝ }
+    requires { ⌜
+        (length (now sheet) / 8 ≤ 4095)
+        × (length (now sheet) / 8 ≤ length (now answers))
+        × (end ≤ 6144)
+        × ((i : ℕ) → i < length (now sheet) / 8 → getD (now answers) i 0 < 100)
+        ⌝ }
+    ensures { λ r. ⌜
+        r ≡ leb (length (lines (now (sheet .entry)) (now (answers .entry)) (length (now (sheet .entry)) / 8)) + end)
+        room
+        ⌝ }
 {
     if 12 * (sheet.len() / 8) + end <= room {
         return true;
@@ -49,8 +60,15 @@ fn has_room(sheet: &[u8], answers: &[u8], end: usize, room: usize) -> bool
 
 // Writes the records' lines.
 fn put_answers(out: &mut [u8], sheet: &[u8], answers: &[u8]) -> usize
-    requires { ⌜ (length (now sheet) / 8 ≤ 4095) × (length (now sheet) / 8 ≤ length (now answers)) × (length (lines (now sheet) (now answers) (length (now sheet) / 8)) ≤ length (now out)) ⌝ }
-    ensures { λ r. ⌜ Wrote (now (out .entry)) 0 (lines (now (sheet .entry)) (now (answers .entry)) (length (now (sheet .entry)) / 8)) (now (out .exit)) r ⌝ }
+    requires { ⌜
+        (length (now sheet) / 8 ≤ 4095)
+        × (length (now sheet) / 8 ≤ length (now answers))
+        × (length (lines (now sheet) (now answers) (length (now sheet) / 8)) ≤ length (now out))
+        ⌝ }
+    ensures { λ r. ⌜
+        Wrote (now (out .entry)) 0
+        (lines (now (sheet .entry)) (now (answers .entry)) (length (now (sheet .entry)) / 8)) (now (out .exit)) r
+        ⌝ }
 {
     let n = sheet.len() / 8;
     let mut at: usize = 0;
@@ -63,11 +81,21 @@ fn put_answers(out: &mut [u8], sheet: &[u8], answers: &[u8]) -> usize
     at
 }
 
-// Writes the lines of the records and the ending after them, if both fit; else refusal 3. Inner layer: callers see to it that there is an answer
-// of two digits at most for each record, 4,095 of them at most, and that the ending is short.
+// Writes the lines of the records and the ending after them, if both fit; else refusal 3. Inner layer: callers see to
+// it that there is an answer of two digits at most for each record, 4,095 of them at most, and that the ending is
+// short.
 pub fn deliver(sheet: &[u8], answers: &[u8], ending: &[u8], out: &mut [u8]) -> usize
-    requires { ⌜ (length (now sheet) / 8 ≤ 4095) × (length (now sheet) / 8 ≤ length (now answers)) × (length (now ending) ≤ 6144) × ((i : ℕ) → i < length (now sheet) / 8 → getD (now answers) i 0 < 100) ⌝ }
-    ensures { λ r. ⌜ Delivered (lines (now (sheet .entry)) (now (answers .entry)) (length (now (sheet .entry)) / 8) ++ now (ending .entry)) (now (out .entry)) (now (out .exit)) r ⌝ }
+    requires { ⌜
+        (length (now sheet) / 8 ≤ 4095)
+        × (length (now sheet) / 8 ≤ length (now answers))
+        × (length (now ending) ≤ 6144)
+        × ((i : ℕ) → i < length (now sheet) / 8 → getD (now answers) i 0 < 100)
+        ⌝ }
+    ensures { λ r. ⌜
+        Delivered
+        (lines (now (sheet .entry)) (now (answers .entry)) (length (now (sheet .entry)) / 8) ++ now (ending .entry))
+        (now (out .entry)) (now (out .exit)) r
+        ⌝ }
 {
     if !has_room(sheet, answers, ending.len(), out.len()) {
         return 3;

@@ -1,4 +1,5 @@
-// The lines after the answers, from the row and the committed list. Inner layer: callers see to the room, and that b is a replica.
+// The lines after the answers, from the row and the committed list. Inner layer: callers see to the room, and that b is
+// a replica.
 
 ghost use mathlib.Core.Bool.{true};
 ghost use mathlib.Core.Path.{_≡_};
@@ -23,8 +24,21 @@ fn put_replica(
     len: [u16; 8],
     epoch: u16,
 ) -> usize
-    requires { ⌜ (1 ≤ b) × (b ≤ 8) × (at + length (boardText b (viewOf (getD views (b - 1) noView)) (getD joined (b - 1) 0) (getD len (b - 1) 0) (ltb (getD views (b - 1) noView .epoch) epoch)) ≤ length (now out)) ⌝ }
-    ensures { λ r. ⌜ Wrote (now (out .entry)) at (boardText b (viewOf (getD views (b - 1) noView)) (getD joined (b - 1) 0) (getD len (b - 1) 0) (ltb (getD views (b - 1) noView .epoch) epoch)) (now (out .exit)) r ⌝ }
+    requires { ⌜
+        (1 ≤ b)
+        × (b ≤ 8)
+        × (at + length (boardText b
+        (viewOf (getD views (b - 1) noView)) (getD joined (b - 1) 0) (getD len (b - 1) 0)
+        (ltb (getD views (b - 1) noView .epoch) epoch))
+        ≤ length (now out))
+        ⌝ }
+    ensures { λ r. ⌜
+        Wrote (now (out .entry)) at
+        (boardText b
+        (viewOf (getD views (b - 1) noView)) (getD joined (b - 1) 0) (getD len (b - 1) 0)
+        (ltb (getD views (b - 1) noView .epoch) epoch))
+        (now (out .exit)) r
+        ⌝ }
 {
     let i = (b - 1) as usize;
     let v = views[i];
@@ -78,11 +92,14 @@ fn put_receipts(out: &mut [u8], at: usize, list: &[u32], n: u16) -> usize
     text::put_byte(&mut *out, c, 10)
 }
 
-// Writes the ending at the start of a slice: the registry, the controller, the replicas, the receipts. Inner layer: callers see to it that
-// the row is in range, the list as long as it says, and the slice long enough for any ending.
+// Writes the ending at the start of a slice: the registry, the controller, the replicas, the receipts. Inner layer:
+// callers see to it that the row is in range, the list as long as it says, and the slice long enough for any ending.
 pub fn put_ending(out: &mut [u8], row: Cluster, list: &[u32]) -> usize
     requires { ⌜ (inRange (outlineOf row) ≡ true) × (row .issued ≤ length (now list)) × (6144 ≤ length (now out)) ⌝ }
-    ensures { λ r. ⌜ Wrote (now (out .entry)) 0 (ending (outlineOf row) (take (row .issued) (now (list .entry)))) (now (out .exit)) r × (r ≤ 6144) ⌝ }
+    ensures { λ r. ⌜
+        Wrote (now (out .entry)) 0 (ending (outlineOf row) (take (row .issued) (now (list .entry)))) (now (out .exit)) r
+        × (r ≤ 6144)
+        ⌝ }
 {
     let g = row.registry;
     let k = row.controller;

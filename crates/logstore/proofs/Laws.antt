@@ -72,7 +72,9 @@ shared-take (x ∷ xs) (y ∷ ys) = kept x xs (shared eqb xs ys) (eqb x y) (shar
 
 -- It is no longer than the first.
 pub shared-length : (xs ys : List ℕ) → length (shared eqb xs ys) ≤ length xs
-shared-length xs ys = let e = ap length (shared-take xs ys) ∙ length-take (length (shared eqb xs ys)) xs in omega (arith, e)
+shared-length xs ys =
+    let e = ap length (shared-take xs ys) ∙ length-take (length (shared eqb xs ys)) xs in
+    omega (arith, e)
 
 -- How many entries they share from i on.
 abbrev pub sharedFrom : List ℕ → List ℕ → ℕ → ℕ
@@ -118,7 +120,8 @@ module _ (s : List ℕ) (full : length s ≡ 4096) (b : ℕ) (low : 1 ≤ b) (hi
       rw (drop-set-add (512 * (b - 1)) s n v) (list-gains (drop (512 * (b - 1)) s) n v l)
 
   -- The log cut to what it shares with another.
-  pub log-joins : (ys : List ℕ) → n ≤ 512 → logOf s b (length (shared eqb (logOf s b n) ys)) ≡ shared eqb (logOf s b n) ys
+  pub log-joins : (ys : List ℕ) → n ≤ 512
+      → logOf s b (length (shared eqb (logOf s b n) ys)) ≡ shared eqb (logOf s b n) ys
   log-joins ys h =
       let k : length (shared eqb (logOf s b n) ys) ≤ n = omega (arith, shared-length (logOf s b n) ys, log-length h) in
       sym (shared-take (logOf s b n) ys ∙ log-cut s b n (length (shared eqb (logOf s b n) ys)) k)

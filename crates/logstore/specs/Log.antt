@@ -1,4 +1,5 @@
--- The log store, 512 places for each replica, and the committed list. Cited by the contracts of logstore, and by what speaks of a cluster's memory. Assumes nothing.
+-- The log store, 512 places for each replica, and the committed list. Cited by the contracts of logstore, and by what
+-- speaks of a cluster's memory. Assumes nothing.
 use mathlib.Core.Bool.{cond}
 use mathlib.Core.List.{List}
 use Prim.Native.Nat.{ℕ, _+_, _-_, _*_}
@@ -17,6 +18,7 @@ logOf store b n = take n (drop (512 * (b - 1)) store)
 abbrev pub visibleOf : List ℕ → List ℕ → ℕ → ℕ → ℕ → List ℕ
 visibleOf store committed leader len issued = cond (eqb leader 0) (take issued committed) (logOf store leader len)
 
--- Where that part begins, a block and an offset in bytes: at the leader's first place of the store, or where the committed list does.
+-- Where that part begins, a block and an offset in bytes: at the leader's first place of the store, or where the
+-- committed list does.
 abbrev pub visibleAt : ℕ × ℕ → ℕ × ℕ → ℕ → ℕ × ℕ
 visibleAt store committed leader = cond (eqb leader 0) committed (store .0, store .1 + 4 * place leader 0)

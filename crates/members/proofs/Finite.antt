@@ -31,7 +31,8 @@ at-replica f t b h k =
     let e : suc (b - 1) ≡ b = omega arith in
     subst (λ i. f i ≡ true) e (below (λ i. f (suc i)) 8 t (b - 1) (omega arith))
 
-pub at-replicas : (f : ℕ → ℕ → Bool) → each (λ b. each (f b)) ≡ true → (b x : ℕ) → 1 ≤ b → b ≤ 8 → 1 ≤ x → x ≤ 8 → f b x ≡ true
+pub at-replicas : (f : ℕ → ℕ → Bool) → each (λ b. each (f b)) ≡ true → (b x : ℕ) → 1 ≤ b → b ≤ 8 → 1 ≤ x → x ≤ 8
+    → f b x ≡ true
 at-replicas f t b x hb kb hx kx = at-replica (f b) (at-replica (λ c. each (f c)) t b hb kb) x hx kx
 
 -- Two tests with one outcome are equal.

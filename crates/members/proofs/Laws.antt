@@ -1,4 +1,5 @@
--- Masks and the sets that they stand for. A law over all masks is one test that antt computes, over 256 masks and 8 replicas. Assumes nothing.
+-- Masks and the sets that they stand for. A law over all masks is one test that antt computes, over 256 masks and 8
+-- replicas. Assumes nothing.
 use mathlib.Core.Bool.{Bool, true, false, cond, _&&_, and-eq-true-iff, Bool·beq}
 use mathlib.Core.Path.{_≡_, refl, sym, ap, ap₂, _∙_, fun-ext}
 use Prim.Native.Nat.{ℕ, _+_, _-_, _*_, _/_, _%_, _^_, _<_, _≤_}
@@ -52,7 +53,8 @@ bits-at m b h k = rw (replica b h k)
 
 -- A mask's set is the set that has the same replicas, and nothing else.
 pub bits-is :
-    (m : ℕ) (p : Members) → ((x : ℕ) → isReplica x ≡ false → p x ≡ false) → ((x : ℕ) → 1 ≤ x → x ≤ 8 → bits m x ≡ p x) → bits m ≡ p
+    (m : ℕ) (p : Members) → ((x : ℕ) → isReplica x ≡ false → p x ≡ false) → ((x : ℕ) → 1 ≤ x → x ≤ 8 → bits m x ≡ p x)
+    → bits m ≡ p
 bits-is m p out inside = same-members (bits m) p (λ x e. bits-out m x e ∙ sym (out x e)) inside
 
 -- What put makes of a mask: the bit of b taken out, then present put there.
@@ -68,7 +70,8 @@ put-passes true = refl
 put-passes false = refl
 
 -- A mask after put.
-pub bits-put : (m b : ℕ) (present : Bool) → m < 256 → 1 ≤ b → b ≤ 8 → bits (putMask m b present) ≡ upd (bits m) b present
+pub bits-put : (m b : ℕ) (present : Bool) → m < 256 → 1 ≤ b → b ≤ 8
+    → bits (putMask m b present) ≡ upd (bits m) b present
 unfolding putTest
 bits-put m b present hm h k =
     let passes = below (λ n. each (λ c. each (putTest present n c))) 256 (put-passes present) m hm in
@@ -92,7 +95,8 @@ bits-single b h k =
 -- The mask of no replica.
 pub bits-none : bits 0 ≡ none
 unfolding bits
-bits-none = bits-is 0 none (λ x e. refl) (λ x h k. beq-true _ _ (at-replica (λ b. Bool·beq (bits 0 b) false) refl x h k))
+bits-none =
+    bits-is 0 none (λ x e. refl) (λ x h k. beq-true _ _ (at-replica (λ b. Bool·beq (bits 0 b) false) refl x h k))
 
 andTest : ℕ → ℕ → Bool
 andTest a c = Bool·beq (eqb (bitAnd a c) 1) (eqb a 1 && eqb c 1)
@@ -108,13 +112,20 @@ bits-both m q = bits-is (bitAnd m q) (bits m ∩ bits q) (λ x e. rw (bits-out m
     inside : (x : ℕ) → 1 ≤ x → x ≤ 8 → bits (bitAnd m q) x ≡ (bits m x && bits q x)
     inside x h k =
         let d = 2 ^ (x - 1) in
-        rw (bits-at (bitAnd m q) x h k, bits-at m x h k, bits-at q x h k, and-shr m q (x - 1), and-mod (m / d) (q / d) 1)
+        rw (
+          bits-at (bitAnd m q) x h k,
+          bits-at m x h k,
+          bits-at q x h k,
+          and-shr m q (x - 1),
+          and-mod (m / d) (q / d) 1,
+        )
         (digit-and (m / d % 2) (q / d % 2) (omega arith) (omega arith))
 
 -- The mask of a set: bits the other way.
 abbrev pub maskOf : Members → ℕ
 maskOf p =
-    bit (p 1) + 2 * bit (p 2) + 4 * bit (p 3) + 8 * bit (p 4) + 16 * bit (p 5) + 32 * bit (p 6) + 64 * bit (p 7) + 128 * bit (p 8)
+    bit (p 1) + 2 * bit (p 2) + 4 * bit (p 3) + 8 * bit (p 4) + 16 * bit (p 5) + 32 * bit (p 6) + 64 * bit (p 7)
+    + 128 * bit (p 8)
 
 pub mask-bits : (m : ℕ) → m < 256 → maskOf (bits m) ≡ m
 unfolding bits
@@ -132,7 +143,18 @@ bit-le false = omega arith
 
 -- A set has at most eight replicas.
 pub size-le : (p : Members) → size p ≤ 8
-size-le p = omega (arith, bit-le (p 1), bit-le (p 2), bit-le (p 3), bit-le (p 4), bit-le (p 5), bit-le (p 6), bit-le (p 7), bit-le (p 8))
+size-le p =
+    omega (
+      arith,
+      bit-le (p 1),
+      bit-le (p 2),
+      bit-le (p 3),
+      bit-le (p 4),
+      bit-le (p 5),
+      bit-le (p 6),
+      bit-le (p 7),
+      bit-le (p 8),
+    )
 
 -- A mask has as many replicas as ones.
 pub ones-size : (m : ℕ) → m < 256 → ones m ≡ size (bits m)
@@ -142,7 +164,8 @@ ones-size m h = eqb-true _ _ (below (λ n. eqb (ones n) (size (bits n))) 256 ref
 -- The lowest member is the lowest bit.
 pub zeros-lowest : (m : ℕ) → m < 256 → cond (eqb m 0) 0 (trailingZeros 8 m + 1) ≡ lowest (bits m)
 unfolding bits trailingZeros
-zeros-lowest m h = eqb-true _ _ (below (λ n. eqb (cond (eqb n 0) 0 (trailingZeros 8 n + 1)) (lowest (bits n))) 256 refl m h)
+zeros-lowest m h =
+    eqb-true _ _ (below (λ n. eqb (cond (eqb n 0) 0 (trailingZeros 8 n + 1)) (lowest (bits n))) 256 refl m h)
 
 side : (b x : ℕ) (t : Bool) → ltb x b ≡ t → (x ≡ b → ⊥) → t ≡ ltb x (b + 1)
 side b x true e d = let h = ltb-true x b e in sym (lt-ltb x (b + 1) (omega arith))

@@ -1,4 +1,5 @@
--- A set of replicas as a number below 256, a mask. Cited by the contracts of members, and by those that speak of a mask. Assumes nothing.
+-- A set of replicas as a number below 256, a mask. Cited by the contracts of members, and by those that speak of a
+-- mask. Assumes nothing.
 use mathlib.Core.Bool.{_&&_}
 use Prim.Native.Nat.{ℕ, _-_, _/_, _%_, _^_}
 use lib.Dec.{ltb, eqb}

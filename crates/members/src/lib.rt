@@ -1,3 +1,5 @@
+// A set of replicas as a mask, replica 1 the lowest bit. Inner layer: callers see to it that b is a replica, 1 to 8.
+
 ghost use mathlib.Core.Path.{_≡_};
 ghost use mathlib.Core.Bool.{true, false};
 ghost use Prim.Native.Nat.{_≤_};
@@ -5,8 +7,6 @@ ghost use Rattle.model.specs.Prelude.{upd};
 ghost use Rattle.model.specs.Members as Q;
 ghost use Rattle.model.specs.Members.{_∩_};
 ghost use Rattle.members.specs.Mask.{bits};
-
-// A set of replicas as a mask, replica 1 the lowest bit. Inner layer: callers see to it that b is a replica, 1 to 8.
 
 // Whether b is in the set. Inner layer: callers see to b.
 pub fn has(m: u8, b: u8) -> bool

@@ -15,11 +15,22 @@ use Rattle.records.specs.Bytes.{wholeRecords}
 
 -- Whole records, one at least: room for the first.
 pub room : (n : ℕ) → wholeRecords n ≡ true → 0 + 8 ≤ n
-room n e = omega (arith, leb→le 1 (n / 8) (split-and (eqb (n % 8) 0) (leb 1 (n / 8)) (split-and (eqb (n % 8) 0 && leb 1 (n / 8)) (leb (n / 8) 4095) (subst T (sym e) tt) .0) .1))
+room n e =
+    omega (
+      arith,
+      leb→le 1 (n / 8) (split-and (eqb (n % 8) 0) (leb 1 (n / 8))
+          (split-and (eqb (n % 8) 0 && leb 1 (n / 8)) (leb (n / 8) 4095) (subst T (sym e) tt) .0) .1),
+    )
 
 module _ (s : List ℕ) (at : ℕ) where
   pub decoded : (v : ℕ) → v ≡ number (getD s (at + 4) 0) (getD s (at + 5) 0) (getD s (at + 6) 0) (getD s (at + 7) 0)
-      → _≡_ {A = Record} (record { step = getD s at 0; board = getD s (at + 1) 0; other = getD s (at + 2) 0; spare = getD s (at + 3) 0; value = v }) (recordAt (drop at s))
+      → _≡_ {A = Record} (record {
+        step = getD s at 0;
+        board = getD s (at + 1) 0;
+        other = getD s (at + 2) 0;
+        spare = getD s (at + 3) 0;
+        value = v;
+      }) (recordAt (drop at s))
   decoded v e = λ i. record {
     step = first i;
     board = sym (getD-drop at s 1 0) i;

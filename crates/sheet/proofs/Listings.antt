@@ -30,11 +30,13 @@ use Rattle.sheet.proofs.Playing.{sheet-whole, sheet-step, sheet-real}
 -- The first lines of the listing.
 pub lines-are : (s : Text) (k : ℕ) (row : Cluster) (p : Places) (ns : List ℕ) → isSheet s ≡ true → Ran s k row p ns
     → lines s ns (suc k)
-    ≡ answerLine 1 0 0 ++ answerLines 2 (following s k) (answers entries (opened (openingOf (recordAt s))) (stepsOf (following s k)))
+    ≡ answerLine 1 0 0
+    ++ answerLines 2 (following s k) (answers entries (opened (openingOf (recordAt s))) (stepsOf (following s k)))
 unfolding lines records answerLines
 lines-are s k row p ns e h =
     ap (answerLines 1 (recordAt s ∷ following s k)) (h .answered)
-    ∙ ap (λ n. answerLine 1 n 0 ++ answerLines 2 (following s k) (answers entries (opened (openingOf (recordAt s))) (stepsOf (following s k)))) (sheet-step s e)
+    ∙ ap (λ n. answerLine 1 n 0 ++ answerLines 2 (following s k)
+    (answers entries (opened (openingOf (recordAt s))) (stepsOf (following s k)))) (sheet-step s e)
 
 -- What was written aside, read back.
 pub read-back : {d xs e : Text} {r : ℕ} → Wrote d 0 xs e r → r ≤ length d → take r e ≡ xs
@@ -49,14 +51,21 @@ longer n xs ys h = omega (arith, length-append xs ys)
 -- The opening's line alone has six bytes.
 pub lengths-tell : LengthsTell
 unfolding LengthsTell listing listingOf
-lengths-tell s = longer 4 (answerLine 1 0 0) _ (omega (arith, line-length 1 0 0, digits-one-length 1 (omega arith), digits-one-length 0 (omega arith)))
+lengths-tell s =
+    longer 4 (answerLine 1 0 0) _ (omega (
+      arith,
+      line-length 1 0 0,
+      digits-one-length 1 (omega arith),
+      digits-one-length 0 (omega arith),
+    ))
 
 -- Refusal 2.
 pub no-sheet : (s out : Text) → isSheet s ≡ false → (2 ≡ result s out) × (out ≡ left s out)
 unfolding result left
 no-sheet s out e = (rw e, rw e)
 
-module _ (s : Text) (e : isSheet s ≡ true) (row : Cluster) (p : Places) (ns : List ℕ) (h : Ran s (length s / 8 - 1) row p ns) where
+module _ (s : Text) (e : isSheet s ≡ true) (row : Cluster) (p : Places) (ns : List ℕ)
+    (h : Ran s (length s / 8 - 1) row p ns) where
   abbrev k : ℕ
   k = length s / 8 - 1
 
@@ -77,14 +86,18 @@ module _ (s : Text) (e : isSheet s ≡ true) (row : Cluster) (p : Places) (ns : 
   unfolding listing listingOf
   listed =
       ap₂ (λ x y. x ++ y) (ap (lines s ns) (sym some) ∙ lines-are s k row p ns e h) (ap₂ ending (h .outlined) kept)
-      ∙ append-assoc (answerLine 1 0 0) (answerLines 2 (following s k) (answers entries (opened opening) past)) (ending (outline (stateAt s k)) (receipts entries opening past))
+      ∙ append-assoc (answerLine 1 0 0) (answerLines 2 (following s k) (answers entries (opened opening) past))
+      (ending (outline (stateAt s k)) (receipts entries opening past))
 
-  pub delivered : {text out out′ : Text} {r : ℕ} → text ≡ ending (outlineOf row) (take (row .issued) (p .list)) → Delivered (lines s ns (length s / 8) ++ text) out out′ r → (r ≡ result s out) × (out′ ≡ left s out)
+  pub delivered : {text out out′ : Text} {r : ℕ} → text ≡ ending (outlineOf row) (take (row .issued) (p .list))
+      → Delivered (lines s ns (length s / 8) ++ text) out out′ r → (r ≡ result s out) × (out′ ≡ left s out)
   unfolding result left
   delivered {text} {out} {out′} {r} t d =
       let l : lines s ns (length s / 8) ++ text ≡ listing s = ap (λ x. lines s ns (length s / 8) ++ x) t ∙ listed in (
-        d .answer ∙ ap (λ x. cond (leb (length x) (length out)) (length x) 3) l ∙ ap (λ t. cond t (cond (leb (length (listing s)) (length out)) (length (listing s)) 3) 2) (sym e),
-        d .left ∙ ap (λ x. cond (leb (length x) (length out)) (over out 0 x) out) l ∙ ap (λ t. cond (t && leb (length (listing s)) (length out)) (over out 0 (listing s)) out) (sym e),
+        d .answer ∙ ap (λ x. cond (leb (length x) (length out)) (length x) 3) l
+            ∙ ap (λ t. cond t (cond (leb (length (listing s)) (length out)) (length (listing s)) 3) 2) (sym e),
+        d .left ∙ ap (λ x. cond (leb (length x) (length out)) (over out 0 x) out) l
+            ∙ ap (λ t. cond (t && leb (length (listing s)) (length out)) (over out 0 (listing s)) out) (sym e),
       )
 
 -- A result that is no refusal is a length within the slice,
@@ -95,7 +108,8 @@ within false t n m e h = absurd (omega (arith, h))
 
 result-within : (s out : Text) → 3 < result s out → result s out ≤ length out
 unfolding result
-result-within s out h = within (isSheet s) (leb (length (listing s)) (length out)) (length (listing s)) (length out) refl h
+result-within s out h =
+    within (isSheet s) (leb (length (listing s)) (length out)) (length (listing s)) (length out) refl h
 
 -- and the slice is as long as it was.
 kept-length : (t : Bool) (out xs : Text) → length (cond t (over out 0 xs) out) ≡ length out
@@ -108,4 +122,5 @@ left-length s out = kept-length (isSheet s && leb (length (listing s)) (length o
 
 -- So a caller can read the listing back.
 pub readable : (s out : Text) {r : ℕ} {out′ : Text} → (r ≡ result s out) × (out′ ≡ left s out) → 4 ≤ r → r ≤ length out′
-readable s out p h = omega (arith, p .0, result-within s out (omega (arith, h, p .0)), ap length (p .1), left-length s out)
+readable s out p h =
+    omega (arith, p .0, result-within s out (omega (arith, h, p .0)), ap length (p .1), left-length s out)

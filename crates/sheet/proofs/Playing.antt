@@ -41,14 +41,18 @@ module _ (s : Text) (e : isSheet s ≡ true) where
   sheet-whole = is-true (wholeRecords (length s)) (parts .0)
 
   pub sheet-most : length s / 8 ≤ 4095
-  sheet-most = leb→le (length s / 8) 4095 (split-and (eqb (length s % 8) 0 && leb 1 (length s / 8)) (leb (length s / 8) 4095) (parts .0) .1)
+  sheet-most =
+      leb→le (length s / 8) 4095
+      (split-and (eqb (length s % 8) 0 && leb 1 (length s / 8)) (leb (length s / 8) 4095) (parts .0) .1)
 
   first : T (eqb (recordAt s .step) 0) × T (isReplica (recordAt s .board))
   first =
       let r = recordAt s in
-      split-and (eqb (r .step) 0) (isReplica (r .board)) (split-and (eqb (r .step) 0 && isReplica (r .board)) (eqb (r .other) 0)
+      split-and (eqb (r .step) 0) (isReplica (r .board))
+      (split-and (eqb (r .step) 0 && isReplica (r .board)) (eqb (r .other) 0)
       (split-and (eqb (r .step) 0 && isReplica (r .board) && eqb (r .other) 0) (eqb (r .spare) 0)
-      (split-and (eqb (r .step) 0 && isReplica (r .board) && eqb (r .other) 0 && eqb (r .spare) 0) (eqb (r .value) 0) (parts .1) .0) .0) .0)
+      (split-and (eqb (r .step) 0 && isReplica (r .board) && eqb (r .other) 0 && eqb (r .spare) 0) (eqb (r .value) 0)
+      (parts .1) .0) .0) .0)
 
   pub sheet-step : recordAt s .step ≡ 0
   sheet-step = eqb→eq (recordAt s .step) 0 (first .0)
@@ -62,7 +66,8 @@ pub begun : (s : Text) → isSheet s ≡ true → (b : ℕ) → b ≡ recordAt s
 begun s e b h x o =
     let first = openingOf (recordAt s) in
     subst (λ p. OpenedWith p (x .row))
-    (ap (λ n. cond (isReplica n) (openingWith n) (openingWith 1)) h ∙ ap (λ t. cond t first (openingWith 1)) (is-true (canOpen first) (sheet-real s e)))
+    (ap (λ n. cond (isReplica n) (openingWith n) (openingWith 1)) h
+    ∙ ap (λ t. cond t first (openingWith 1)) (is-true (canOpen first) (sheet-real s e)))
     (o .row)
 
 -- One record more.
@@ -93,7 +98,8 @@ all-small : (t : RowState) (sts : List Step) (i : ℕ) → getD (0 ∷ answers e
 all-small t sts zero = omega arith
 all-small t sts (suc i) = answers-small t sts i
 
-module _ (s : Text) (sheet : isSheet s ≡ true) (k : ℕ) (row : Cluster) (p : Places) (ns : List ℕ) (h : Ran s k row p ns) where
+module _ (s : Text) (sheet : isSheet s ≡ true) (k : ℕ) (row : Cluster) (p : Places) (ns : List ℕ)
+    (h : Ran s k row p ns) where
   abbrev opening : Opening
   opening = openingOf (recordAt s)
 
@@ -101,7 +107,9 @@ module _ (s : Text) (sheet : isSheet s ≡ true) (k : ℕ) (row : Cluster) (p : 
   past = stepsOf (following s k)
 
   pub ran-fits : inRange (outlineOf row) ≡ true
-  ran-fits = ap inRange (h .outlined) ∙ is-true (inRange (outline (stateAt s k))) (in-range entries opening (sheet-real s sheet) past)
+  ran-fits =
+      ap inRange (h .outlined)
+      ∙ is-true (inRange (outline (stateAt s k))) (in-range entries opening (sheet-real s sheet) past)
 
   pub ran-issued : row .issued ≤ length (p .list)
   ran-issued = omega (arith, h .full .list, to-ranges (outlineOf row) (of-true ran-fits) .committed)
@@ -117,7 +125,8 @@ module _ (s : Text) (sheet : isSheet s ≡ true) (k : ℕ) (row : Cluster) (p : 
   ran-ready shape = ready row shape ran-fits
 
   -- The record r that stands next, and the call of it.
-  module _ (r : Record) (place : r ≡ recordAt (drop (8 * k + 8) s)) {x : Outcome} {p′ : Places} (t : Turns (stepOf r) row p x p′) (small : k + 1 < length ns) where
+  module _ (r : Record) (place : r ≡ recordAt (drop (8 * k + 8) s)) {x : Outcome} {p′ : Places}
+      (t : Turns (stepOf r) row p x p′) (small : k + 1 < length ns) where
     valid-here : valid row p ≡ true
     valid-here = all-tests row p (h .full) ∙ ran-fits
 
@@ -125,7 +134,8 @@ module _ (s : Text) (sheet : isSheet s ≡ true) (k : ℕ) (row : Cluster) (p : 
     did = did-step (stepOf r) row p valid-here (h .full) t
 
     more : stepsOf (following s (suc k)) ≡ past ++ (stepOf r ∷ [])
-    more = ap stepsOf (following-suc s k ∙ ap (λ q. following s k ++ (q ∷ [])) (sym place)) ∙ steps-suc (following s k) r
+    more =
+        ap stepsOf (following-suc s k ∙ ap (λ q. following s k ++ (q ∷ [])) (sym place)) ∙ steps-suc (following s k) r
 
     reached : step entries (stateAt s k) (stepOf r) ≡ stateAt s (suc k)
     unfolding run
@@ -134,18 +144,20 @@ module _ (s : Text) (sheet : isSheet s ≡ true) (k : ℕ) (row : Cluster) (p : 
     pub ran-more : Ran s (k + 1) (x .row) p′ (set ns (k + 1) (x .answer))
     ran-more = rw (add-one k) record {
       state = t .state ∙ ap (λ y. step entries y (stepOf r)) (h .state) ∙ reached;
-      outlined = did .outlined ∙ ap (λ u. cond u (outline (step entries (abs row p) (stepOf r))) (outlineOf row)) valid-here
+      outlined =
+          did .outlined ∙ ap (λ u. cond u (outline (step entries (abs row p) (stepOf r))) (outlineOf row)) valid-here
           ∙ ap (λ y. outline (step entries y (stepOf r))) (h .state) ∙ ap outline reached;
       answered = take-suc-set ns (suc k) (x .answer) (omega arith)
           ∙ ap₂ (λ xs n. xs ++ (n ∷ [])) (h .answered) (t .answer ∙ ap (λ o. answerOf o (stepOf r)) (h .outlined))
-          ∙ ap (λ xs. 0 ∷ xs) (sym (answers-suc (opened opening) past (stepOf r)) ∙ ap (answers entries (opened opening)) (sym more));
+          ∙ ap (λ xs. 0 ∷ xs) (sym (answers-suc (opened opening) past (stepOf r))
+          ∙ ap (answers entries (opened opening)) (sym more));
       full = did-full (stepOf r) row p did (h .full);
       room = length-set ns (suc k) (x .answer) ∙ h .room;
     }
 
 -- Nothing but the opening.
-pub ran-none : (s : Text) (row : Cluster) → OpenedWith (openingOf (recordAt s)) row → (p : Places) → Full p → (ns : List ℕ) → length ns ≡ 4096
-    → Ran s 0 row p (set ns 0 0)
+pub ran-none : (s : Text) (row : Cluster) → OpenedWith (openingOf (recordAt s)) row → (p : Places) → Full p
+    → (ns : List ℕ) → length ns ≡ 4096 → Ran s 0 row p (set ns 0 0)
 unfolding records run answers
 ran-none s row o p full ns room = record {
   state = o .state p;

@@ -21,7 +21,8 @@ following s k = records k (drop 8 s)
 abbrev pub stateAt : Text → ℕ → RowState
 stateAt s k = after entries (openingOf (recordAt s)) (stepsOf (following s k))
 
--- The sheet s was run up to there: the row and the lent places stand for the model's state, and ns has the answers from its first place on.
+-- The sheet s was run up to there: the row and the lent places stand for the model's state, and ns has the answers from
+-- its first place on.
 pub record Ran (s : Text) (k : ℕ) (row : Cluster) (p : Places) (ns : List ℕ) : Type 0 where
   pub state : abs row p ≡ stateAt s k
   pub outlined : outlineOf row ≡ outline (stateAt s k)

@@ -1,5 +1,6 @@
--- Sheets and listings of document 01, byte for byte, through the model's run; the records stand in the crate records, single lines in
--- lines, the parts of a listing in listing. Cited by the promises of `run_sheet` and `sample`. Assumes nothing.
+-- Sheets and listings of document 01, byte for byte, through the model's run; the records stand in the crate records,
+-- single lines in lines, the parts of a listing in listing. Cited by the promises of `run_sheet` and `sample`.
+-- Assumes nothing.
 use mathlib.Core.Bool.{Bool, true, cond, _&&_}
 use mathlib.Core.List.{List, [], _∷_, _++_}
 use mathlib.Core.Path.{_≡_}
@@ -36,7 +37,8 @@ unfoldable pub result : Text → Text → ℕ
 unfolding listing
 result s out = cond (isSheet s) (cond (leb (length (listing s)) (length out)) (length (listing s)) 3) 2
 
--- What the slice holds then: "Refusals 2 and 3 leave the listing slice untouched; bytes past the end of a listing ... keep their values."
+-- What the slice holds then: "Refusals 2 and 3 leave the listing slice untouched; bytes past the end of a listing ...
+-- keep their values."
 unfoldable pub left : Text → Text → Text
 unfolding listing over
 left s out = cond (isSheet s && leb (length (listing s)) (length out)) (over out 0 (listing s)) out
@@ -64,7 +66,8 @@ SampleHolds = (isSheet sampleSheet ≡ true) × (listing sampleSheet ≡ sampleL
 abbrev pub slice : ℕ → Text
 slice n = replicate n 255
 
--- A slice one byte short is refused and keeps its bytes; one of the listing's length is enough; a longer one keeps those past the listing.
+-- A slice one byte short is refused and keeps its bytes; one of the listing's length is enough; a longer one keeps
+-- those past the listing.
 unfoldable pub RoomHolds : Type 0
 RoomHolds =
     (result sampleSheet (slice 284) ≡ 3) × (left sampleSheet (slice 284) ≡ slice 284)
@@ -75,10 +78,12 @@ RoomHolds =
 abbrev pub openingSheet : ℕ → Text
 openingSheet b = 0 ∷ b ∷ 0 ∷ 0 ∷ 0 ∷ 0 ∷ 0 ∷ 0 ∷ []
 
--- P2: the opening with board 0 or 9, "a sheet that begins so: 2", whatever the slice holds. No byte at all, and half a record: 2 as well.
+-- P2: the opening with board 0 or 9, "a sheet that begins so: 2", whatever the slice holds. No byte at all, and half a
+-- record: 2 as well.
 unfoldable pub RefusedHolds : Type 0
 RefusedHolds =
-    (out : Text) → (result (openingSheet 0) out ≡ 2) × (result (openingSheet 9) out ≡ 2) × (result [] out ≡ 2) × (result (0 ∷ 1 ∷ 0 ∷ 0 ∷ []) out ≡ 2)
+    (out : Text) → (result (openingSheet 0) out ≡ 2) × (result (openingSheet 9) out ≡ 2) × (result [] out ≡ 2)
+    × (result (0 ∷ 1 ∷ 0 ∷ 0 ∷ []) out ≡ 2)
     × (left (openingSheet 9) out ≡ out)
 
 -- No listing is so short that its length could be taken for a refusal.

@@ -5,15 +5,15 @@ ghost use Rattle.sheet.specs.Sheet.{SampleHolds, RoomHolds, RefusedHolds
 
 mod running;
 
-// The paper's sample sheet has the paper's listing, byte for byte; short slices and bad openings are refused; no listing is so short
-// that its length could be a refusal. By the definitions: nothing to run.
+// The paper's sample sheet has the paper's listing, byte for byte; short slices and bad openings are refused; no
+// listing is so short that its length could be a refusal. By the definitions: nothing to run.
 pub fn sample()
     ensures { λ r. ⌜ SampleHolds × RoomHolds × RefusedHolds × LengthsTell ⌝ }
 {}
 
 // Sheet in, listing out. It returns the listing's length, 2 for a sheet of wrong length or without
-// a valid opening, 3 for a slice that is shorter than the listing. Nothing is written before both are decided: the sheet is run in
-// places of this call's own, and the ending, whose length is then known, is written aside.
+// a valid opening, 3 for a slice that is shorter than the listing. Nothing is written before both are decided: the
+// sheet is run in places of this call's own, and the ending, whose length is then known, is written aside.
 pub fn run_sheet(sheet: &[u8], listing: &mut [u8]) -> usize
     ensures { λ r. ⌜ (r ≡ result (now (sheet .entry)) (now (listing .entry)))
         × (now (listing .exit) ≡ left (now (sheet .entry)) (now (listing .entry))) ⌝ }

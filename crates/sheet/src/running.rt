@@ -25,7 +25,8 @@ fn begin(sheet: &[u8]) -> Cluster
     o.row
 }
 
-// What a run carries from record to record beside the lent places: the row without the joined epochs, the counts and the lengths.
+// What a run carries from record to record beside the lent places: the row without the joined epochs, the counts and
+// the lengths.
 struct Centre {
     registry: Registry,
     controller: Controller,
@@ -33,7 +34,8 @@ struct Centre {
     issued: u16,
 }
 
-// The records after the opening, from the opened row: `o` and the lent places. Callers see to it that these are the opening's.
+// The records after the opening, from the opened row: `o` and the lent places. Callers see to it that these are the
+// opening's.
 fn walk(
     sheet: &[u8],
     o: Centre,
@@ -46,10 +48,12 @@ fn walk(
 ) -> Centre
     requires { ⌜ (isSheet (now sheet) ≡ true)
         × Shape (rowOf (o .registry) (o .controller) (o .views) (now joined) (now acked) (now len) (o .issued))
-        × Ran (now sheet) 0 (rowOf (o .registry) (o .controller) (o .views) (now joined) (now acked) (now len) (o .issued))
+        × Ran (now sheet) 0
+        (rowOf (o .registry) (o .controller) (o .views) (now joined) (now acked) (now len) (o .issued))
         (lent (now store) (now list)) (now answers) ⌝ }
     ensures { λ r. ⌜ Ran (now (sheet .entry)) (length (now (sheet .entry)) / 8 - 1)
-        (rowOf (r .registry) (r .controller) (r .views) (now (joined .exit)) (now (acked .exit)) (now (len .exit)) (r .issued))
+        (rowOf (r .registry) (r .controller) (r .views)
+        (now (joined .exit)) (now (acked .exit)) (now (len .exit)) (r .issued))
         (lent (now (store .exit)) (now (list .exit))) (now (answers .exit)) ⌝ }
 {
     let n = sheet.len() / 8 - 1;
@@ -92,7 +96,8 @@ fn walk(
     }
 }
 
-// The whole sheet. Inner layer: callers see to it that refusal 2 lets the sheet through, and that the lent places have their lengths.
+// The whole sheet. Inner layer: callers see to it that refusal 2 lets the sheet through, and that the lent places have
+// their lengths.
 pub fn play(sheet: &[u8], store: &mut [u32], list: &mut [u32], answers: &mut [u8]) -> Cluster
     requires { ⌜ (isSheet (now sheet) ≡ true) × Full (lent (now store) (now list)) × (length (now answers) ≡ 4096) ⌝ }
     ensures { λ r. ⌜ Ran (now (sheet .entry)) (length (now (sheet .entry)) / 8 - 1) r

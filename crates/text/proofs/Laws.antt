@@ -43,15 +43,18 @@ over-after d at [] n h = refl
 over-after d at (x ∷ xs) n h = over-after (set d at x) (suc at) xs n (omega arith) ∙ drop-set-lt n d at x (omega arith)
 
 -- The text itself is read back, where it fits.
-pub over-holds : (d : Text) (at : ℕ) (xs : Text) → at + length xs ≤ length d → take (length xs) (drop at (over d at xs)) ≡ xs
+pub over-holds : (d : Text) (at : ℕ) (xs : Text) → at + length xs ≤ length d
+    → take (length xs) (drop at (over d at xs)) ≡ xs
 unfolding over
 over-holds d at xs h =
     let l : length (take at d) ≡ at = length-take-le at d (omega arith) in
     let rest = drop (at + length xs) d in
-    rw (sets-eq xs d at h, append-assoc (take at d) xs rest, drop-at (take at d) (xs ++ rest) at l) (take-append-seam xs rest)
+    rw (sets-eq xs d at h, append-assoc (take at d) xs rest, drop-at (take at d) (xs ++ rest) at l)
+    (take-append-seam xs rest)
 
 -- A store past the text may as well come before it.
-pub over-set : (d : Text) (at : ℕ) (xs : Text) (i v : ℕ) → at + length xs ≤ i → over (set d i v) at xs ≡ set (over d at xs) i v
+pub over-set : (d : Text) (at : ℕ) (xs : Text) (i v : ℕ) → at + length xs ≤ i
+    → over (set d i v) at xs ≡ set (over d at xs) i v
 unfolding over
 over-set d at [] i v h = refl
 over-set d at (x ∷ xs) i v h =
@@ -65,7 +68,10 @@ nothing d at = record { next = omega arith; text = sym (over-none d at) }
 -- A text and another from the place after it on are one text.
 pub then : {d e f : Text} {at p q : ℕ} {xs ys : Text} → Wrote d at xs e p → Wrote e p ys f q → Wrote d at (xs ++ ys) f q
 then {d} {e} {f} {at} {p} {q} {xs} {ys} w v =
-    record { next = omega (arith, length-append xs ys); text = v .text ∙ rw (w .text, w .next) (sym (over-append d at xs ys)) }
+    record {
+      next = omega (arith, length-append xs ys);
+      text = v .text ∙ rw (w .text, w .next) (sym (over-append d at xs ys));
+    }
 
 -- Room for two texts is room for the first,
 pub fits : (at : ℕ) {n : ℕ} (xs ys : Text) → at + length (xs ++ ys) ≤ n → at + length xs ≤ n
@@ -76,17 +82,22 @@ pub byte : (at : ℕ) {n : ℕ} → at + 1 ≤ n → at < n
 byte at h = omega (arith, h)
 
 -- and, once the first is written, there is room for the second.
-pub rest : {d e : Text} {at p : ℕ} (xs ys : Text) → Wrote d at xs e p → at + length (xs ++ ys) ≤ length d → p + length ys ≤ length e
-rest {d = d} {e = e} {at = at} {p = p} xs ys w h = omega (arith, w .next, ap length (w .text) ∙ over-length d at xs, length-append xs ys, h)
+pub rest : {d e : Text} {at p : ℕ} (xs ys : Text) → Wrote d at xs e p → at + length (xs ++ ys) ≤ length d
+    → p + length ys ≤ length e
+rest {d = d} {e = e} {at = at} {p = p} xs ys w h =
+    omega (arith, w .next, ap length (w .text) ∙ over-length d at xs, length-append xs ys, h)
 
 -- The three again where what is written first is two texts, such as a number and the space after it.
 pub fits-both : (at : ℕ) {n : ℕ} (xs ys zs : Text) → at + length (xs ++ (ys ++ zs)) ≤ n → at + length (xs ++ ys) ≤ n
 fits-both at {n} xs ys zs h = fits at (xs ++ ys) zs (subst (λ t. at + length t ≤ n) (sym (append-assoc xs ys zs)) h)
 
-pub rest-both : {d e : Text} {at p : ℕ} (xs ys zs : Text) → Wrote d at (xs ++ ys) e p → at + length (xs ++ (ys ++ zs)) ≤ length d → p + length zs ≤ length e
-rest-both {d = d} {at = at} xs ys zs w h = rest (xs ++ ys) zs w (subst (λ t. at + length t ≤ length d) (sym (append-assoc xs ys zs)) h)
+pub rest-both : {d e : Text} {at p : ℕ} (xs ys zs : Text) → Wrote d at (xs ++ ys) e p
+    → at + length (xs ++ (ys ++ zs)) ≤ length d → p + length zs ≤ length e
+rest-both {d = d} {at = at} xs ys zs w h =
+    rest (xs ++ ys) zs w (subst (λ t. at + length t ≤ length d) (sym (append-assoc xs ys zs)) h)
 
-pub then-both : {d e f : Text} {at p q : ℕ} (xs ys : Text) {zs : Text} → Wrote d at (xs ++ ys) e p → Wrote e p zs f q → Wrote d at (xs ++ (ys ++ zs)) f q
+pub then-both : {d e f : Text} {at p q : ℕ} (xs ys : Text) {zs : Text} → Wrote d at (xs ++ ys) e p → Wrote e p zs f q
+    → Wrote d at (xs ++ (ys ++ zs)) f q
 then-both {d} {e} {f} {at} {p} {q} xs ys {zs} w v = subst (λ t. Wrote d at t f q) (append-assoc xs ys zs) (then w v)
 
 -- A writer leaves the slice as long as it was.
@@ -98,7 +109,8 @@ wrote-length {d} {e} {xs} {at} w = ap length (w .text) ∙ over-length d at xs
 -- What stands before the last digit matters from 10 on only.
 step :
     (t : Bool) (n : ℕ) (xs ys : Text) → ltb n 10 ≡ t → (10 ≤ n → xs ≡ ys)
-    → cond (ltb n 10) ((48 + n) ∷ []) (xs ++ ((48 + n % 10) ∷ [])) ≡ cond (ltb n 10) ((48 + n) ∷ []) (ys ++ ((48 + n % 10) ∷ []))
+    → cond (ltb n 10) ((48 + n) ∷ []) (xs ++ ((48 + n % 10) ∷ []))
+    ≡ cond (ltb n 10) ((48 + n) ∷ []) (ys ++ ((48 + n % 10) ∷ []))
 step true n xs ys e p = rw e
 step false n xs ys e p = rw (p (ltb-false n 10 e))
 
@@ -108,7 +120,8 @@ unfolding digitsWithin
 enough zero g n h k = absurd (not-suc-le-zero h)
 enough (suc f) zero n h k = absurd (not-suc-le-zero k)
 enough (suc f) (suc g) n h k =
-    step (ltb n 10) n (digitsWithin f (n / 10)) (digitsWithin g (n / 10)) refl (λ (q : 10 ≤ n). enough f g (n / 10) (omega arith) (omega arith))
+    step (ltb n 10) n (digitsWithin f (n / 10)) (digitsWithin g (n / 10)) refl
+    (λ (q : 10 ≤ n). enough f g (n / 10) (omega arith) (omega arith))
 
 pub digits-one : (n : ℕ) → n < 10 → digits n ≡ (48 + n) ∷ []
 unfolding digits digitsWithin

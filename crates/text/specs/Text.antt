@@ -1,5 +1,7 @@
--- Texts and how they are stored in a slice. Cited by the contracts of text, and by what speaks of a listing. Assumes nothing.
--- io's `digits` is not used: it takes the number of places, which no definition there gives for n, and io's writer fills an array of 20 from its start.
+-- Texts and how they are stored in a slice. Cited by the contracts of text, and by what speaks of a listing.
+-- Assumes nothing.
+-- io's `digits` is not used: it takes the number of places, which no definition there gives for n, and io's writer
+-- fills an array of 20 from its start.
 use mathlib.Core.Bool.{cond}
 use mathlib.Core.List.{List, [], _∷_, _++_}
 use mathlib.Core.Path.{_≡_}
@@ -24,7 +26,8 @@ pub record Wrote (d : Text) (at : ℕ) (xs e : Text) (r : ℕ) : Type 0 where
 -- The decimal digits of n, if k are enough; byte 48 is 0. The `let` lets antt compute only the digits that there are.
 unfoldable pub digitsWithin : ℕ → ℕ → Text
 digitsWithin zero n = []
-digitsWithin (suc k) n = let front = digitsWithin k (n / 10) in cond (ltb n 10) ((48 + n) ∷ []) (front ++ ((48 + n % 10) ∷ []))
+digitsWithin (suc k) n =
+    let front = digitsWithin k (n / 10) in cond (ltb n 10) ((48 + n) ∷ []) (front ++ ((48 + n % 10) ∷ []))
 
 -- The decimal digits of n, with no leading zero, 0 as one digit: n + 1 are always enough.
 unfoldable pub digits : ℕ → Text

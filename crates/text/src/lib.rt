@@ -1,10 +1,11 @@
+// Writers of bytes and numbers. Each stores a text in out from place at on and answers the place after it. Inner layer:
+// callers see to it that out has room for the text.
+
 ghost use mathlib.Core.List.{_∷_, [], _++_};
 ghost use mathlib.Core.Path.{_≡_};
 ghost use Prim.Native.Nat.{_<_, _≤_, _+_};
 ghost use lib.ListN.{length};
 ghost use Rattle.text.specs.Text.{Wrote, digits};
-
-// Each writer stores a text in out from place at on and answers the place after it.
 
 // Writes one byte. Inner layer: callers see to the room.
 pub fn put_byte(out: &mut [u8], at: usize, b: u8) -> usize
@@ -62,7 +63,8 @@ pub fn number_length(n: u32) -> usize
     10
 }
 
-// Writes a number. The digits are stored from the last to the first, each from what is left of n. Inner layer: callers see to the room.
+// Writes a number. The digits are stored from the last to the first, each from what is left of n. Inner layer: callers
+// see to the room.
 pub fn put_number(out: &mut [u8], at: usize, n: u32) -> usize
     requires { ⌜ at + length (digits n) ≤ length (now out) ⌝ }
     ensures { λ r. ⌜ Wrote (now (out .entry)) at (digits n) (now (out .exit)) r ⌝ }

@@ -35,19 +35,32 @@ put-field-requires c κs = let e = c .before .before in fits-both _ (digits (e .
 -- The room that is left after the call j, then the need of the next.
 room1 : (c : tie.After-put-field) → c .put-field .result + length (text1 (start1 c)) ≤ length (c .put-field .last .0)
 unfolding answerLine
-room1 c = let e = start1 c in rest-both (digits (e .args .k)) space (text1 e) (c .put-field .ensures) (e .pre)
+room1 c =
+    let e = start1 c in
+    rest-both (digits (e .args .k)) space (text1 e) (c .put-field .ensures) (e .pre)
 
 put-field-requires-2 : tie.Need-put-field-requires-2
-put-field-requires-2 c κs = let e = start1 (c .before .before .before) in fits-both _ (digits (e .args .step)) space (text2 e) (room1 (c .before .before .before))
+put-field-requires-2 c κs =
+    let d = c .before .before .before in
+    let e = start1 d in
+    fits-both _ (digits (e .args .step)) space (text2 e) (room1 d)
 
 room2 : (c : tie.After-put-field2) → c .put-field2 .result + length (text2 (start2 c)) ≤ length (c .put-field2 .last .0)
-room2 c = let e = start2 c in rest-both (digits (e .args .step)) space (text2 e) (c .put-field2 .ensures) (room1 (c .before .before .before .before))
+room2 c =
+    let e = start2 c in
+    rest-both (digits (e .args .step)) space (text2 e) (c .put-field2 .ensures)
+    (room1 (c .before .before .before .before))
 
 put-number-requires : tie.Need-put-number-requires
-put-number-requires c κs = let e = start2 (c .before .before .before) in fits _ (digits (e .args .answer)) (text3 e) (room2 (c .before .before .before))
+put-number-requires c κs =
+    let d = c .before .before .before in
+    let e = start2 d in
+    fits _ (digits (e .args .answer)) (text3 e) (room2 d)
 
 room3 : (c : tie.After-put-number) → c .put-number .result + length (text3 (start3 c)) ≤ length (c .put-number .last .0)
-room3 c = let e = start3 c in rest (digits (e .args .answer)) (text3 e) (c .put-number .ensures) (room2 (c .before .before .before .before))
+room3 c =
+    let e = start3 c in
+    rest (digits (e .args .answer)) (text3 e) (c .put-number .ensures) (room2 (c .before .before .before .before))
 
 put-byte-requires : tie.Need-put-byte-requires
 put-byte-requires c κs = byte _ (room3 (c .before .before .before))
@@ -55,11 +68,13 @@ put-byte-requires c κs = byte _ (room3 (c .before .before .before))
 returns : tie.Need-returns
 unfolding answerLine
 returns c =
-    let e = c .before .before .before .before .before .before .before .before .before .before .before .before .before .before .before .before .before in
-    then-both (digits (e .args .k)) space (c .before .before .before .before .before .before .before .before .before .before .before .before .before .before .put-field .ensures)
-    (then-both (digits (e .args .step)) space (c .before .before .before .before .before .before .before .before .before .before .put-field2 .ensures)
-    (then (c .before .before .before .before .before .before .put-number .ensures)
-    (c .before .before .put-byte .ensures)))
+    let p3 = c .before .before .before .before .before .before in
+    let p2 = p3 .before .before .before .before in
+    let p1 = p2 .before .before .before .before in
+    let e = start1 p1 in
+    then-both (digits (e .args .k)) space (p1 .put-field .ensures)
+    (then-both (digits (e .args .step)) space (p2 .put-field2 .ensures)
+    (then (p3 .put-number .ensures) (c .before .before .put-byte .ensures)))
 
 same-length : tie.Need-same-length
 same-length c = wrote-length (returns c)

@@ -52,31 +52,56 @@ put-bytes-requires c κs = let e = c .before .before .before in fits _ (word "bo
 -- The room that is left after the call j, then the need of the next.
 room1 : (c : tie.After-put-bytes) → c .put-bytes .result + length (text1 (start1 c)) ≤ length (c .put-bytes .last .0)
 unfolding boardText
-room1 c = let e = start1 c in rest (word "board ") (text1 e) (c .put-bytes .ensures) (e .pre)
+room1 c =
+    let e = start1 c in
+    rest (word "board ") (text1 e) (c .put-bytes .ensures) (e .pre)
 
 put-field-requires : tie.Need-put-field-requires
-put-field-requires c κs = let e = start1 (c .before .before .before) in fits-both _ (digits (e .args .b)) space (text2 e) (room1 (c .before .before .before))
+put-field-requires c κs =
+    let d = c .before .before .before in
+    let e = start1 d in
+    fits-both _ (digits (e .args .b)) space (text2 e) (room1 d)
 
 room2 : (c : tie.After-put-field) → c .put-field .result + length (text2 (start2 c)) ≤ length (c .put-field .last .0)
-room2 c = let e = start2 c in rest-both (digits (e .args .b)) space (text2 e) (c .put-field .ensures) (room1 (c .before .before .before .before))
+room2 c =
+    let e = start2 c in
+    rest-both (digits (e .args .b)) space (text2 e) (c .put-field .ensures) (room1 (c .before .before .before .before))
 
 put-view-requires : tie.Need-put-view-requires
-put-view-requires c κs = let e = start2 (c .before .before .before) in fits-both _ (viewText (viewOf (e .args .v))) space (text3 e) (room2 (c .before .before .before))
+put-view-requires c κs =
+    let d = c .before .before .before in
+    let e = start2 d in
+    fits-both _ (viewText (viewOf (e .args .v))) space (text3 e) (room2 d)
 
 room3 : (c : tie.After-put-view) → c .put-view .result + length (text3 (start3 c)) ≤ length (c .put-view .last .0)
-room3 c = let e = start3 c in rest-both (viewText (viewOf (e .args .v))) space (text3 e) (c .put-view .ensures) (room2 (c .before .before .before .before))
+room3 c =
+    let e = start3 c in
+    rest-both (viewText (viewOf (e .args .v))) space (text3 e) (c .put-view .ensures)
+    (room2 (c .before .before .before .before))
 
 put-field-requires-2 : tie.Need-put-field-requires-2
-put-field-requires-2 c κs = let e = start3 (c .before .before .before) in fits-both _ (digits (e .args .joined)) space (text4 e) (room3 (c .before .before .before))
+put-field-requires-2 c κs =
+    let d = c .before .before .before in
+    let e = start3 d in
+    fits-both _ (digits (e .args .joined)) space (text4 e) (room3 d)
 
 room4 : (c : tie.After-put-field2) → c .put-field2 .result + length (text4 (start4 c)) ≤ length (c .put-field2 .last .0)
-room4 c = let e = start4 c in rest-both (digits (e .args .joined)) space (text4 e) (c .put-field2 .ensures) (room3 (c .before .before .before .before))
+room4 c =
+    let e = start4 c in
+    rest-both (digits (e .args .joined)) space (text4 e) (c .put-field2 .ensures)
+    (room3 (c .before .before .before .before))
 
 put-field-requires-3 : tie.Need-put-field-requires-3
-put-field-requires-3 c κs = let e = start4 (c .before .before .before) in fits-both _ (digits (e .args .len)) space (text5 e) (room4 (c .before .before .before))
+put-field-requires-3 c κs =
+    let d = c .before .before .before in
+    let e = start4 d in
+    fits-both _ (digits (e .args .len)) space (text5 e) (room4 d)
 
 room5 : (c : tie.After-put-field3) → c .put-field3 .result + length (text5 (start5 c)) ≤ length (c .put-field3 .last .0)
-room5 c = let e = start5 c in rest-both (digits (e .args .len)) space (text5 e) (c .put-field3 .ensures) (room4 (c .before .before .before .before))
+room5 c =
+    let e = start5 c in
+    rest-both (digits (e .args .len)) space (text5 e) (c .put-field3 .ensures)
+    (room4 (c .before .before .before .before))
 
 put-late-requires : tie.Need-put-late-requires
 put-late-requires c κs = room5 (c .before .before .before)
@@ -84,13 +109,17 @@ put-late-requires c κs = room5 (c .before .before .before)
 returns : tie.Need-returns
 unfolding boardText
 returns c =
-    let e = c .before .before .before .before .before .before .before .before .before .before .before .before .before .before .before .before .before .before .before .before .before .before .before .before .before .before in
-    then (c .before .before .before .before .before .before .before .before .before .before .before .before .before .before .before .before .before .before .before .before .before .before .put-bytes .ensures)
-    (then-both (digits (e .args .b)) space (c .before .before .before .before .before .before .before .before .before .before .before .before .before .before .before .before .before .before .put-field .ensures)
-    (then-both (viewText (viewOf (e .args .v))) space (c .before .before .before .before .before .before .before .before .before .before .before .before .before .before .put-view .ensures)
-    (then-both (digits (e .args .joined)) space (c .before .before .before .before .before .before .before .before .before .before .put-field2 .ensures)
-    (then-both (digits (e .args .len)) space (c .before .before .before .before .before .before .put-field3 .ensures)
-    (c .before .before .put-late .ensures)))))
+    let p4 = c .before .before .before .before .before .before in
+    let p3 = p4 .before .before .before .before in
+    let p2 = p3 .before .before .before .before in
+    let p1 = p2 .before .before .before .before in
+    let p0 = p1 .before .before .before .before in
+    let e = start1 p0 in
+    then (p0 .put-bytes .ensures)
+    (then-both (digits (e .args .b)) space (p1 .put-field .ensures)
+    (then-both (viewText (viewOf (e .args .v))) space (p2 .put-view .ensures)
+    (then-both (digits (e .args .joined)) space (p3 .put-field2 .ensures)
+    (then-both (digits (e .args .len)) space (p4 .put-field3 .ensures) (c .before .before .put-late .ensures)))))
 
 same-length : tie.Need-same-length
 same-length c = wrote-length (returns c)

@@ -1,57 +1,59 @@
 -- `lines::put_control` meets its contract. Assumes nothing.
 use mathlib.Core.List.{_++_}
-use Prim.Native.Nat.{_+_, _≤_}
-use lib.ListN.{length}
 use Rattle.cluster.specs.Layout.{stageOf, viewOf}
 use Rattle.text.specs.Text.{Text}
 use Rattle.lines.specs.Lines.{word, space, newline, viewText, stageWord, controlLine}
-use Rattle.text.proofs.Laws.{fits, fits-both, rest, rest-both, then, then-both, wrote-length}
+use Rattle.text.proofs.Laws.{fits, wrote-length}
+use Rattle.lines.proofs.Wording.{view-fits, end-fits, line-wrote}
 use borrow.Author.Needs.{needs}
 use Rattle.lines.proofs.put_control.Statement.{statement}
 use Rattle.lines.proofs.put_control.Tie as tie
 
--- What is still to be written after the call j.
-abbrev text2 : tie.Start → Text
-text2 e = stageWord (stageOf (e .args .k .stage)) ++ newline
+abbrev start : tie.After-put-bytes → tie.Start
+start c = c .before .before .before .before .before
 
-abbrev text1 : tie.Start → Text
-text1 e = viewText (viewOf (e .args .k .view)) ++ (space ++ text2 e)
+-- The parts of the line.
+abbrev head : Text
+head = word "control "
 
--- What was given at the start, from after the call j.
-abbrev start1 : tie.After-put-bytes → tie.Start
-start1 c = c .before .before .before .before .before
+abbrev view : tie.Start → Text
+view e = viewText (viewOf (e .args .k .view))
 
-abbrev start2 : tie.After-put-view → tie.Start
-start2 c = start1 (c .before .before .before .before)
+abbrev last : tie.Start → Text
+last e = stageWord (stageOf (e .args .k .stage)) ++ newline
 
 slice-aggregate-put-bytes : tie.Need-slice-aggregate-put-bytes
 slice-aggregate-put-bytes c = search needs
 
 put-bytes-requires : tie.Need-put-bytes-requires
 unfolding controlLine
-put-bytes-requires c κs = let e = c .before .before .before .before in fits _ (word "control ") (text1 e) (e .pre)
-
--- The room that is left after the call j, then the need of the next.
-room1 : (c : tie.After-put-bytes) → c .put-bytes .result + length (text1 (start1 c)) ≤ length (c .put-bytes .last .0)
-unfolding controlLine
-room1 c = let e = start1 c in rest (word "control ") (text1 e) (c .put-bytes .ensures) (e .pre)
+put-bytes-requires c κs =
+    let e = c .before .before .before .before in
+    fits _ head (view e ++ (space ++ last e)) (e .pre)
 
 put-view-requires : tie.Need-put-view-requires
-put-view-requires c κs = let e = start1 (c .before .before .before) in fits-both _ (viewText (viewOf (e .args .k .view))) space (text2 e) (room1 (c .before .before .before))
-
-room2 : (c : tie.After-put-view) → c .put-view .result + length (text2 (start2 c)) ≤ length (c .put-view .last .0)
-room2 c = let e = start2 c in rest-both (viewText (viewOf (e .args .k .view))) space (text2 e) (c .put-view .ensures) (room1 (c .before .before .before .before))
+unfolding controlLine
+put-view-requires c κs =
+    let a = c .before .before .before in
+    let e = start a in
+    view-fits head (view e) (last e) (a .put-bytes .ensures) (e .pre)
 
 put-stage-requires : tie.Need-put-stage-requires
-put-stage-requires c κs = room2 (c .before .before .before)
+unfolding controlLine
+put-stage-requires c κs =
+    let b = c .before .before .before in
+    let a = b .before .before .before .before in
+    let e = start a in
+    end-fits head (view e) (last e) (a .put-bytes .ensures) (b .put-view .ensures) (e .pre)
 
 returns : tie.Need-returns
 unfolding controlLine
 returns c =
-    let e = c .before .before .before .before .before .before .before .before .before .before .before .before .before .before .before in
-    then (c .before .before .before .before .before .before .before .before .before .before .put-bytes .ensures)
-    (then-both (viewText (viewOf (e .args .k .view))) space (c .before .before .before .before .before .before .put-view .ensures)
-    (c .before .before .put-stage .ensures))
+    let b = c .before .before .before .before .before .before in
+    let a = b .before .before .before .before in
+    let e = start a in
+    line-wrote head (view e) (last e) (a .put-bytes .ensures) (b .put-view .ensures)
+    (c .before .before .put-stage .ensures)
 
 same-length : tie.Need-same-length
 same-length c = wrote-length (returns c)

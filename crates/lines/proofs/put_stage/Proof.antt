@@ -1,15 +1,16 @@
 -- `lines::put_stage` meets its contract. Assumes nothing.
 use mathlib.Core.List.{_++_}
-use mathlib.Core.Path.{sym, subst}
-use Prim.Native.Nat.{_+_, _≤_}
-use lib.ListN.{length}
-use denote.Ref.{now}
 use Rattle.cluster.specs.Layout.{stageOf}
-use Rattle.text.specs.Text.{Wrote}
+use Rattle.cluster.specs.declared.Stage.{Stage}
+use Rattle.text.specs.Text.{Text}
 use Rattle.lines.specs.Lines.{newline, stageWord}
+use Rattle.lines.proofs.Wording.{case-fits, case-wrote}
 use borrow.Author.Needs.{needs}
 use Rattle.lines.proofs.put_stage.Statement.{statement}
 use Rattle.lines.proofs.put_stage.Tie as tie
+
+abbrev text : Stage → Text
+text g = stageWord (stageOf g) ++ newline
 
 enum-told : tie.Need-enum-told
 enum-told c = search needs
@@ -19,8 +20,7 @@ slice-aggregate-put-bytes c = search needs
 
 put-bytes-requires : tie.Need-put-bytes-requires
 put-bytes-requires c κs =
-    let e = c .before .before .before .before .before in
-    subst (λ g. e .args .at + length (stageWord (stageOf g) ++ newline) ≤ length (now (e .args .out))) (c .before .before .enum-told .given .1) (e .pre)
+    let d = c .before .before in case-fits text (d .enum-told .given .1) _ (d .before .before .before .pre)
 
 enum-told-2 : tie.Need-enum-told-2
 enum-told-2 c = search needs
@@ -30,8 +30,7 @@ slice-aggregate-put-bytes-2 c = search needs
 
 put-bytes-requires-2 : tie.Need-put-bytes-requires-2
 put-bytes-requires-2 c κs =
-    let e = c .before .before .before .before .before in
-    subst (λ g. e .args .at + length (stageWord (stageOf g) ++ newline) ≤ length (now (e .args .out))) (c .before .before .enum-told2 .given .1) (e .pre)
+    let d = c .before .before in case-fits text (d .enum-told2 .given .1) _ (d .before .before .before .pre)
 
 enum-told-3 : tie.Need-enum-told-3
 enum-told-3 c = search needs
@@ -41,8 +40,7 @@ slice-aggregate-put-bytes-3 c = search needs
 
 put-bytes-requires-3 : tie.Need-put-bytes-requires-3
 put-bytes-requires-3 c κs =
-    let e = c .before .before .before .before .before in
-    subst (λ g. e .args .at + length (stageWord (stageOf g) ++ newline) ≤ length (now (e .args .out))) (c .before .before .enum-told3 .given .1) (e .pre)
+    let d = c .before .before in case-fits text (d .enum-told3 .given .1) _ (d .before .before .before .pre)
 
 enum-told-4 : tie.Need-enum-told-4
 enum-told-4 c = search needs
@@ -52,40 +50,39 @@ slice-aggregate-put-bytes-4 c = search needs
 
 put-bytes-requires-4 : tie.Need-put-bytes-requires-4
 put-bytes-requires-4 c κs =
-    let e = c .before .before .before .before .before in
-    subst (λ g. e .args .at + length (stageWord (stageOf g) ++ newline) ≤ length (now (e .args .out))) (c .before .before .enum-told4 .given .1) (e .pre)
+    let d = c .before .before in case-fits text (d .enum-told4 .given .1) _ (d .before .before .before .pre)
 
 same-length : tie.Need-same-length
 same-length c = search needs
 
 returns : tie.Need-returns
 returns c =
-    let e = c .before .before .before .before .before .before .before .before in
-    subst (λ g. Wrote (now (e .args .out)) (e .args .at) (stageWord (stageOf g) ++ newline) (c .before .before .put-bytes .last .0) (c .before .before .put-bytes .result)) (sym (c .before .before .before .before .before .enum-told .given .1)) (c .before .before .put-bytes .ensures)
+    let d = c .before .before in
+    case-wrote text (d .before .before .before .enum-told .given .1) (d .put-bytes .ensures)
 
 same-length-2 : tie.Need-same-length-2
 same-length-2 c = search needs
 
 returns-2 : tie.Need-returns-2
 returns-2 c =
-    let e = c .before .before .before .before .before .before .before .before in
-    subst (λ g. Wrote (now (e .args .out)) (e .args .at) (stageWord (stageOf g) ++ newline) (c .before .before .put-bytes2 .last .0) (c .before .before .put-bytes2 .result)) (sym (c .before .before .before .before .before .enum-told2 .given .1)) (c .before .before .put-bytes2 .ensures)
+    let d = c .before .before in
+    case-wrote text (d .before .before .before .enum-told2 .given .1) (d .put-bytes2 .ensures)
 
 same-length-3 : tie.Need-same-length-3
 same-length-3 c = search needs
 
 returns-3 : tie.Need-returns-3
 returns-3 c =
-    let e = c .before .before .before .before .before .before .before .before in
-    subst (λ g. Wrote (now (e .args .out)) (e .args .at) (stageWord (stageOf g) ++ newline) (c .before .before .put-bytes3 .last .0) (c .before .before .put-bytes3 .result)) (sym (c .before .before .before .before .before .enum-told3 .given .1)) (c .before .before .put-bytes3 .ensures)
+    let d = c .before .before in
+    case-wrote text (d .before .before .before .enum-told3 .given .1) (d .put-bytes3 .ensures)
 
 same-length-4 : tie.Need-same-length-4
 same-length-4 c = search needs
 
 returns-4 : tie.Need-returns-4
 returns-4 c =
-    let e = c .before .before .before .before .before .before .before .before in
-    subst (λ g. Wrote (now (e .args .out)) (e .args .at) (stageWord (stageOf g) ++ newline) (c .before .before .put-bytes4 .last .0) (c .before .before .put-bytes4 .result)) (sym (c .before .before .before .before .before .enum-told4 .given .1)) (c .before .before .put-bytes4 .ensures)
+    let d = c .before .before in
+    case-wrote text (d .before .before .before .enum-told4 .given .1) (d .put-bytes4 .ensures)
 
 pub put-stage-spec : {M : Type 1} → statement M
 put-stage-spec =

@@ -18,7 +18,8 @@ same-length : tie.Need-same-length
 same-length c = search needs
 
 returns : tie.Need-returns
-returns c = then (c .before .before .before .before .before .before .put-parts .ensures) (c .before .before .put-byte .ensures)
+returns c =
+    then (c .before .before .before .before .before .before .put-parts .ensures) (c .before .before .put-byte .ensures)
 
 pub put-view-spec : {M : Type 1} → statement M
 put-view-spec = tie.close (tie.spec put-parts-requires put-byte-requires same-length returns)

@@ -40,7 +40,8 @@ same-length c = search needs
 returns : tie.Need-returns
 returns c =
     let a = c .before .before .before .before .before .args in
-    part-set (now (a .store)) _ (512 * (a .b - 1)) (a .len) (a .v) (omega arith) (omega arith) (c .before .before .append .ensures)
+    part-set (now (a .store)) _ (512 * (a .b - 1)) (a .len) (a .v) (omega arith) (omega arith)
+    (c .before .before .append .ensures)
 
 pub append-entry-spec : {M : Type 1} → statement M
 append-entry-spec =

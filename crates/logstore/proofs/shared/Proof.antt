@@ -1,5 +1,5 @@
--- `logstore::shared` meets its contract. The loop's invariant: what the logs share is the i entries passed, and what they share from i on.
--- Assumes nothing.
+-- `logstore::shared` meets its contract. The loop's invariant: what the logs share is the i entries passed, and what
+-- they share from i on. Assumes nothing.
 use mathlib.Core.Path.{_≡_, sym, _∙_}
 use mathlib.Core.List.{List}
 use mathlib.Core.Logic.{_≢_}
@@ -16,7 +16,8 @@ use Rattle.logstore.proofs.shared.Statement.{statement}
 use Rattle.logstore.proofs.shared.Tie as tie
 
 -- What the two logs share from i on.
-module _ (s : List ℕ) (a m b n i : ℕ) (pre : (length s ≡ 4096) × (1 ≤ a) × (a ≤ 8) × (m ≤ 512) × (1 ≤ b) × (b ≤ 8) × (n ≤ 512)) where
+module _ (s : List ℕ) (a m b n i : ℕ)
+    (pre : (length s ≡ 4096) × (1 ≤ a) × (a ≤ 8) × (m ≤ 512) × (1 ≤ b) × (b ≤ 8) × (n ≤ 512)) where
   abbrev more : ℕ → ℕ
   more = sharedFrom (logOf s a m) (logOf s b n)
 
@@ -98,7 +99,8 @@ loop-again c =
       omega (
         arith,
         l .inv .1,
-        goes-on (now (a .store)) (a .a) (a .m) (a .b) (a .n) (l .i) (f .pre) (d .before .loop-test .taken) (d .if1 .left) same,
+        goes-on (now (a .store)) (a .a) (a .m) (a .b) (a .n) (l .i) (f .pre) (d .before .loop-test .taken)
+            (d .if1 .left) same,
       ),
     )
 

@@ -20,8 +20,10 @@ part-result-end c = search needs
 returns : tie.Need-returns
 returns c =
     let a = c .before .before .args in
-    let e : a .issued - 0 ≡ a .issued = omega arith in
-    (rw (e, eq-eqb _ _ (c .before .if1 .taken)), rw (eq-eqb _ _ (c .before .if1 .taken)) (from-start (a .committed .ptr)))
+    let e : a .issued - 0 ≡ a .issued = omega arith in (
+      rw (e, eq-eqb _ _ (c .before .if1 .taken)),
+      rw (eq-eqb _ _ (c .before .if1 .taken)) (from-start (a .committed .ptr)),
+    )
 
 sub-start : tie.Need-sub-start
 sub-start c = search needs

@@ -1,4 +1,5 @@
--- `members::lowest` meets its contract: the zeros below a mask's lowest one are the replicas below its lowest member. Assumes nothing.
+-- `members::lowest` meets its contract: the zeros below a mask's lowest one are the replicas below its lowest member.
+-- Assumes nothing.
 use lib.Count.{trailing-le}
 use native.Mathlib.Omega.{arith}
 use borrow.Author.Needs.{needs}

@@ -4,9 +4,9 @@ use borrow.Author.Needs.{needs}
 use Rattle.records.proofs.Decoding.{decoded}
 use Rattle.records.proofs.decode.Statement.{statement}
 use Rattle.records.proofs.decode.Tie as tie
-use Rattle.records.proofs.decode.Reads as reads
-use Rattle.records.proofs.decode.Lts as lts
-use Rattle.records.proofs.little.Reads as little-reads
+
+abbrev start : tie.After-little → tie.Start
+start c = c .before .before .before .before .before .before
 
 add-little : tie.Need-add-little
 add-little c = search needs
@@ -58,8 +58,9 @@ shared-slice-read-t9 c = search needs
 
 returns : tie.Need-returns
 returns c =
-    let a = c .before .before .before .before .before .before .before .before .before .before .args in
-    decoded (now (a .sheet)) (a .at) _ (c .before .before .before .before .little .ensures)
+    let w = c .before .before .before .before in
+    let a = start w .args in
+    decoded (now (a .sheet)) (a .at) _ (w .little .ensures)
 
 pub decode-spec : {M : Type 1} → statement M
 decode-spec =

@@ -1,11 +1,14 @@
 -- `sheet::run_sheet` meets its contract: the sheet is run, and what is delivered is its listing. Assumes nothing.
-use mathlib.Core.Path.{refl, sym, _∙_}
+use mathlib.Core.Bool.{true}
+use mathlib.Core.Path.{_≡_, refl, sym, _∙_}
 use Prim.Native.Nat.{_-_, _/_}
 use native.Mathlib.Omega.{arith}
 use lib.ListN.{length, length-take}
 use lib.Seq.{length-take-le}
 use denote.Ref.{now}
 use borrow.Author.Tests.{not-true, not-false}
+use Rattle.records.specs.Bytes.{isSheet}
+use Rattle.text.specs.Text.{Text}
 use Rattle.text.proofs.Laws.{wrote-length}
 use Rattle.sheet.proofs.Playing.{sheet-most, ran-fits, ran-issued, ran-small}
 use Rattle.sheet.proofs.Listings.{read-back, no-sheet, delivered}
@@ -13,12 +16,29 @@ use borrow.Author.Needs.{needs}
 use Rattle.sheet.proofs.run_sheet.Statement.{statement}
 use Rattle.sheet.proofs.run_sheet.Tie as tie
 
+-- The ways back, and the sheet.
+abbrev start : tie.After-is-sheet → tie.Start
+start c = c .before .before .before
+
+abbrev ready : tie.After-play → tie.Else1
+ready c = c .before .before .before .before
+
+abbrev played : tie.After-put-ending → tie.After-play
+played c = c .before .before .before .before .before .before
+
+abbrev bytes : tie.Else1 → Text
+bytes c = now (start (c .before) .args .sheet)
+
+-- Refusal 2 let the sheet through.
+passed : (c : tie.Else1) → isSheet (bytes c) ≡ true
+passed c = sym (c .before .is-sheet .ensures) ∙ not-false _ (c .if1 .left)
+
 is-sheet-requires : tie.Need-is-sheet-requires
 is-sheet-requires c κs = search needs
 
 returns : tie.Need-returns
 returns c =
-    let a = c .before .before .before .before .args in
+    let a = start (c .before) .args in
     no-sheet (now (a .sheet)) (now (a .listing)) (sym (c .before .is-sheet .ensures) ∙ not-true _ (c .if1 .taken))
 
 slice-aggregate-play : tie.Need-slice-aggregate-play
@@ -31,7 +51,7 @@ slice-aggregate-play-3 : tie.Need-slice-aggregate-play-3
 slice-aggregate-play-3 c = search needs
 
 play-requires : tie.Need-play-requires
-play-requires c κs = (sym (c .before .before .before .before .is-sheet .ensures) ∙ not-false _ (c .before .before .before .if1 .left), record { store = refl; list = refl }, refl)
+play-requires c κs = (passed (c .before .before .before), record { store = refl; list = refl }, refl)
 
 slice-aggregate-put-ending : tie.Need-slice-aggregate-put-ending
 slice-aggregate-put-ending c = search needs
@@ -41,10 +61,10 @@ slice-aggregate-put-ending-2 c = search needs
 
 put-ending-requires : tie.Need-put-ending-requires
 put-ending-requires c κs =
-    let s = now (c .before .before .before .before .before .before .before .before .before .before .before .before .before .args .sheet) in
-    let e = sym (c .before .before .before .before .before .before .before .before .before .before .is-sheet .ensures) ∙ not-false _ (c .before .before .before .before .before .before .before .before .before .if1 .left) in
-    let h = c .before .before .before .before .before .play .ensures in
-    (ran-fits s e _ _ _ _ h, ran-issued s e _ _ _ _ h, omega arith)
+    let p = c .before .before .before .before .before in
+    let d = ready p in
+    let h = p .play .ensures in
+    (ran-fits (bytes d) (passed d) _ _ _ _ h, ran-issued (bytes d) (passed d) _ _ _ _ h, omega arith)
 
 slice-aggregate-deliver : tie.Need-slice-aggregate-deliver
 slice-aggregate-deliver c = search needs
@@ -61,22 +81,29 @@ slice-aggregate-deliver-2 c =
 
 deliver-requires : tie.Need-deliver-requires
 deliver-requires c κs =
-    let s = now (c .before .before .before .before .before .before .before .before .before .before .before .before .before .before .before .before .before .before .args .sheet) in
-    let e = sym (c .before .before .before .before .before .before .before .before .before .before .before .before .before .before .before .is-sheet .ensures) ∙ not-false _ (c .before .before .before .before .before .before .before .before .before .before .before .before .before .before .if1 .left) in
-    let h = c .before .before .before .before .before .before .before .before .before .before .play .ensures in
-    let w = c .before .before .before .before .put-ending .ensures in
-    (sheet-most s e, omega (arith, sheet-most s e, h .room), omega (arith, w .1, length-take (c .before .before .before .before .put-ending .result) (c .before .before .before .before .put-ending .last .0)), λ i q. ran-small s e (length s / 8 - 1) _ _ _ h i (omega (arith, q)))
+    let w = c .before .before .before .before in
+    let p = played w in
+    let d = ready p in
+    let s = bytes d in
+    let h = p .play .ensures in
+    let most = sheet-most s (passed d) in (
+      most,
+      omega (arith, most, h .room),
+      omega (arith, w .put-ending .ensures .1, length-take (w .put-ending .result) (w .put-ending .last .0)),
+      λ i q. ran-small s (passed d) (length s / 8 - 1) _ _ _ h i (omega (arith, q)),
+    )
 
 same-length : tie.Need-same-length
 same-length c = search needs
 
 returns-2 : tie.Need-returns-2
 returns-2 c =
-    let s = now (c .before .before .before .before .before .before .before .before .before .before .before .before .before .before .before .before .before .before .before .before .before .args .sheet) in
-    let e = sym (c .before .before .before .before .before .before .before .before .before .before .before .before .before .before .before .before .before .before .is-sheet .ensures) ∙ not-false _ (c .before .before .before .before .before .before .before .before .before .before .before .before .before .before .before .before .before .if1 .left) in
-    let h = c .before .before .before .before .before .before .before .before .before .before .before .before .before .play .ensures in
-    let w = c .before .before .before .before .before .before .before .put-ending .ensures in
-    delivered s e _ _ _ h (read-back (w .0) (omega (arith, w .1))) (c .before .before .deliver .ensures)
+    let x = c .before .before in
+    let w = x .before .before .before .before .before in
+    let p = played w in
+    let d = ready p in
+    let back = read-back (w .put-ending .ensures .0) (omega (arith, w .put-ending .ensures .1)) in
+    delivered (bytes d) (passed d) _ _ _ (p .play .ensures) back (x .deliver .ensures)
 
 pub run-sheet-spec : {M : Type 1} → statement M
 run-sheet-spec =

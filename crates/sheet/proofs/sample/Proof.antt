@@ -11,8 +11,11 @@ use Rattle.listing.specs.Listing.{answerLines, boardLine, boardLines, receiptsL
 use Rattle.sheet.specs.Sheet.{SampleHolds, RoomHolds, RefusedHolds, result, left, listing, listingOf}
 
 returns : tie.Need-returns
-unfolding SampleHolds RoomHolds RefusedHolds result left over listing listingOf records answerLine answerLines registryLine controlLine boardLine boardLines receiptsLine valuesText ending viewText membersText digits digitsWithin run answers given
-returns c = ((refl, refl, refl), (refl, refl, refl, refl, refl, refl), (λ out. (refl, refl, refl, refl, refl)), lengths-tell)
+unfolding SampleHolds RoomHolds RefusedHolds result left over listing listingOf records answerLine answerLines
+    registryLine controlLine boardLine boardLines receiptsLine valuesText ending viewText membersText digits
+    digitsWithin run answers given
+returns c =
+    ((refl, refl, refl), (refl, refl, refl, refl, refl, refl), (λ out. (refl, refl, refl, refl, refl)), lengths-tell)
 
 pub sample-spec : {M : Type 1} → statement M
 sample-spec = tie.close (tie.spec returns)

@@ -1,4 +1,5 @@
--- `text::put_bytes` meets its contract. The loop's invariant: out is as at the start, with the first i bytes of src stored. Assumes nothing.
+-- `text::put_bytes` meets its contract. The loop's invariant: out is as at the start, with the first i bytes of src
+-- stored. Assumes nothing.
 use mathlib.Core.List.{[], _∷_}
 use mathlib.Core.Path.{_≡_, refl, sym, _∙_}
 use Prim.Native.Nat.{ℕ, _+_, _-_, _<_, _≤_}
@@ -13,10 +14,17 @@ use Rattle.text.proofs.put_bytes.Statement.{statement}
 use Rattle.text.proofs.put_bytes.Tie as tie
 
 -- The first i bytes of s and then the next are the first i + 1.
-one-more : (d : Text) (at : ℕ) (s : Text) (i : ℕ) → i < length s → set (over d at (take i s)) (at + i) (getD s i 0) ≡ over d at (take (i + 1) s)
+one-more : (d : Text) (at : ℕ) (s : Text) (i : ℕ) → i < length s
+    → set (over d at (take i s)) (at + i) (getD s i 0) ≡ over d at (take (i + 1) s)
 one-more d at s i h =
     let l : length (take i s) ≡ i = length-take-le i s (omega arith) in
-    sym (rw (add-one i, take-suc s i 0 h, over-append d at (take i s) (getD s i 0 ∷ []), l, over-one (over d at (take i s)) (at + i) (getD s i 0)))
+    sym (rw (
+      add-one i,
+      take-suc s i 0 h,
+      over-append d at (take i s) (getD s i 0 ∷ []),
+      l,
+      over-one (over d at (take i s)) (at + i) (getD s i 0),
+    ))
 
 abbrev Inv-loop : tie.InvT-loop
 Inv-loop out₀ at src i₀ out i = (i ≤ length src) × (length out ≡ length out₀) × (out ≡ over out₀ at (take i src))
@@ -45,8 +53,11 @@ loop-less c = omega arith
 loop-again : tie.Need-loop-again Inv-loop μ-loop
 loop-again c =
     let l = c .before .before .loop in
-    let a = c .before .before .before .args in
-    (omega arith, simp length-set (omega arith), rw (l .inv .2) (one-more (now (a .out)) (a .at) (now (a .src)) (l .i) (omega arith)))
+    let a = c .before .before .before .args in (
+      omega arith,
+      simp length-set (omega arith),
+      rw (l .inv .2) (one-more (now (a .out)) (a .at) (now (a .src)) (l .i) (omega arith)),
+    )
 
 add-result : tie.Need-add-result Inv-loop μ-loop
 add-result c = omega arith

@@ -18,7 +18,8 @@ same-length : tie.Need-same-length
 same-length c = search needs
 
 returns : tie.Need-returns
-returns c = then (c .before .before .before .before .before .before .put-number .ensures) (c .before .before .put-byte .ensures)
+returns c =
+    then (c .before .before .before .before .before .before .put-number .ensures) (c .before .before .put-byte .ensures)
 
 pub put-field-spec : {M : Type 1} → statement M
 put-field-spec = tie.close (tie.spec put-number-requires put-byte-requires same-length returns)

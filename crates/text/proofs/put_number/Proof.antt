@@ -1,5 +1,5 @@
--- `text::put_number` meets its contract. The loop's invariant: the digits of what is left end before i, and with them stored out is what the contract says.
--- The measure is what is left. Assumes nothing.
+-- `text::put_number` meets its contract. The loop's invariant: the digits of what is left end before i, and with them
+-- stored out is what the contract says. The measure is what is left. Assumes nothing.
 use mathlib.Core.List.{[], _∷_}
 use mathlib.Core.Path.{_≡_, refl, sym, ap, _∙_}
 use Prim.Native.Nat.{ℕ, _+_, _-_, _/_, _%_, _<_, _≤_}
@@ -12,7 +12,8 @@ use Rattle.text.proofs.put_number.Statement.{statement}
 use Rattle.text.proofs.put_number.Tie as tie
 
 -- The last digit of n may be stored before the others.
-last-first : (d : Text) (at i n : ℕ) → 10 ≤ n → i ≡ at + length (digits (n / 10)) → over (set d i (48 + n % 10)) at (digits (n / 10)) ≡ over d at (digits n)
+last-first : (d : Text) (at i n : ℕ) → 10 ≤ n → i ≡ at + length (digits (n / 10))
+    → over (set d i (48 + n % 10)) at (digits (n / 10)) ≡ over d at (digits n)
 last-first d at i n h e =
     let xs = digits (n / 10) in
     over-set d at xs i (48 + n % 10) (omega arith)
@@ -24,7 +25,8 @@ last-one d at n h = sym (rw (digits-one n h, over-one d at (48 + n)))
 
 abbrev Inv-loop : tie.InvT-loop
 Inv-loop out₀ at n end i₀ left₀ out i left =
-    (i ≡ at + length (digits left)) × (length out ≡ length out₀) × (i ≤ length out₀) × (over out at (digits left) ≡ over out₀ at (digits n))
+    (i ≡ at + length (digits left)) × (length out ≡ length out₀) × (i ≤ length out₀)
+    × (over out at (digits left) ≡ over out₀ at (digits n))
 
 abbrev μ-loop : tie.MeasureT-loop
 μ-loop out₀ at n end i₀ left₀ out i left = left
@@ -77,7 +79,10 @@ returns : tie.Need-returns Inv-loop μ-loop
 returns c =
     let l = c .before .loop in
     let a = c .before .before .before .before .args in
-    record { next = ap (λ (k : ℕ). a .at + k) (c .before .before .number-length .ensures); text = last-one (l .out) (a .at) (l .left) (omega arith) ∙ l .inv .3 }
+    record {
+      next = ap (λ (k : ℕ). a .at + k) (c .before .before .number-length .ensures);
+      text = last-one (l .out) (a .at) (l .left) (omega arith) ∙ l .inv .3;
+    }
 
 pub put-number-spec : {M : Type 1} → statement M
 put-number-spec =

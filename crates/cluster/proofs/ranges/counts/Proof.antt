@@ -1,4 +1,5 @@
--- `cluster::ranges::counts` meets its contract. The loop's invariant: ok is the tests of the counts above b. Assumes nothing.
+-- `cluster::ranges::counts` meets its contract. The loop's invariant: ok is the tests of the counts above b.
+-- Assumes nothing.
 use mathlib.Core.Path.{_≡_}
 use Prim.Native.Nat.{_≤_}
 use lib.Dec.{leb}

@@ -1,9 +1,12 @@
 -- `cluster::ranges::in_range` meets its contract. Assumes nothing.
-use mathlib.Core.Path.{_∙_}
-use Rattle.cluster.proofs.Ranging.{row-tests}
+use lib.Dec.{leb}
+use Rattle.cluster.proofs.Ranging.{and-is, and-rest, row-tests}
 use borrow.Author.Needs.{needs}
 use Rattle.cluster.proofs.ranges.in_range.Statement.{statement}
 use Rattle.cluster.proofs.ranges.in_range.Tie as tie
+
+abbrev start : tie.After-replicas-in → tie.Start
+start c = c .before .before .before .before .before .before
 
 replicas-in-requires : tie.Need-replicas-in-requires
 replicas-in-requires c κs = search needs
@@ -37,19 +40,17 @@ both-requires-5 c κs = search needs
 
 returns : tie.Need-returns
 returns c =
-    row-tests (c .before .before .before .before .before .before .before .before .before .before .before .before .before .before .before .args .row) _
-    (c .both5 .ensures
-    ∙ rw (
-      c .before .view2 .ensures,
-      c .before .before .both4 .ensures,
-      c .before .before .before .view .ensures,
-      c .before .before .before .before .both3 .ensures,
-      c .before .before .before .before .before .named .ensures,
-      c .before .before .before .before .before .before .both2 .ensures,
-      c .before .before .before .before .before .before .before .reads .ensures,
-      c .before .before .before .before .before .before .before .before .both .ensures,
-      c .before .before .before .before .before .before .before .before .before .replicas-in .ensures,
-    ))
+    let t2 = c .before .before in
+    let t3 = t2 .before .before in
+    let t4 = t3 .before .before in
+    let t5 = t4 .before .before in
+    let row = start (t5 .before) .args .row in
+    row-tests row _
+    (and-is (c .both5 .ensures) (c .before .view2 .ensures)
+    (and-is (t2 .both4 .ensures) (t2 .before .view .ensures)
+    (and-is (t3 .both3 .ensures) (t3 .before .named .ensures)
+    (and-is (t4 .both2 .ensures) (t4 .before .reads .ensures)
+    (and-rest (leb (row .issued) 512) (t5 .both .ensures) (t5 .before .replicas-in .ensures))))))
 
 pub in-range-spec : {M : Type 1} → statement M
 in-range-spec =

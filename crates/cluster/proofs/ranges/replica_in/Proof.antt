@@ -1,9 +1,14 @@
 -- `cluster::ranges::replica_in` meets its contract. Assumes nothing.
-use mathlib.Core.Path.{_∙_}
-use Rattle.cluster.proofs.Ranging.{replica-tests}
+use Prim.Native.Nat.{_-_}
+use lib.Dec.{leb}
+use lib.ListN.{getD}
+use Rattle.cluster.proofs.Ranging.{and-is, and-rest, replica-tests}
 use borrow.Author.Needs.{needs}
 use Rattle.cluster.proofs.ranges.replica_in.Statement.{statement}
 use Rattle.cluster.proofs.ranges.replica_in.Tie as tie
+
+abbrev start : tie.After-counts → tie.Start
+start c = c .before .before .before .before .before .before .before .before .before
 
 sub-i : tie.Need-sub-i
 sub-i c = search needs
@@ -67,18 +72,20 @@ both-requires-5 c κs = search needs
 
 returns : tie.Need-returns
 returns c =
-    let f = c .before .before .before .before .before .before .before .before .before .before .before .before .before .before .before .before in
-    replica-tests (f .args .row) (f .args .b) (f .pre .0) _
-    (c .both5 .ensures
-    ∙ rw (
-      c .before .view .ensures,
-      c .before .before .both4 .ensures,
-      c .before .before .before .epoch .ensures,
-      c .before .before .before .before .both3 .ensures,
-      c .before .before .before .before .before .both2 .ensures,
-      c .before .before .before .before .before .before .both .ensures,
-      c .before .before .before .before .before .before .before .counts .ensures,
-    ))
+    let t2 = c .before .before in
+    let t3 = t2 .before .before in
+    let t4 = t3 .before in
+    let t5 = t4 .before in
+    let e = start (t5 .before) in
+    let row = e .args .row in
+    let i = e .args .b - 1 in
+    replica-tests row (e .args .b) (e .pre .0) _
+    (and-is (c .both5 .ensures) (c .before .view .ensures)
+    (and-is (t2 .both4 .ensures) (t2 .before .epoch .ensures)
+    (and-rest (leb (getD (row .len) i 0) 512) (t3 .both3 .ensures)
+    (and-rest (leb (getD (row .controller .heard) i 0) 513) (t4 .both2 .ensures)
+    (and-rest (leb (getD (row .controller .joined) i 0) 4000) (t5 .both .ensures)
+    (t5 .before .counts .ensures))))))
 
 pub replica-in-spec : {M : Type 1} → statement M
 replica-in-spec =

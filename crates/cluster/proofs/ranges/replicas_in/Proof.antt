@@ -1,4 +1,5 @@
--- `cluster::ranges::replicas_in` meets its contract. The loop's invariant: ok is the tests of the replicas above b. Assumes nothing.
+-- `cluster::ranges::replicas_in` meets its contract. The loop's invariant: ok is the tests of the replicas above b.
+-- Assumes nothing.
 use mathlib.Core.Path.{_≡_}
 use Prim.Native.Nat.{_≤_}
 use borrow.Author.Needs.{needs}
@@ -31,8 +32,11 @@ loop-less c = search needs
 
 loop-again : tie.Need-loop-again Inv-loop μ-loop
 loop-again c =
-    let l = c .before .before .before .loop in
-    (search needs, rest-more _ (l .b) _ (l .inv .1) _ (search needs) (search needs) (rw (← c .before .replica-in .ensures) (c .both .ensures)))
+    let l = c .before .before .before .loop in (
+      search needs,
+      rest-more _ (l .b) _ (l .inv .1) _ (search needs) (search needs)
+          (rw (← c .before .replica-in .ensures) (c .both .ensures)),
+    )
 
 returns : tie.Need-returns Inv-loop μ-loop
 returns c = rest-all _ _ _ (c .before .loop .inv .1) (c .loop-test .left)

@@ -48,12 +48,15 @@ loop-less c = omega arith
 
 loop-again : tie.Need-loop-again Inv-loop μ-loop
 loop-again c =
-    let l = c .before .before .before .before .loop in
-    let a = c .before .before .before .before .before .before .before .args in
+    let d = c .before .before .before .before in
+    let l = d .loop in
+    let a = d .before .before .before .args in
     let s = now (a .sheet) in
     let ns = now (a .answers) in
-    let i = l .i in
-    (omega arith, omega (arith, l .inv .1, c .line-length .ensures .1), omega (arith, l .inv .2, c .line-length .ensures .0, ap length (one-more s ns i (omega arith)), length-append (lines s ns i) (lineAt s ns i)))
+    let more = ap length (one-more s ns (l .i) (omega arith)) in
+    let both = length-append (lines s ns (l .i)) (lineAt s ns (l .i)) in
+    let w = c .line-length .ensures in
+    (omega arith, omega (arith, l .inv .1, w .1), omega (arith, l .inv .2, w .0, more, both))
 
 returns : tie.Need-returns Inv-loop μ-loop
 returns c =

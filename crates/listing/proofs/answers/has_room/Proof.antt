@@ -24,8 +24,10 @@ returns c =
     let e = c .before .before .before in
     let s = now (e .args .sheet) in
     let ns = now (e .args .answers) in
-    let most = lines-most s ns (λ i. omega (arith, c .before .before .shared-slice-known .given i)) (length s / 8) (e .pre .3) (e .pre .0) (e .pre .1) in
-    sym (le-leb (length (lines s ns (length s / 8)) + e .args .end) (e .args .room) (omega (arith, most, c .if1 .taken)))
+    let bytes = c .before .before .shared-slice-known .given in
+    let n = length s / 8 in
+    let most = lines-most s ns (λ i. omega (arith, bytes i)) n (e .pre .3) (e .pre .0) (e .pre .1) in
+    sym (le-leb (length (lines s ns n) + e .args .end) (e .args .room) (omega (arith, most, c .if1 .taken)))
 
 answers-length-requires : tie.Need-answers-length-requires
 answers-length-requires c κs = search needs
@@ -34,7 +36,9 @@ add-result : tie.Need-add-result
 add-result c = search needs
 
 returns-2 : tie.Need-returns-2
-returns-2 c = let a = c .before .before .before .before .args in ap (λ n. leb (n + a .end) (a .room)) (c .answers-length .ensures .0)
+returns-2 c =
+    let a = c .before .before .before .before .args in
+    ap (λ n. leb (n + a .end) (a .room)) (c .answers-length .ensures .0)
 
 pub has-room-spec : {M : Type 1} → statement M
 has-room-spec =

@@ -1,5 +1,5 @@
 -- `listing::answers::put_answers` meets its contract. Assumes nothing.
-use mathlib.Core.Path.{_≡_, refl, sym, subst}
+use mathlib.Core.Path.{_≡_, refl}
 use Prim.Native.Nat.{_-_, _/_, _≤_}
 use native.Mathlib.Omega.{arith}
 use lib.ListN.{length}
@@ -12,15 +12,19 @@ use Rattle.listing.proofs.answers.put_answers.Statement.{statement}
 use Rattle.listing.proofs.answers.put_answers.Tie as tie
 
 abbrev Inv-loop : tie.InvT-loop
-Inv-loop out₀ sheet answers n at₀ i₀ out at i = (i ≤ n) × (length out ≡ length out₀) × Wrote out₀ 0 (lines sheet answers i) out at
+Inv-loop out₀ sheet answers n at₀ i₀ out at i =
+    (i ≤ n) × (length out ≡ length out₀) × Wrote out₀ 0 (lines sheet answers i) out at
 
 abbrev μ-loop : tie.MeasureT-loop
 μ-loop out₀ sheet answers n at₀ i₀ out at i = n - i
 
+abbrev start : tie.At-loop Inv-loop μ-loop → tie.Start Inv-loop μ-loop
+start c = c .before .before .before .before
+
 loop-holds : tie.Need-loop-holds Inv-loop μ-loop
 loop-holds c =
     let a = c .before .before .before .args in
-    (omega arith, refl, subst (λ x. Wrote (now (a .out)) 0 x (now (a .out)) 0) (sym (lines-none (now (a .sheet)) (now (a .answers)))) (nothing (now (a .out)) 0))
+    (omega arith, refl, rw (lines-none (now (a .sheet)) (now (a .answers))) (nothing (now (a .out)) 0))
 
 add-put-answer : tie.Need-add-put-answer Inv-loop μ-loop
 add-put-answer c = omega arith
@@ -39,9 +43,11 @@ shared-slice-read-put-answer-2 c = omega arith
 
 put-answer-requires : tie.Need-put-answer-requires Inv-loop μ-loop
 put-answer-requires c κs =
-    let l = c .before .before .before .before .loop in
-    let e = c .before .before .before .before .before .before .before .before in
-    omega (arith, l .inv .1, l .inv .2 .next, e .pre .2, lines-room (now (e .args .sheet)) (now (e .args .answers)) (l .i) (length (now (e .args .sheet)) / 8) (omega arith) (e .pre .1))
+    let d = c .before .before .before .before in
+    let e = start d in
+    let s = now (e .args .sheet) in
+    let r = lines-room s (now (e .args .answers)) (d .loop .i) (length s / 8) (omega arith) (e .pre .1) in
+    omega (arith, d .loop .inv .1, d .loop .inv .2 .next, e .pre .2, r)
 
 add-i : tie.Need-add-i Inv-loop μ-loop
 add-i c = omega arith
@@ -51,20 +57,21 @@ loop-less c = omega arith
 
 loop-again : tie.Need-loop-again Inv-loop μ-loop
 loop-again c =
-    let l = c .before .before .before .before .before .before .before .loop in
-    let a = c .before .before .before .before .before .before .before .before .before .before .before .args in
-    let w = then (l .inv .2) (c .before .before .put-answer .ensures) in
-    (omega arith, omega arith, subst (λ x. Wrote (now (a .out)) 0 x (c .before .before .put-answer .last .0) (c .before .before .put-answer .result)) (sym (one-more (now (a .sheet)) (now (a .answers)) (l .i) (omega arith))) w)
+    let w = c .before .before in
+    let d = w .before .before .before .before .before in
+    let a = start d .args in
+    let next = one-more (now (a .sheet)) (now (a .answers)) (d .loop .i) (omega arith) in
+    (omega arith, omega arith, rw next (then (d .loop .inv .2) (w .put-answer .ensures)))
 
 same-length : tie.Need-same-length Inv-loop μ-loop
 same-length c = omega arith
 
 returns : tie.Need-returns Inv-loop μ-loop
 returns c =
-    let l = c .before .loop in
-    let a = c .before .before .before .before .before .args in
-    let e : l .i ≡ length (now (a .sheet)) / 8 = omega arith in
-    subst (λ n. Wrote (now (a .out)) 0 (lines (now (a .sheet)) (now (a .answers)) n) (l .out) (l .at)) e (l .inv .2)
+    let d = c .before in
+    let a = start d .args in
+    let e : d .loop .i ≡ length (now (a .sheet)) / 8 = omega arith in
+    rw (← e) (d .loop .inv .2)
 
 pub put-answers-spec : {M : Type 1} → statement M
 put-answers-spec =

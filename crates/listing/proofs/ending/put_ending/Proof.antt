@@ -14,11 +14,15 @@ use borrow.Author.Needs.{needs}
 use Rattle.listing.proofs.ending.put_ending.Statement.{statement}
 use Rattle.listing.proofs.ending.put_ending.Tie as tie
 
+abbrev text0 : tie.Start → Text
+text0 e = ending (outlineOf (e .args .row)) (take (e .args .row .issued) (now (e .args .list)))
+
 -- The ending is short, as the list's values are words of 32 bits.
-most : (k : tie.After-shared-slice-known) → length (ending (outlineOf (k .before .before .args .row)) (take (k .before .before .args .row .issued) (now (k .before .before .args .list)))) ≤ 6144
+most : (k : tie.After-shared-slice-known) → length (text0 (k .before .before)) ≤ 6144
 most k =
     let e = k .before .before in
-    ending-most (outlineOf (e .args .row)) (now (e .args .list)) (e .pre .0) (λ i. omega (arith, k .shared-slice-known .given i))
+    ending-most (outlineOf (e .args .row)) (now (e .args .list)) (e .pre .0)
+    (λ i. omega (arith, k .shared-slice-known .given i))
 
 -- What is still to be written after the call j.
 abbrev text3 : tie.Start → Text
@@ -30,7 +34,12 @@ text2 e = boardLines (outlineOf (e .args .row)) ++ text3 e
 abbrev text1 : tie.Start → Text
 text1 e = controlLine (controllerOf (e .args .row .controller)) ++ text2 e
 
-room0 : (k : tie.After-shared-slice-known) → 0 + length (registryLine (registryOf (k .before .before .args .row .registry)) ++ text1 (k .before .before)) ≤ length (now (k .before .before .args .out))
+abbrev first : tie.Start → Text
+first e = registryLine (registryOf (e .args .row .registry))
+
+room0 :
+    (k : tie.After-shared-slice-known)
+    → 0 + length (first (k .before .before) ++ text1 (k .before .before)) ≤ length (now (k .before .before .args .out))
 unfolding ending
 room0 k = let e = k .before .before in omega (arith, e .pre .2, most k)
 
@@ -48,26 +57,49 @@ abbrev start3 : tie.After-put-replicas → tie.Start
 start3 c = start2 (c .before .before .before .before)
 
 -- The room that is left after the call j.
-room1 : (c : tie.After-put-registry) → c .put-registry .result + length (text1 (start1 c)) ≤ length (c .put-registry .last .0)
-room1 c = let e = start1 c in rest (registryLine (registryOf (e .args .row .registry))) (text1 e) (c .put-registry .ensures) (room0 (known1 c))
+room1 : (c : tie.After-put-registry)
+    → c .put-registry .result + length (text1 (start1 c)) ≤ length (c .put-registry .last .0)
+room1 c =
+    let e = start1 c in
+    rest (first e) (text1 e) (c .put-registry .ensures) (room0 (known1 c))
 
-room2 : (c : tie.After-put-control) → c .put-control .result + length (text2 (start2 c)) ≤ length (c .put-control .last .0)
-room2 c = let e = start2 c in rest (controlLine (controllerOf (e .args .row .controller))) (text2 e) (c .put-control .ensures) (room1 (c .before .before .before .before))
+room2 : (c : tie.After-put-control)
+    → c .put-control .result + length (text2 (start2 c)) ≤ length (c .put-control .last .0)
+room2 c =
+    let e = start2 c in
+    rest (controlLine (controllerOf (e .args .row .controller))) (text2 e) (c .put-control .ensures)
+    (room1 (c .before .before .before .before))
 
-room3 : (c : tie.After-put-replicas) → c .put-replicas .result + length (text3 (start3 c)) ≤ length (c .put-replicas .last .0)
-room3 c = let e = start3 c in rest (boardLines (outlineOf (e .args .row))) (text3 e) (c .put-replicas .ensures) (room2 (c .before .before .before .before))
+room3 : (c : tie.After-put-replicas)
+    → c .put-replicas .result + length (text3 (start3 c)) ≤ length (c .put-replicas .last .0)
+room3 c =
+    let e = start3 c in
+    rest (boardLines (outlineOf (e .args .row))) (text3 e) (c .put-replicas .ensures)
+    (room2 (c .before .before .before .before))
 
 put-registry-requires : tie.Need-put-registry-requires
-put-registry-requires c κs = let k = c .before .before .before in let e = k .before .before in fits _ (registryLine (registryOf (e .args .row .registry))) (text1 e) (room0 k)
+put-registry-requires c κs =
+    let k = c .before .before .before in
+    let e = k .before .before in
+    fits _ (first e) (text1 e) (room0 k)
 
 put-control-requires : tie.Need-put-control-requires
-put-control-requires c κs = let e = start1 (c .before .before .before) in fits _ (controlLine (controllerOf (e .args .row .controller))) (text2 e) (room1 (c .before .before .before))
+put-control-requires c κs =
+    let d = c .before .before .before in
+    let e = start1 d in
+    fits _ (controlLine (controllerOf (e .args .row .controller))) (text2 e) (room1 d)
 
 put-replicas-requires : tie.Need-put-replicas-requires
-put-replicas-requires c κs = let e = start2 (c .before .before .before) in fits _ (boardLines (outlineOf (e .args .row))) (text3 e) (room2 (c .before .before .before))
+put-replicas-requires c κs =
+    let d = c .before .before .before in
+    let e = start2 d in
+    fits _ (boardLines (outlineOf (e .args .row))) (text3 e) (room2 d)
 
 put-receipts-requires : tie.Need-put-receipts-requires
-put-receipts-requires c κs = let e = start3 (c .before .before .before) in (e .pre .1, room3 (c .before .before .before))
+put-receipts-requires c κs =
+    let d = c .before .before .before in
+    let e = start3 d in
+    (e .pre .1, room3 d)
 
 same-length : tie.Need-same-length
 same-length c = search needs
@@ -75,13 +107,15 @@ same-length c = search needs
 returns : tie.Need-returns
 unfolding ending
 returns c =
+    let p3 = c .before .before .before .before .before .before in
+    let p2 = p3 .before .before .before .before in
+    let p1 = p2 .before .before .before .before in
     let w =
-    then (c .before .before .before .before .before .before .before .before .before .before .before .before .before .before .put-registry .ensures)
-    (then (c .before .before .before .before .before .before .before .before .before .before .put-control .ensures)
-    (then (c .before .before .before .before .before .before .put-replicas .ensures)
-    (c .before .before .put-receipts .ensures)))
+    then (p1 .put-registry .ensures)
+    (then (p2 .put-control .ensures)
+    (then (p3 .put-replicas .ensures) (c .before .before .put-receipts .ensures)))
     in
-    (w, omega (arith, w .next, most (c .before .before .before .before .before .before .before .before .before .before .before .before .before .before .before .before .before .before)))
+    (w, omega (arith, w .next, most (known1 p1)))
 
 pub put-ending-spec : {M : Type 1} → statement M
 put-ending-spec =

@@ -17,14 +17,19 @@ use Rattle.listing.proofs.ending.put_receipts.Tie as tie
 abbrev text3 : tie.Start → Text
 text3 e = newline
 
+abbrev values : tie.Start → Text
+values e = valuesText (take (e .args .n) (now (e .args .list)))
+
 abbrev text2 : tie.Start → Text
-text2 e = valuesText (take (e .args .n) (now (e .args .list))) ++ text3 e
+text2 e = values e ++ text3 e
 
 abbrev text1 : tie.Start → Text
 text1 e = digits (e .args .n) ++ text2 e
 
 room0 : (e : tie.Start) → e .args .at + length (word "receipts " ++ text1 e) ≤ length (now (e .args .out))
-room0 e = subst (λ t. e .args .at + length t ≤ length (now (e .args .out))) (receipts-is (now (e .args .list)) (e .args .n) (e .pre .0)) (e .pre .1)
+room0 e =
+    subst (λ t. e .args .at + length t ≤ length (now (e .args .out)))
+    (receipts-is (now (e .args .list)) (e .args .n) (e .pre .0)) (e .pre .1)
 
 -- What was given at the start, from after the call j.
 abbrev start1 : tie.After-put-bytes → tie.Start
@@ -44,19 +49,31 @@ put-bytes-requires c κs = let e = c .before .before .before .before in fits _ (
 
 -- The room that is left after the call j, then the need of the next.
 room1 : (c : tie.After-put-bytes) → c .put-bytes .result + length (text1 (start1 c)) ≤ length (c .put-bytes .last .0)
-room1 c = let e = start1 c in rest (word "receipts ") (text1 e) (c .put-bytes .ensures) (room0 e)
+room1 c =
+    let e = start1 c in
+    rest (word "receipts ") (text1 e) (c .put-bytes .ensures) (room0 e)
 
 put-number-requires : tie.Need-put-number-requires
-put-number-requires c κs = let e = start1 (c .before .before .before) in fits _ (digits (e .args .n)) (text2 e) (room1 (c .before .before .before))
+put-number-requires c κs =
+    let d = c .before .before .before in
+    let e = start1 d in
+    fits _ (digits (e .args .n)) (text2 e) (room1 d)
 
 room2 : (c : tie.After-put-number) → c .put-number .result + length (text2 (start2 c)) ≤ length (c .put-number .last .0)
-room2 c = let e = start2 c in rest (digits (e .args .n)) (text2 e) (c .put-number .ensures) (room1 (c .before .before .before .before))
+room2 c =
+    let e = start2 c in
+    rest (digits (e .args .n)) (text2 e) (c .put-number .ensures) (room1 (c .before .before .before .before))
 
 put-values-requires : tie.Need-put-values-requires
-put-values-requires c κs = let e = start2 (c .before .before .before) in (e .pre .0, fits _ (valuesText (take (e .args .n) (now (e .args .list)))) (text3 e) (room2 (c .before .before .before)))
+put-values-requires c κs =
+    let d = c .before .before .before in
+    let e = start2 d in
+    (e .pre .0, fits _ (values e) (text3 e) (room2 d))
 
 room3 : (c : tie.After-put-values) → c .put-values .result + length (text3 (start3 c)) ≤ length (c .put-values .last .0)
-room3 c = let e = start3 c in rest (valuesText (take (e .args .n) (now (e .args .list)))) (text3 e) (c .put-values .ensures) (room2 (c .before .before .before .before))
+room3 c =
+    let e = start3 c in
+    rest (values e) (text3 e) (c .put-values .ensures) (room2 (c .before .before .before .before))
 
 put-byte-requires : tie.Need-put-byte-requires
 put-byte-requires c κs = byte _ (room3 (c .before .before .before))
@@ -66,13 +83,14 @@ same-length c = search needs
 
 returns : tie.Need-returns
 returns c =
-    let e = c .before .before .before .before .before .before .before .before .before .before .before .before .before .before .before .before .before .before .before in
+    let p3 = c .before .before .before .before .before .before in
+    let p2 = p3 .before .before .before .before in
+    let p1 = p2 .before .before .before .before in
+    let e = start1 p1 in
     let w = c .before .before .put-byte in
-    subst (λ t. Wrote (now (e .args .out)) (e .args .at) t (w .last .0) (w .result)) (sym (receipts-is (now (e .args .list)) (e .args .n) (e .pre .0)))
-    (then (c .before .before .before .before .before .before .before .before .before .before .before .before .before .before .put-bytes .ensures)
-    (then (c .before .before .before .before .before .before .before .before .before .before .put-number .ensures)
-    (then (c .before .before .before .before .before .before .put-values .ensures)
-    (c .before .before .put-byte .ensures))))
+    subst (λ t. Wrote (now (e .args .out)) (e .args .at) t (w .last .0) (w .result))
+    (sym (receipts-is (now (e .args .list)) (e .args .n) (e .pre .0)))
+    (then (p1 .put-bytes .ensures) (then (p2 .put-number .ensures) (then (p3 .put-values .ensures) (w .ensures))))
 
 pub put-receipts-spec : {M : Type 1} → statement M
 put-receipts-spec =

@@ -1,4 +1,5 @@
--- `listing::ending::put_replica` meets its contract. By hand, as the search takes long to refuse an edit. Assumes nothing.
+-- `listing::ending::put_replica` meets its contract. By hand, as the search takes long to refuse an edit.
+-- Assumes nothing.
 use borrow.Author.Needs.{needs}
 use Rattle.listing.proofs.ending.put_replica.Statement.{statement}
 use Rattle.listing.proofs.ending.put_replica.Tie as tie

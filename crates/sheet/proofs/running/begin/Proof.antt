@@ -16,7 +16,8 @@ opening-requires c κs = search needs
 returns : tie.Need-returns
 returns c =
     let e = c .before .before .before .before in
-    begun (now (e .args .sheet)) (e .pre) _ (ap (λ r. r .board) (c .before .before .decode .ensures)) (c .before .opening .result) (c .before .opening .ensures)
+    begun (now (e .args .sheet)) (e .pre) _ (ap (λ r. r .board) (c .before .before .decode .ensures))
+    (c .before .opening .result) (c .before .opening .ensures)
 
 pub begin-spec : {M : Type 1} → statement M
 begin-spec = tie.close (tie.spec decode-requires opening-requires returns)

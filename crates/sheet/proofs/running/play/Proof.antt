@@ -8,6 +8,16 @@ use Rattle.sheet.proofs.Playing.{ran-none}
 use Rattle.sheet.proofs.running.play.Statement.{statement}
 use Rattle.sheet.proofs.running.play.Tie as tie
 
+-- The ways back: from the opening to the start, to the opening, to the walk.
+abbrev start : tie.After-begin → tie.Start
+start c = c .before .before .before .before .before
+
+abbrev begun : tie.After-len2 → tie.After-begin
+begun c = c .before .before .before .before .before .before .before .before .before
+
+abbrev walked : tie.After-next → tie.After-walk
+walked c = c .before .before .before .before .before .before .before .before .before .before .before .before
+
 -- The lengths that the opening's type fixes.
 shape : (c : tie.After-begin) → Shape (c .begin .result)
 shape c =
@@ -33,14 +43,14 @@ slice-aggregate-walk-2 : tie.Need-slice-aggregate-walk-2
 slice-aggregate-walk-2 c = search needs
 
 slice-aggregate-walk-3 : tie.Need-slice-aggregate-walk-3
-slice-aggregate-walk-3 c = sym (shape (c .before .before .before .before .before .before .before .before .before) .len)
+slice-aggregate-walk-3 c = sym (shape (begun c) .len)
 
 walk-requires : tie.Need-walk-requires
 walk-requires c κs =
-    let e = c .before .before .before .before .before .before .before .before .before .before .before .before .before .before .before .before .before in
-    let a = e .args in
-    let b = c .before .before .before .before .before .before .before .before .before .before .before .before in
-    (e .pre .0, shape b, ran-none (now (a .sheet)) (b .begin .result) (b .begin .ensures) _ (e .pre .1) (now (a .answers)) (e .pre .2))
+    let b = begun (c .before .before .before) in
+    let e = start b in
+    let ran = ran-none (now (e .args .sheet)) (b .begin .result) (b .begin .ensures) _ (e .pre .1) in
+    (e .pre .0, shape b, ran (now (e .args .answers)) (e .pre .2))
 
 same-length : tie.Need-same-length
 same-length c = search needs
@@ -49,7 +59,10 @@ same-length-2 : tie.Need-same-length-2
 same-length-2 c = search needs
 
 same-length-3 : tie.Need-same-length-3
-same-length-3 c = c .before .before .before .before .before .before .before .before .before .before .before .before .walk .kept .1 .1 .1 .1 .1 .1 .1 .0 ∙ length-set (now (c .before .before .before .before .before .before .before .before .before .before .before .before .before .before .before .before .before .before .before .before .before .before .before .before .before .before .before .before .before .before .args .answers)) 0 0
+same-length-3 c =
+    let w = walked c in
+    let e = start (begun (w .before .before .before .before)) in
+    w .walk .kept .1 .1 .1 .1 .1 .1 .1 .0 ∙ length-set (now (e .args .answers)) 0 0
 
 returns : tie.Need-returns
 returns c = search needs

@@ -5,7 +5,8 @@ use native.Mathlib.Omega.{arith}
 use lib.ListN.{length, length-set}
 use denote.Ref.{now}
 use borrow.Author.Needs.{needs}
-use Rattle.refinement.specs.Memory.{lent, rowOf, Shape}
+use Rattle.cluster.specs.declared.Cluster.{Cluster}
+use Rattle.refinement.specs.Memory.{Places, lent, rowOf, Shape}
 use Rattle.sheet.specs.Running.{Ran}
 use Rattle.records.proofs.Decoding.{room}
 use Rattle.sheet.proofs.Playing.{sheet-whole, sheet-most, ran-ready, ran-more}
@@ -13,21 +14,52 @@ use Rattle.sheet.proofs.running.walk.Statement.{statement}
 use Rattle.sheet.proofs.running.walk.Tie as tie
 
 abbrev Inv-loop : tie.InvT-loop
-Inv-loop sheet joined₀ acked₀ len₀ store₀ list₀ answers₀ n g₀ c₀ views₀ issued₀ k₀ joined acked len store list answers g c views issued k =
-    (k ≤ n) × Shape (rowOf g c views joined acked len issued) × Ran sheet k (rowOf g c views joined acked len issued) (lent store list) answers
+Inv-loop sheet joined₀ acked₀ len₀ store₀ list₀ answers₀ n g₀ c₀ views₀ issued₀ k₀
+    joined acked len store list answers g c views issued k =
+    (k ≤ n)
+    × Shape (rowOf g c views joined acked len issued)
+    × Ran sheet k (rowOf g c views joined acked len issued) (lent store list) answers
 
 abbrev μ-loop : tie.MeasureT-loop
-μ-loop sheet joined₀ acked₀ len₀ store₀ list₀ answers₀ n g₀ c₀ views₀ issued₀ k₀ joined acked len store list answers g c views issued k = n - k
+μ-loop sheet joined₀ acked₀ len₀ store₀ list₀ answers₀ n g₀ c₀ views₀ issued₀ k₀
+    joined acked len store list answers g c views issued k =
+    n - k
+
+-- The ways back: from the loop to the start, and in a turn of the loop from what send answered to its call, to the
+-- record and to the turn's test.
+abbrev entry : tie.After-slice-known6 Inv-loop μ-loop → tie.Start Inv-loop μ-loop
+entry c = c .before .before .before .before .before .before .before
+
+abbrev start : tie.At-loop Inv-loop μ-loop → tie.Start Inv-loop μ-loop
+start c = entry (c .before .before .before .before)
+
+abbrev decoded : tie.After-send Inv-loop μ-loop → tie.After-decode Inv-loop μ-loop
+decoded c = c .before .before .before .before .before .before
+
+abbrev turn : tie.After-send Inv-loop μ-loop → tie.In-loop Inv-loop μ-loop
+turn c = decoded c .before
+
+abbrev sent : tie.After-s Inv-loop μ-loop → tie.After-send Inv-loop μ-loop
+sent c = c .before .before .before .before .before .before .before .before .before .before .before
+
+-- The row and the places at a turn.
+abbrev row : tie.At-loop Inv-loop μ-loop → Cluster
+row c = let l = c .loop in rowOf (l .g) (l .c) (l .views) (l .joined) (l .acked) (l .len) (l .issued)
+
+abbrev places : tie.At-loop Inv-loop μ-loop → Places
+places c = lent (c .loop .store) (c .loop .list)
 
 -- At a record's turn there is room for its answer.
 small : (c : tie.In-loop Inv-loop μ-loop) → c .before .loop .k + 1 < 4096
-small c = omega (arith, sheet-most (now (c .before .before .before .before .before .before .before .before .before .before .before .before .args .sheet)) (c .before .before .before .before .before .before .before .before .before .before .before .before .pre .0))
+small c = let e = start (c .before) in omega (arith, sheet-most (now (e .args .sheet)) (e .pre .0))
 
 sub-n : tie.Need-sub-n Inv-loop μ-loop
-sub-n c = omega (arith, room (length (now (c .before .before .before .before .before .before .before .args .sheet))) (sheet-whole (now (c .before .before .before .before .before .before .before .args .sheet)) (c .before .before .before .before .before .before .before .pre .0)))
+sub-n c =
+    let e = entry c in
+    omega (arith, room (length (now (e .args .sheet))) (sheet-whole (now (e .args .sheet)) (e .pre .0)))
 
 loop-holds : tie.Need-loop-holds Inv-loop μ-loop
-loop-holds c = (omega arith, c .before .before .before .before .before .before .before .before .before .before .pre .1, c .before .before .before .before .before .before .before .before .before .before .pre .2)
+loop-holds c = let e = entry (c .before .before .before) in (omega arith, e .pre .1, e .pre .2)
 
 mul-decode : tie.Need-mul-decode Inv-loop μ-loop
 mul-decode c = search needs
@@ -40,38 +72,52 @@ decode-requires c κs = omega arith
 
 send-requires : tie.Need-send-requires Inv-loop μ-loop
 send-requires c κs =
-    let l = c .before .before .before .before .before .before .before .loop in
-    let h = l .inv .2 in
-    (ran-ready (now (c .before .before .before .before .before .before .before .before .before .before .before .before .before .before .before .before .before .before .args .sheet)) (c .before .before .before .before .before .before .before .before .before .before .before .before .before .before .before .before .before .before .pre .0) (l .k) _ (lent (l .store) (l .list)) (l .answers) h (l .inv .1), h .full)
+    let t = c .before .before .before .before .before .before in
+    let d = t .before in
+    let e = start d in
+    let h = d .loop .inv .2 in (
+      ran-ready (now (e .args .sheet)) (e .pre .0) (d .loop .k) _ (places d) (d .loop .answers) h (d .loop .inv .1),
+      h .full,
+    )
 
 add-answers : tie.Need-add-answers Inv-loop μ-loop
-add-answers c = omega (arith, small (c .before .before .before .before .before .before .before .before .before .before .before .before .before .before .before .before .before .before))
+add-answers c = omega (arith, small (turn (sent c)))
 
 slice-write-answers : tie.Need-slice-write-answers Inv-loop μ-loop
-slice-write-answers c = omega (arith, small (c .before .before .before .before .before .before .before .before .before .before .before .before .before .before .before .before .before .before), c .before .before .before .before .before .before .before .before .before .before .before .before .before .before .before .before .before .before .before .loop .inv .2 .room)
+slice-write-answers c = let t = turn (sent c) in omega (arith, small t, t .before .loop .inv .2 .room)
 
 mul-views : tie.Need-mul-views Inv-loop μ-loop
 mul-views c = search needs
 
 array-set-from-views : tie.Need-array-set-from-views Inv-loop μ-loop
-array-set-from-views c = omega (arith, c .before .before .before .before .before .before .before .before .before .before .before .before .send .ensures .place, c .before .before .before .before .before .before .before .before .before .before .before .before .before .before .before .before .before .before .before .before .loop .inv .1 .views)
+array-set-from-views c =
+    let x = sent (c .before) in
+    omega (arith, x .send .ensures .place, turn x .before .loop .inv .1 .views)
 
 add-k : tie.Need-add-k Inv-loop μ-loop
-add-k c = omega (arith, small (c .before .before .before .before .before .before .before .before .before .before .before .before .before .before .before .before .before .before .before .before .before))
+add-k c = omega (arith, small (turn (sent (c .before .before .before))))
 
 loop-less : tie.Need-loop-less Inv-loop μ-loop
 loop-less c = omega arith
 
 loop-again : tie.Need-loop-again Inv-loop μ-loop
 loop-again c =
-    let l = c .before .before .before .before .before .before .before .before .before .before .before .before .before .before .before .before .before .before .before .before .before .before .loop in
-    let e = c .before .before .before .before .before .before .before .before .before .before .before .before .before .before .before .before .before .before .before .before .before .before .before .before .before .before .before .before .before .before .before .before .before in
+    let x = sent (c .before .before .before) in
+    let t = turn x in
+    let d = t .before in
+    let e = start d in
+    let l = d .loop in
     let h = l .inv .2 in
-    let same = c .before .before .before .before .before .before .before .before .before .before .before .before .before .before .send .kept .1 .1 .1 .1 in (
-      omega (arith, c .before .before .before .before .before .before .before .before .before .before .before .before .before .before .before .before .before .before .before .before .before .loop-test .taken),
-      record { views = length-set (l .views) _ _ ∙ l .inv .1 .views; joined = same .0 ∙ l .inv .1 .joined; acked = same .1 .0 ∙ l .inv .1 .acked; len = same .1 .1 .0 ∙ l .inv .1 .len },
-      ran-more (now (e .args .sheet)) (e .pre .0) (l .k) (rowOf (l .g) (l .c) (l .views) (l .joined) (l .acked) (l .len) (l .issued)) (lent (l .store) (l .list)) (l .answers) h _
-          (c .before .before .before .before .before .before .before .before .before .before .before .before .before .before .before .before .before .before .before .before .decode .ensures) (c .before .before .before .before .before .before .before .before .before .before .before .before .before .before .send .ensures .leaves) (omega (arith, small (c .before .before .before .before .before .before .before .before .before .before .before .before .before .before .before .before .before .before .before .before .before), h .room)),
+    let same = x .send .kept .1 .1 .1 .1 in (
+      omega (arith, t .loop-test .taken),
+      record {
+        views = length-set (l .views) _ _ ∙ l .inv .1 .views;
+        joined = same .0 ∙ l .inv .1 .joined;
+        acked = same .1 .0 ∙ l .inv .1 .acked;
+        len = same .1 .1 .0 ∙ l .inv .1 .len;
+      },
+      ran-more (now (e .args .sheet)) (e .pre .0) (l .k) (row d) (places d) (l .answers) h _
+          (decoded x .decode .ensures) (x .send .ensures .leaves) (omega (arith, small t, h .room)),
     )
 
 same-length : tie.Need-same-length Inv-loop μ-loop
@@ -94,10 +140,10 @@ same-length-6 c = search needs
 
 returns : tie.Need-returns Inv-loop μ-loop
 returns c =
-    let l = c .before .loop in
-    let s = now (c .before .before .before .before .before .before .before .before .before .before .before .before .args .sheet) in
-    let e : l .k ≡ length s / 8 - 1 = omega arith in
-    subst (λ m. Ran s m (rowOf (l .g) (l .c) (l .views) (l .joined) (l .acked) (l .len) (l .issued)) (lent (l .store) (l .list)) (l .answers)) e (l .inv .2)
+    let d = c .before in
+    let s = now (start d .args .sheet) in
+    let e : d .loop .k ≡ length s / 8 - 1 = omega arith in
+    subst (λ m. Ran s m (row d) (places d) (d .loop .answers)) e (d .loop .inv .2)
 
 pub walk-spec : {M : Type 1} → statement M
 walk-spec =
