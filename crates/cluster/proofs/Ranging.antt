@@ -85,8 +85,8 @@ module _ (row : Cluster) where
   rowTests =
       every (viewRanges (m .registry .view))
       && (every (viewRanges (m .controller .view))
-      && (leaderNamed m
-      && (controllerLeaderNamed m
+      && (leaderNamed (m .registry)
+      && (controllerLeaderNamed (m .controller)
       && (leb (m .issued) 512
       && every (eight (λ b. every (replicaRanges m b)))))))
 

@@ -3,7 +3,7 @@
 use mathlib.Core.Bool.{cond, _&&_}
 use mathlib.Core.List.{List, _∷_}
 use Prim.Native.Nat.{ℕ, _+_, _-_, _*_}
-use lib.ListN.{getD, take}
+use lib.ListN.{getD}
 use Rattle.model.specs.Members.{isReplica}
 use Rattle.model.specs.State as M
 use Rattle.members.specs.Mask.{bits}

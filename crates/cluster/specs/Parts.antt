@@ -3,7 +3,6 @@
 -- steps_central and hub. Assumes nothing.
 use mathlib.Core.Logic.{_≢_}
 use mathlib.Core.Path.{_≡_}
-use Prim.Native.Nat.{ℕ}
 use Rattle.model.specs.State.{RowState, outline, entries}
 use Rattle.model.specs.Steps.{Step, answerOf, step, withRegistry, withController}
 use Rattle.cluster.specs.declared.Registry.{Registry}

@@ -1,5 +1,5 @@
--- The controller's stage: the test that the checks of steps 11 to 15 make of it, and what goes with stage leader. Cited by
--- the checks of steps_controller and steps_both, and by the contracts of step 11. Assumes nothing.
+-- The controller's stage: the test that the checks of steps 11 to 15 make of it, and what goes with stage leader. Cited
+-- by the checks of steps_controller and steps_both, and by the contracts of step 11. Assumes nothing.
 use mathlib.Core.Bool.{Bool, true}
 use mathlib.Core.Path.{_≡_}
 use lib.Dec.{eqb}

@@ -1,12 +1,11 @@
 // Refusal 1: whether a row's numbers are in the ranges of document 01, and the leaders that must be named are.
 
 ghost use mathlib.Core.Path.{_≡_};
-ghost use mathlib.Core.Bool.{not, _&&_, _||_};
+ghost use mathlib.Core.Bool.{_&&_, _||_};
 ghost use Prim.Native.Nat.{_≤_};
 ghost use lib.Dec.{leb, eqb};
-ghost use Rattle.model.specs.State.{isChoosing, stageNumber};
-ghost use Rattle.model.specs.Ranges.{every, eight, isEpoch, viewRanges, replicaRanges, inRange};
-ghost use Rattle.cluster.specs.Layout.{statusOf, stageOf, viewOf, atPair, outlineOf};
+ghost use Rattle.model.specs.Ranges.{every, eight, isEpoch, viewRanges, leaderNamed, controllerLeaderNamed, replicaRanges, inRange};
+ghost use Rattle.cluster.specs.Layout.{viewOf, registryOf, controllerOf, atPair, outlineOf};
 use crate::Cluster;
 use crate::Controller;
 use crate::Registry;
@@ -100,7 +99,7 @@ fn replicas_in(row: Cluster) -> bool
 
 // The registry names a leader unless it is choosing.
 pub fn named(g: Registry) -> bool
-    ensures { λ r. ⌜ r ≡ (isChoosing (statusOf (g .status)) || not (eqb (g .view .leader) 0)) ⌝ }
+    ensures { λ r. ⌜ r ≡ leaderNamed (registryOf g) ⌝ }
 {
     let v = g.view;
     let s = g.status;
@@ -109,11 +108,7 @@ pub fn named(g: Registry) -> bool
 
 // The controller has a leader at stage leader and at stage boards.
 pub fn reads(c: Controller) -> bool
-    ensures { λ r. ⌜
-        r ≡ (eqb (stageNumber (stageOf (c .stage))) 0
-        || eqb (stageNumber (stageOf (c .stage))) 3
-        || not (eqb (c .view .leader) 0))
-        ⌝ }
+    ensures { λ r. ⌜ r ≡ controllerLeaderNamed (controllerOf c) ⌝ }
 {
     let v = c.view;
     let s = c.stage;

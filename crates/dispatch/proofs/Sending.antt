@@ -17,9 +17,8 @@ use Rattle.cluster.specs.declared.Cluster.{Cluster}
 use Rattle.cluster.specs.declared.Outcome.{Outcome}
 use Rattle.cluster.specs.declared.Settled.{Settled}
 use Rattle.cluster.specs.Layout.{noView, outlineOf}
-use Rattle.refinement.specs.Memory.{Places, Full, abs, rowOf, Ready, placesAfter, Turns, Leaves}
+use Rattle.refinement.specs.Refinement.{Places, Full, abs, rowOf, Ready, placesAfter, Turns, Leaves}
 use Rattle.refinement.proofs.Turning.{turns-refused, set-idle}
-use Rattle.dispatch.specs.declared.Sent.{Sent}
 use Rattle.dispatch.specs.Send.{Sends}
 
 -- The answer 1 to what is no step.

@@ -6,7 +6,7 @@ use Rattle.model.specs.Steps.{Step}
 use Rattle.cluster.specs.declared.View.{View}
 use Rattle.cluster.specs.declared.Registry.{Registry}
 use Rattle.cluster.specs.declared.Controller.{Controller}
-use Rattle.refinement.specs.Memory.{Places, rowOf, Leaves}
+use Rattle.refinement.specs.Refinement.{Places, rowOf, Leaves}
 use Rattle.dispatch.specs.declared.Sent.{Sent}
 
 -- What the step st of the row of these parts answers and leaves: x has all that it does not write where it is lent; of

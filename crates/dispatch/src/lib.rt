@@ -2,7 +2,7 @@
 // of sheets knows it.
 
 ghost use Rattle.model.specs.Records as R;
-ghost use Rattle.refinement.specs.Memory.{lent, Full, rowOf, Ready};
+ghost use Rattle.refinement.specs.Refinement.{lent, Full, rowOf, Ready};
 ghost use Rattle.records.specs.Record.{recordOf};
 ghost use Rattle.dispatch.specs.Send.{Sends};
 use cluster::Controller;

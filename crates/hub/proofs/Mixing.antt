@@ -1,12 +1,12 @@
 -- Calls of both kinds: after an opening each is a call by value, so they follow the model's run. Assumes nothing.
 use mathlib.Core.List.{List}
 use Prim.Native.Nat.{ℕ}
-use Rattle.model.specs.State.{RowState, entries, Opening, opened}
+use Rattle.model.specs.State.{RowState, entries, opened}
 use Rattle.model.specs.Steps.{Step, step}
 use Rattle.model.specs.Claim.{after}
 use Rattle.steps.specs.Calls as Calls
-use Rattle.steps.specs.Calls.{Held, Called, Calls, Begins, Follows}
-use Rattle.steps.proofs.Following.{Holds, Reached, fit, goes, Ends, follow, opening, open-reached, follows}
+use Rattle.steps.specs.Calls.{Held, Called, Calls}
+use Rattle.steps.proofs.Following.{Holds, Reached, fit, goes, follow, opening, open-reached, follows}
 use Rattle.hub.specs.Whole.{Link, byValue, news, readLeader, read, hear, Links, stop, link, PutBack, LinksSafe}
 use Rattle.hub.proofs.Putting.{put-back}
 

@@ -9,7 +9,7 @@ use lib.Dec.{T, leb, eqb}
 use borrow.Author.Tests.{eqb-true, eq-eqb}
 use Rattle.model.specs.Members.{isReplica}
 use Rattle.model.specs.State.{RowState, Outline, outline, entries, stageNumber}
-use Rattle.model.specs.Steps as T
+use Rattle.model.specs.Steps as S
 use Rattle.model.specs.Steps.{Step, nothing, writes, accepted, answerOf, step}
 use Rattle.model.specs.Ranges.{every, viewRanges, replicaRanges, leaderNamed, controllerLeaderNamed, ranges, inRange}
 use Rattle.model.proofs.Tests.{same-choice, of-true, is-true}
@@ -17,7 +17,7 @@ use Rattle.model.proofs.Range.{AllTrue, of-every, to-every, of-eight, to-eight}
 use Rattle.cluster.specs.declared.Controller.{Controller}
 use Rattle.cluster.specs.declared.Cluster.{Cluster}
 use Rattle.cluster.specs.Layout.{stageOf, at, outlineOf}
-use Rattle.refinement.specs.Memory.{Places, abs, Shape, Ready, written}
+use Rattle.refinement.specs.Refinement.{Places, abs, Shape, Ready, written}
 use Rattle.refinement.proofs.Turning.{log-len, outline-abs}
 use Rattle.steps.specs.Call.{valid}
 use Rattle.steps.proofs.Calling.{ready, valid-full, valid-range}
@@ -40,7 +40,7 @@ module _ (row : Cluster) (ok : inRange (outlineOf row) ≡ true) where
       sym (registry-fits (row .registry))
       ∙ rw (
         is-true (every (viewRanges (outlineOf row .registry .view))) (all .0),
-        is-true (leaderNamed (outlineOf row)) (all .1 .1 .0),
+        is-true (leaderNamed (outlineOf row .registry)) (all .1 .1 .0),
       )
 
   controller-fit : controllerFits (row .controller) ≡ true
@@ -48,7 +48,7 @@ module _ (row : Cluster) (ok : inRange (outlineOf row) ≡ true) where
       sym (controller-fits (row .controller))
       ∙ rw (
         is-true (every (viewRanges (outlineOf row .controller .view))) (all .1 .0),
-        is-true (controllerLeaderNamed (outlineOf row)) (all .1 .1 .1 .0),
+        is-true (controllerLeaderNamed (outlineOf row .controller)) (all .1 .1 .1 .0),
         is-true (hearings (row .controller .heard) (row .controller .joined)) heard,
       )
     where
@@ -154,10 +154,10 @@ unfolding PutBack
 put-back row p shape v =
     let ok = within row p shape v in
     record {
-      news = λ n c′ l. fitting row p shape v T.refreshController refl _ _ n c′
+      news = λ n c′ l. fitting row p shape v S.refreshController refl _ _ n c′
           (rw (registry-fit row ok, controller-fit row ok)) refl l;
-      readLeader = λ b n c′ t l. fitting row p shape v T.readLeader refl _ _ n c′
+      readLeader = λ b n c′ t l. fitting row p shape v S.readLeader refl _ _ n c′
           (leader-fit row b (report-fit row ok b (t .0)) (t .1)) (reported row p shape v b) l;
-      read = λ b n c′ l. told-whole row p shape v (T.read b) b (λ m e. (rw e, rw e)) refl n c′ l;
-      hear = λ b n c′ l. told-whole row p shape v (T.hear b) b (λ m e. (rw e, rw e)) refl n c′ l;
+      read = λ b n c′ l. told-whole row p shape v (S.read b) b (λ m e. (rw e, rw e)) refl n c′ l;
+      hear = λ b n c′ l. told-whole row p shape v (S.hear b) b (λ m e. (rw e, rw e)) refl n c′ l;
     }

@@ -197,7 +197,8 @@ module _ (G : Declared) (GL : LL.Laws G) (GP : Plains (fields G)) (GC : LL.Copya
                 (λ l₄. alloc0 ! $ params1 ! $ pass1 ! (init ! 6 refl (tt, tt)) $ pass1 !
                 (init ! 4 refl (LL.lawful G GL 𝓤 H A W .typed n _ n-is .0)) $ pass0 ! $
                 -- the borrow is opened
-                move ! (11 ∷ []) $ fsplit ! $ fsplit3 ! $ drop ! $ move ! (13 ∷ []) $ split ! $ move ! (2 ∷ 3 ∷ 0 ∷ []) $
+                move ! (11 ∷ []) $ fsplit ! $ fsplit3 ! $ drop ! $ move ! (13 ∷ []) $ split ! $ move ! (2 ∷ 3 ∷ 0 ∷ [])
+                $
                 opens ! tt Ctl.the-row {h = h} b o
                 (λ vs. spelt ! Ctl.the-row (Is Ctl.the-row) (shows 𝓤 H A Ctl.the-row)
                 (LL.vals Ctl.the-type Ctl′.the-laws) (LL.tells Ctl.the-type Ctl′.the-laws) fullShare h vs b o $
@@ -206,7 +207,8 @@ module _ (G : Declared) (GL : LL.Laws G) (GP : Plains (fields G)) (GC : LL.Copya
                 (λ g. move ! (1 ∷ 0 ∷ []) $
                 -- [the struct's cell; what it owns; the open borrow; obs; auth; true; n's; _4; …; _3; …; _2; …; _1; …;
                 -- room for _0; …]
-                assigns ! (of-opd ! (load ! (from ! (hop ! (look ! 13 refl) (stop !))) (look ! 0 refl))) (from ! (stop !))
+                assigns ! (of-opd ! (load ! (from ! (hop ! (look ! 13 refl) (stop !))) (look ! 0 refl)))
+                (from ! (stop !))
                 (init ! 7 refl (LL.lawful Ctl.the-type Ctl′.the-laws 𝓤 H A W .typed h _ g .0)) $
                 -- [true; the cell; own; the open borrow; obs; auth; n's; _4; ..]
                 move ! (5 ∷ []) $ use1 W (raw (Cited .pre passed)) (goes g) $
@@ -215,11 +217,13 @@ module _ (G : Declared) (GL : LL.Laws G) (GP : Plains (fields G)) (GC : LL.Copya
                 (and-then ! (load ! (from ! (stop !)) (look ! 11 refl)) (no-more !))) (λ w.
                 use1 W (later (some (λ (r : Told). (‵ ftrue ⊛ ‵ (Ans.the-row .own r (w ∷ []))) ⊛ raw
                 (ensured 𝓤 H A byValue value-clauses tt (h, (n, tt)) tt r)))) (id⊢ 𝓤 _) $ await ! tt $ pick ! (λ r.
-                split ! $ move ! (1 ∷ []) $ use1 W (raw (fact 𝓤 (Q h n (r .answer) (r .controller)))) (promised r) $ heard
+                split ! $ move ! (1 ∷ []) $ use1 W (raw (fact 𝓤 (Q h n (r .answer) (r .controller)))) (promised r) $
+                heard
                 ! (Q h n (r .answer) (r .controller)) (λ e. split ! $ drop ! $
                 peeks ! Ans.the-row (Is Ans.the-row) (shows 𝓤 H A Ans.the-row) r (w ∷ []) (λ is.
                 -- [own; the cell; own; the open borrow; obs; auth; n's; _4; …; _3; …; _2; …; _1; …; room for _0; …]
-                land ! (from ! (stop !)) (init ! 9 refl (LL.lawful Ans.the-type Ans′.the-laws 𝓤 H A W .typed r _ is .0)) $
+                land ! (from ! (stop !)) (init ! 9 refl (LL.lawful Ans.the-type Ans′.the-laws 𝓤 H A W .typed r _ is .0))
+                $
                 rewrite ! 9 (λ (u : Val). ‵ (fat fullShare Ans′.mir l₃ 0 u))
                 (ap only (LL.tells Ans.the-type Ans′.the-laws r (w ∷ []) is)) refl $
                 assigns ! (of-opd ! (load ! (from ! (fld ! refl (stop !))) (look-in ! 9 (sub ! 1 refl (whole !)))))
@@ -238,7 +242,8 @@ module _ (G : Declared) (GL : LL.Laws G) (GP : Plains (fields G)) (GC : LL.Copya
                 -- [obs; the borrow; the token; n's; _4; …; _3; …; _2; …; _1; …; _0; …]
                 returns ! (look ! 12 refl) $ forget ! 4 refl $ forget ! 6 refl $ forget ! 8 refl $ forget ! 10 refl $
                 forget ! 12 refl $
-                move ! (12 ∷ 13 ∷ []) $ free1 ! $ move ! (10 ∷ 11 ∷ []) $ free1 ! $ move ! (8 ∷ 9 ∷ []) $ free1 ! $ move !
+                move ! (12 ∷ 13 ∷ []) $ free1 ! $ move ! (10 ∷ 11 ∷ []) $ free1 ! $ move ! (8 ∷ 9 ∷ []) $ free1 ! $ move
+                !
                 (6 ∷ 7 ∷ []) $ free1 ! $ move ! (4 ∷ 5 ∷ []) $ free1 ! $ free0 ! $
                 keep ! (0 ∷ 1 ∷ 2 ∷ []) $ by ! (exits r e (answer-fits r w is)))))))))))))
 

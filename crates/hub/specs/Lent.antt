@@ -14,6 +14,7 @@ use Rattle.model.specs.Ranges.{every, isEpoch, inRange}
 use Rattle.cluster.specs.declared.Registry.{Registry}
 use Rattle.cluster.specs.declared.Controller.{Controller}
 use Rattle.cluster.specs.Layout.{stageOf, registryOf, controllerOf}
+use Rattle.refinement.specs.Rows.{TypedController}
 use Rattle.hub.specs.declared.Report.{Report}
 
 -- Refusal 1 of a registry, and of a controller: "a number outside the ranges above, the registry's leader 0 while
@@ -49,7 +50,7 @@ pub record Reported (x : Report) (s : RowState) : Type 0 where
 
 -- A call of the step st, lent the controller c: it answers n and leaves c′. If what it is given fits, this is so of any
 -- state in which what it was told is so; if not, of any state. There are such states, and one fixes n and c′
--- (hub/proofs/Fixed.antt, `somewhere` and `fixed`).
+-- (`LentFixed`).
 pub record Lends (fits : Bool) (Known : RowState → Type 0) (st : Step) (c : Controller) (n : ℕ) (c′ : Controller) : Type
     0 where
   -- Refusal 1 first, then the model's answer.
@@ -74,3 +75,14 @@ Reads c x = Lends (reportFits c x) (Reported x) (read (x .board)) c
 
 abbrev pub Hears : Controller → Report → ℕ → Controller → Type 0
 Hears c x = Lends (reportFits c x) (Reported x) (hear (x .board)) c
+
+-- Such a promise fixes the answer and the record that a call leaves: what it is told is so in some state.
+pub record LentFixed : Type 0 where
+  pub news : (c : Controller) (g : Registry) (n m : ℕ) (c′ d : Controller) → TypedController c′ → TypedController d
+      → TakesNews c g n c′ → TakesNews c g m d → (n ≡ m) × (c′ ≡ d)
+  pub readLeader : (c : Controller) (x : Report) (n m : ℕ) (c′ d : Controller) → TypedController c′ → TypedController d
+      → ReadsLeader c x n c′ → ReadsLeader c x m d → (n ≡ m) × (c′ ≡ d)
+  pub read : (c : Controller) (x : Report) (n m : ℕ) (c′ d : Controller) → TypedController c′ → TypedController d
+      → Reads c x n c′ → Reads c x m d → (n ≡ m) × (c′ ≡ d)
+  pub hear : (c : Controller) (x : Report) (n m : ℕ) (c′ d : Controller) → TypedController c′ → TypedController d
+      → Hears c x n c′ → Hears c x m d → (n ≡ m) × (c′ ≡ d)

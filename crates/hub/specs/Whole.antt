@@ -6,12 +6,12 @@ use mathlib.Core.Path.{_≡_}
 use Prim.Native.Nat.{ℕ}
 use Rattle.model.specs.Members.{isReplica}
 use Rattle.model.specs.State.{Opening, stageNumber}
-use Rattle.model.specs.Steps as T
+use Rattle.model.specs.Steps as S
 use Rattle.model.specs.Steps.{Step}
 use Rattle.cluster.specs.declared.Controller.{Controller}
 use Rattle.cluster.specs.declared.Cluster.{Cluster}
 use Rattle.cluster.specs.Layout.{stageOf, at, noView}
-use Rattle.refinement.specs.Memory.{Places, Shape}
+use Rattle.refinement.specs.Refinement.{Places, Shape}
 use Rattle.steps.specs.Call.{valid, Did}
 use Rattle.steps.specs.Calls.{Held, Called, Calls, Begins, Follows}
 use Rattle.hub.specs.declared.Report.{Report}
@@ -38,8 +38,9 @@ reportOf row b = record {
   len = at 0 (row .len) b;
 }
 
--- A row's controller is lent, and what is told is the row's own: its registry, or what its board b has. In step 11, b
--- is the controller's leader at stage leader, and any board at another.
+-- Below, a row's controller is lent, and what is told is the row's own: its registry, or what its board b has.
+
+-- In step 11, b is the controller's leader at stage leader, and any board at another.
 abbrev pub TellsOfLeader : Cluster → ℕ → Type 0
 TellsOfLeader row b =
     (isReplica b ≡ true) × (stageNumber (stageOf (row .controller .stage)) ≡ 1 → b ≡ row .controller .view .leader)
@@ -51,11 +52,11 @@ AsWhole st row p n c′ = Did st row p (record { answer = n; row = putBack row c
 
 pub record LentAsWhole (row : Cluster) (p : Places) : Type 0 where
   pub news : (n : ℕ) (c′ : Controller) → TakesNews (row .controller) (row .registry) n c′
-      → AsWhole T.refreshController row p n c′
+      → AsWhole S.refreshController row p n c′
   pub readLeader : (b n : ℕ) (c′ : Controller) → TellsOfLeader row b
-      → ReadsLeader (row .controller) (reportOf row b) n c′ → AsWhole T.readLeader row p n c′
-  pub read : (b n : ℕ) (c′ : Controller) → Reads (row .controller) (reportOf row b) n c′ → AsWhole (T.read b) row p n c′
-  pub hear : (b n : ℕ) (c′ : Controller) → Hears (row .controller) (reportOf row b) n c′ → AsWhole (T.hear b) row p n c′
+      → ReadsLeader (row .controller) (reportOf row b) n c′ → AsWhole S.readLeader row p n c′
+  pub read : (b n : ℕ) (c′ : Controller) → Reads (row .controller) (reportOf row b) n c′ → AsWhole (S.read b) row p n c′
+  pub hear : (b n : ℕ) (c′ : Controller) → Hears (row .controller) (reportOf row b) n c′ → AsWhole (S.hear b) row p n c′
 
 -- So it is for every row and places that refusal 1 lets through. (If it does not, the fault may be in a part of the row
 -- that a call lent the controller is not given. The row's type fixes the lengths of its arrays.)
@@ -70,13 +71,13 @@ putInto h c = record { row = putBack (h .row) c; places = h .places }
 pub data Link : Step → Held → Held → ℕ → Type 0 where
   byValue : {st : Step} {h h′ : Held} {n : ℕ} → Called st h h′ n → Link st h h′ n
   news : {h : Held} {n : ℕ} {c′ : Controller} → Shape (h .row)
-      → TakesNews (h .row .controller) (h .row .registry) n c′ → Link T.refreshController h (putInto h c′) n
+      → TakesNews (h .row .controller) (h .row .registry) n c′ → Link S.refreshController h (putInto h c′) n
   readLeader : {h : Held} {b n : ℕ} {c′ : Controller} → Shape (h .row) → TellsOfLeader (h .row) b
-      → ReadsLeader (h .row .controller) (reportOf (h .row) b) n c′ → Link T.readLeader h (putInto h c′) n
+      → ReadsLeader (h .row .controller) (reportOf (h .row) b) n c′ → Link S.readLeader h (putInto h c′) n
   read : {h : Held} {b n : ℕ} {c′ : Controller} → Shape (h .row)
-      → Reads (h .row .controller) (reportOf (h .row) b) n c′ → Link (T.read b) h (putInto h c′) n
+      → Reads (h .row .controller) (reportOf (h .row) b) n c′ → Link (S.read b) h (putInto h c′) n
   hear : {h : Held} {b n : ℕ} {c′ : Controller} → Shape (h .row)
-      → Hears (h .row .controller) (reportOf (h .row) b) n c′ → Link (T.hear b) h (putInto h c′) n
+      → Hears (h .row .controller) (reportOf (h .row) b) n c′ → Link (S.hear b) h (putInto h c′) n
 
 -- Calls of both kinds one after the other, and their answers.
 pub data Links : Held → List Step → Held → List ℕ → Type 0 where

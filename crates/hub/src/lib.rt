@@ -2,7 +2,7 @@
 // input is refused with 1. Each copies the record out, calls the function of `copied` with it and stores what that
 // leaves.
 
-ghost use Rattle.hub.specs.Lent.{TakesNews, ReadsLeader, Reads, Hears};
+ghost use Rattle.hub.specs.Lent.{TakesNews, ReadsLeader, Reads, Hears, LentFixed};
 ghost use Rattle.hub.specs.Whole.{PutBack, LinksSafe};
 use cluster::Controller;
 use cluster::Registry;
@@ -58,5 +58,5 @@ pub fn hear(c: &mut Controller, x: Report) -> u8
 // The lent controller put back into its row makes a call of the whole row; so demand 3 holds for lists that mix calls
 // by record, by name and over the lent controller. Nothing to run: the promise is the statement.
 pub fn claim()
-    ensures { λ r. ⌜ PutBack × LinksSafe ⌝ }
+    ensures { λ r. ⌜ PutBack × LinksSafe × LentFixed ⌝ }
 {}

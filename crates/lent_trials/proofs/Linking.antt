@@ -8,7 +8,7 @@ use Rattle.members.proofs.Laws.{replica}
 use Rattle.cluster.specs.declared.Cluster.{Cluster}
 use Rattle.cluster.specs.declared.Outcome.{Outcome}
 use Rattle.cluster.specs.declared.Told.{Told}
-use Rattle.refinement.specs.Memory.{Places, Shape}
+use Rattle.refinement.specs.Refinement.{Places, Shape}
 use Rattle.steps.specs.Call.{valid}
 use Rattle.steps.specs.Calls.{Held}
 use Rattle.steps.proofs.Calling.{ready, valid-range}

@@ -1,9 +1,9 @@
 -- The walk of a function that lends its own controller. The record is copied to a place in memory; the place is lent,
 -- for a lifetime made for the call, to a function that is lent a controller; the lifetime is ended, and the record is
--- taken back as the call left it and returned with the call's answer. One walk for every such function: over the type G of
--- the other argument, the relation Q that both functions promise, and the function f that is called. hub's walk takes
--- the promise of a function by value to one that is lent the record; this one takes it back, so signatures and clauses
--- are hub's. Assumes nothing.
+-- taken back as the call left it and returned with the call's answer. One walk for every such function: over the type G
+-- of the other argument, the relation Q that both functions promise, and the function f that is called. hub's walk
+-- takes the promise of a function by value to one that is lent the record; this one takes it back, so signatures and
+-- clauses are hub's. Assumes nothing.
 use mathlib.Core.Path.{_≡_, refl, ap}
 use Prim.Native.Nat.{ℕ, _<_, _^_}
 use mathlib.Core.List.{[], _∷_, List}

@@ -6,7 +6,7 @@ use Rattle.model.specs.Steps.{Step}
 use Rattle.cluster.specs.declared.Cluster.{Cluster}
 use Rattle.cluster.specs.declared.Outcome.{Outcome}
 use Rattle.cluster.specs.declared.Told.{Told}
-use Rattle.refinement.specs.Memory.{Places}
+use Rattle.refinement.specs.Refinement.{Places}
 use Rattle.steps.specs.Call.{valid}
 use Rattle.hub.specs.Whole.{putBack, Link}
 

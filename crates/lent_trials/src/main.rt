@@ -32,7 +32,8 @@ fn record(n: u32) -> Record {
     }
 }
 
-// One record: the controller's own steps over its record, all others by value.
+// One record: the controller's own steps over its record, all others by value. For well-formed records alone: no field
+// of the controller's is looked at here.
 fn turn(row: Cluster, store: &mut [u32], list: &mut [u32], r: Record) -> Outcome {
     let k = r.step;
     let b = cluster::seat(r.board);

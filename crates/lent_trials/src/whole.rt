@@ -2,8 +2,8 @@
 
 ghost use mathlib.Core.Path.{_≡_};
 ghost use Prim.Native.Nat.{_≤_};
-ghost use Rattle.model.specs.Steps as T;
-ghost use Rattle.refinement.specs.Memory.{Shape};
+ghost use Rattle.model.specs.Steps as S;
+ghost use Rattle.refinement.specs.Refinement.{Shape};
 ghost use Rattle.hub.specs.Whole.{reportOf};
 ghost use Rattle.lent_trials.specs.Put.{putTo, IsLink};
 use crate::lend;
@@ -42,7 +42,7 @@ fn put_back(row: Cluster, t: Told) -> Outcome
 
 // Step 10.
 pub fn refresh_controller(row: Cluster) -> Outcome
-    ensures { λ x. ⌜ IsLink T.refreshController row x ⌝ }
+    ensures { λ x. ⌜ IsLink S.refreshController row x ⌝ }
 {
     let c = row.controller;
     let g = row.registry;
@@ -51,7 +51,7 @@ pub fn refresh_controller(row: Cluster) -> Outcome
 
 // Step 11. If the controller has no leader, some board tells: the step is refused then.
 pub fn read_leader(row: Cluster) -> Outcome
-    ensures { λ x. ⌜ IsLink T.readLeader row x ⌝ }
+    ensures { λ x. ⌜ IsLink S.readLeader row x ⌝ }
 {
     let c = row.controller;
     let v = c.view;
@@ -62,7 +62,7 @@ pub fn read_leader(row: Cluster) -> Outcome
 // Step 12. Inner layer: callers see to b.
 pub fn read(row: Cluster, b: u8) -> Outcome
     requires { ⌜ (1 ≤ b) × (b ≤ 8) ⌝ }
-    ensures { λ x. ⌜ IsLink (T.read b) row x ⌝ }
+    ensures { λ x. ⌜ IsLink (S.read b) row x ⌝ }
 {
     let c = row.controller;
     let x = report(row, b);
@@ -72,7 +72,7 @@ pub fn read(row: Cluster, b: u8) -> Outcome
 // Step 14. Inner layer: callers see to b.
 pub fn hear(row: Cluster, b: u8) -> Outcome
     requires { ⌜ (1 ≤ b) × (b ≤ 8) ⌝ }
-    ensures { λ x. ⌜ IsLink (T.hear b) row x ⌝ }
+    ensures { λ x. ⌜ IsLink (S.hear b) row x ⌝ }
 {
     let c = row.controller;
     let x = report(row, b);

@@ -19,7 +19,7 @@ use Rattle.cluster.specs.Layout.{viewOf, at, noView}
 use Rattle.cluster.proofs.Laws.{at-index}
 use Rattle.text.specs.Text.{Text, Wrote, digits}
 use Rattle.text.proofs.Laws.{rest, digits-most-10}
-use Rattle.lines.specs.Lines.{word, space, newline, registryLine, controlLine, boardText}
+use Rattle.lines.specs.Lines.{word, space, newline, boardText}
 use Rattle.lines.proofs.Lengths.{three-digits, eight-most, registry-most, control-most, board-most}
 use Rattle.listing.specs.Listing.{boardLine, boardLines, valuesText, receiptsLine, ending}
 

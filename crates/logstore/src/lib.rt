@@ -6,7 +6,7 @@ ghost use Prim.Native.Nat.{_<_, _≤_};
 ghost use lib.Dec.{eqb};
 ghost use denote.Ref.{ptr};
 ghost use lib.ListN.{length, set, getD};
-ghost use Rattle.model.specs.Steps as T;
+ghost use Rattle.model.specs.Steps as S;
 ghost use Rattle.logstore.specs.Log.{place, logOf, visibleOf, visibleAt};
 
 // A replica's own part gets a new entry at the end of its log. Inner layer: callers see to the place.
@@ -65,7 +65,7 @@ pub fn entry(store: &[u32], b: u8, n: u16) -> u32
 // How many first entries the logs of a and b share, at the lengths m and n. Inner layer: callers see to these four.
 pub fn shared(store: &[u32], a: u8, m: u16, b: u8, n: u16) -> u16
     requires { ⌜ (length (now store) ≡ 4096) × (1 ≤ a) × (a ≤ 8) × (m ≤ 512) × (1 ≤ b) × (b ≤ 8) × (n ≤ 512) ⌝ }
-    ensures { λ r. ⌜ r ≡ length (T.shared eqb (logOf (now (store .entry)) a m) (logOf (now (store .entry)) b n)) ⌝ }
+    ensures { λ r. ⌜ r ≡ length (S.shared eqb (logOf (now (store .entry)) a m) (logOf (now (store .entry)) b n)) ⌝ }
 {
     let mut i: u16 = 0;
     while i < m {

@@ -1,10 +1,10 @@
 -- No state of a run earns refusal 1: the bounds that steps keep by their own checks, and those that follow from the
 -- invariant. Assumes nothing.
-use mathlib.Core.Bool.{Bool, true, false, not, cond, _&&_}
+use mathlib.Core.Bool.{false, not, _&&_}
 use mathlib.Core.List.{List, [], _∷_, _++_}
 use mathlib.Core.Logic.{_⊎_, inl, inr, _≢_}
-use mathlib.Core.Path.{_≡_, refl, sym, subst, ap, _∙_}
-use Prim.Native.Nat.{ℕ, zero, suc, _+_, _≤_, _<_}
+use mathlib.Core.Path.{_≡_, sym, subst, _∙_}
+use Prim.Native.Nat.{ℕ, suc, _+_, _≤_, _<_}
 use native.Mathlib.Omega.{arith}
 use lib.Dec.{T, eqb, eqb→eq, ltb→lt}
 use lib.ListN.{length}
@@ -12,12 +12,12 @@ use borrow.Author.Tests.{ne-eqb}
 use Rattle.model.specs.Prelude.{upd}
 use Rattle.model.specs.Members.{isReplica, size}
 use Rattle.model.specs.State.{outline, Entries, View, Status, normal, waiting, Stage, Registry, Controller, State, Opening, canOpen, opened, isChoosing, stageNumber, stageFor, zeros}
-use Rattle.model.specs.Steps.{Step, append, commit, add, remove, changeLeader, refresh, join, receive, acknowledge, refreshController, readLeader, read, setNormal, hear, install, malformed, checks, next, accepted, step, shared, heardOf, succeeded, vacated}
+use Rattle.model.specs.Steps.{Step, append, commit, add, remove, changeLeader, refresh, join, receive, acknowledge, refreshController, readLeader, read, setNormal, hear, install, malformed, checks, next, accepted, step, heardOf, succeeded, vacated}
 use Rattle.model.specs.Runs.{run}
 use Rattle.model.specs.Claim.{after}
 use Rattle.model.specs.Ranges.{inRange}
 use Rattle.model.proofs.Range.{IsEpoch, ViewInRange, InRange, from-ranges}
-use Rattle.model.proofs.Tests.{Holds, facts, by-test, by-cond, at-or, eqb-same, eq-or-ne, is-true}
+use Rattle.model.proofs.Tests.{Holds, facts, by-cond, at-or, eqb-same, eq-or-ne, is-true}
 use Rattle.model.proofs.Prefix.{begins-length, length-snoc, shared-length}
 use Rattle.model.proofs.Quorum.{replica-range, replica-ne}
 use Rattle.model.proofs.Invariant.{Inv}

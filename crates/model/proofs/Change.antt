@@ -1,23 +1,23 @@
 -- Change leader (5) keeps the invariant: the registry is steady, so more than half of its members hold every safe list.
 -- Assumes nothing.
-use mathlib.Core.Bool.{Bool, true, false, not, cond, _&&_, _||_}
+use mathlib.Core.Bool.{true, false, not}
 use mathlib.Core.List.{List}
-use mathlib.Core.Logic.{_⊎_, inl, inr, _≢_}
+use mathlib.Core.Logic.{inr, _≢_}
 use mathlib.Core.Path.{_≡_, refl, sym, subst, ap, _∙_}
-use Prim.Native.Nat.{ℕ, suc, _+_, _*_, _≤_, _<_}
+use Prim.Native.Nat.{ℕ, suc, _*_, _≤_, _<_}
 use native.Mathlib.Omega.{arith}
-use lib.Dec.{T, leb, ltb, eqb, eqb→eq, leb→le, nltb→le, eqb-refl, T-not}
+use lib.Dec.{T, leb, eqb, eqb→eq, leb→le, eqb-refl}
 use lib.ListN.{length}
 use Rattle.model.specs.Prelude.{upd, _⊑_}
-use Rattle.model.specs.Members.{Members, isReplica, only, _∩_, size, hasQuorum, lowest}
-use Rattle.model.specs.State.{outline, Entries, View, Status, normal, waiting, Stage, idle, leader, Registry, Controller, State, isNormal, isChoosing, stageNumber}
-use Rattle.model.specs.Steps.{changeLeader, install, checks, next, withRegistry, succeeded, vacated, above, rankedNotAbove, deaf}
-use Rattle.model.proofs.Tests.{Holds, split-and, join-and, by-test, by-cond, not-left, not-right, not-both, eqb-same, eq-test, ne-fact, le-or-lt, eq-or-ne, upd-same, upd-other, upd-twice, upd-idle, is-true, is-false}
-use Rattle.model.proofs.Prefix.{begins-refl, begins-trans, begins-length, begins-compare}
-use Rattle.model.proofs.Quorum.{overlap, meet-sub, quorum-half, replica-ne, size-with, size-without, size-some, lowest-in}
-use Rattle.model.proofs.Invariant.{RegistryOk, fits, ControllerOk, reading, Firm, vacant, steady, reads, electors, LeaderOk, HeardOk, holding, Backed, held, read, Ok, Stale, Blocked, passed, stuck, Outvoted, SafeIn, OutvotedIn, Inv}
+use Rattle.model.specs.Members.{Members, isReplica, only, _∩_, size, lowest}
+use Rattle.model.specs.State.{outline, Entries, Status, normal, waiting, Stage, idle, leader, Registry, State, isNormal, isChoosing, stageNumber}
+use Rattle.model.specs.Steps.{changeLeader, checks, next, withRegistry, succeeded, vacated}
+use Rattle.model.proofs.Tests.{Holds, split-and, join-and, by-cond, upd-same, upd-other, upd-twice, upd-idle, is-true}
+use Rattle.model.proofs.Prefix.{begins-refl, begins-compare}
+use Rattle.model.proofs.Quorum.{overlap, size-without, size-some, lowest-in}
+use Rattle.model.proofs.Invariant.{fits, reading, Firm, vacant, steady, reads, electors, holding, Backed, held, read, Ok, Blocked, stuck, Outvoted, SafeIn, Inv}
 use Rattle.model.proofs.Static as Static
-use Rattle.model.proofs.Static.{o, _⇒_, chooses, holding-of, Holder, witness, Later, later}
+use Rattle.model.proofs.Static.{o, _⇒_, holding-of, Later, later}
 use Rattle.model.proofs.Raise.{raised-views, raised-logs, raised-controller, raised-heard, not-reading, outvoted-under}
 use Rattle.model.proofs.Succession.{new-leader, renamed}
 

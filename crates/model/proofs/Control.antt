@@ -1,20 +1,19 @@
 -- The controller's own steps keep the invariant: news (10), read leader (11), read (12), hear (14). All but the
 -- controller stays. Assumes nothing.
-use mathlib.Core.Bool.{Bool, true, false, not, cond, _&&_}
+use mathlib.Core.Bool.{true, false, not}
 use mathlib.Core.List.{List}
-use mathlib.Core.Logic.{_≢_}
 use mathlib.Core.Path.{_≡_, refl, sym, subst, ap, _∙_}
-use Prim.Native.Nat.{ℕ, suc, _+_, _≤_, _<_}
+use Prim.Native.Nat.{ℕ, suc, _≤_, _<_}
 use native.Mathlib.Omega.{arith}
 use lib.Dec.{T, eqb, eqb→eq, ltb→lt, T-not}
 use lib.ListN.{length}
 use borrow.Author.Tests.{ne-eqb}
-use Rattle.model.specs.State.{outline, Entries, View, Status, normal, waiting, Stage, idle, leader, boards, Registry, Controller, State, isWaiting, isChoosing, stageNumber, stageFor}
+use Rattle.model.specs.State.{outline, Entries, View, Status, normal, waiting, Stage, idle, leader, boards, Controller, State, isChoosing, stageNumber, stageFor}
 use Rattle.model.specs.Steps.{refreshController, readLeader, read, hear, checks, next, withController, heardOf, deaf}
 use Rattle.model.proofs.Tests.{Holds, split-and, join-and, by-test, at-or, eqb-same, eq-test, upd-idle, is-true}
 use Rattle.model.proofs.Prefix.{begins-length}
 use Rattle.model.proofs.Invariant as Invariant
-use Rattle.model.proofs.Invariant.{fits, ControllerOk, reading, Firm, vacant, steady, reads, electors, LeaderOk, HeardOk, Backed, held, Ok, SafeIn, Inv}
+use Rattle.model.proofs.Invariant.{isWaiting, fits, ControllerOk, reading, Firm, vacant, steady, reads, electors, LeaderOk, HeardOk, Backed, held, Ok, SafeIn, Inv}
 use Rattle.model.proofs.Static as Static
 use Rattle.model.proofs.Static.{o, _⇒_, still-outvoted}
 

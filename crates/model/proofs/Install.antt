@@ -1,23 +1,22 @@
 -- Install (15) keeps the invariant: the highest ranked of a quorum holds every safe list. Assumes nothing.
-use mathlib.Core.Bool.{Bool, true, false, not, cond, _&&_, _||_}
+use mathlib.Core.Bool.{false, not, _&&_}
 use mathlib.Core.List.{List}
-use mathlib.Core.Logic.{_⊎_, inl, inr, _≢_}
-use mathlib.Core.Path.{_≡_, refl, sym, subst, ap, _∙_}
-use Prim.Native.Nat.{ℕ, suc, _+_, _*_, _≤_, _<_}
+use mathlib.Core.Logic.{inl}
+use mathlib.Core.Path.{_≡_, sym, subst, ap, _∙_}
+use Prim.Native.Nat.{ℕ, suc, _*_, _≤_}
 use native.Mathlib.Omega.{arith}
-use lib.Dec.{T, leb, ltb, eqb, eqb→eq, leb→le, nltb→le, eqb-refl, T-not}
+use lib.Dec.{T, leb, ltb, eqb, eqb→eq, leb→le, nltb→le}
 use lib.ListN.{length}
-use Rattle.model.specs.Prelude.{upd, _⊑_}
-use Rattle.model.specs.Members.{Members, isReplica, only, _∩_, size, hasQuorum, lowest}
-use Rattle.model.specs.State.{outline, Entries, View, Status, normal, waiting, Stage, idle, leader, Registry, Controller, State, isNormal, isChoosing, stageNumber}
-use Rattle.model.specs.Steps.{changeLeader, install, checks, next, withRegistry, succeeded, vacated, above, rankedNotAbove, deaf}
-use Rattle.model.proofs.Tests.{Holds, split-and, join-and, by-test, by-cond, not-left, not-right, not-both, eqb-same, eq-test, ne-fact, le-or-lt, eq-or-ne, upd-same, upd-other, upd-twice, upd-idle, is-true, is-false}
-use Rattle.model.proofs.Prefix.{begins-refl, begins-trans, begins-length, begins-compare}
-use Rattle.model.proofs.Quorum.{overlap, meet-sub, quorum-half, replica-ne, size-with, size-without, size-some, lowest-in}
-use Rattle.model.proofs.Invariant.{RegistryOk, fits, ControllerOk, reading, Firm, vacant, steady, reads, electors, LeaderOk, HeardOk, holding, Backed, held, read, Ok, Stale, Blocked, passed, stuck, Outvoted, SafeIn, OutvotedIn, Inv}
+use Rattle.model.specs.Prelude.{_⊑_}
+use Rattle.model.specs.Members.{Members, _∩_, size, hasQuorum}
+use Rattle.model.specs.State.{outline, Entries, View, waiting, leader, Registry, Controller, State, isChoosing, stageNumber}
+use Rattle.model.specs.Steps.{install, checks, next, above, rankedNotAbove}
+use Rattle.model.proofs.Tests.{Holds, split-and, join-and, by-test, by-cond, not-left, not-right, not-both, eq-test}
+use Rattle.model.proofs.Prefix.{begins-trans, begins-compare}
+use Rattle.model.proofs.Quorum.{meet-sub, quorum-half, size-with}
+use Rattle.model.proofs.Invariant.{reading, Firm, vacant, steady, reads, electors, read, Ok, Blocked, stuck, Outvoted, SafeIn, Inv}
 use Rattle.model.proofs.Static as Static
-use Rattle.model.proofs.Static.{o, _⇒_, chooses, holding-of, Holder, witness, Later, later}
-use Rattle.model.proofs.Raise.{raised-views, raised-logs, raised-controller, raised-heard, not-reading, outvoted-under}
+use Rattle.model.proofs.Static.{o, _⇒_, chooses, Holder, witness, Later}
 use Rattle.model.proofs.Succession.{new-leader, renamed}
 
 module _ (𝓔 : Entries) where
@@ -98,7 +97,8 @@ module _ (𝓔 : Entries) where
             arith,
             at-choosing,
             eqb→eq (stageNumber (controller .stage)) 2
-                (split-and (eqb (controller .view .epoch) (registry .view .epoch)) (eqb (stageNumber (controller .stage)) 2)
+                (split-and (eqb (controller .view .epoch) (registry .view .epoch))
+                (eqb (stageNumber (controller .stage)) 2)
                 t .1),
           )))
           (λ t. t)) k behind quorum

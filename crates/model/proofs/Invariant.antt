@@ -7,15 +7,15 @@
 -- that still acts (`Stale`) is outvoted: so many of its members are blocked that whatever majority it counts tells it
 -- of safe entries only.
 use mathlib.Core.Bool.{Bool, true, false, not, cond, _&&_}
-use mathlib.Core.List.{List, []}
+use mathlib.Core.List.{List}
 use mathlib.Core.Logic.{_⊎_, _≢_}
 use mathlib.Core.Path.{_≡_}
-use Prim.Native.Nat.{ℕ, suc, _+_, _*_, _≤_, _<_}
+use Prim.Native.Nat.{ℕ, suc, _*_, _≤_, _<_}
 use lib.Dec.{T, leb, eqb}
 use lib.ListN.{length, take}
 use Rattle.model.specs.Prelude.{upd, _⊑_}
 use Rattle.model.specs.Members.{Members, isReplica, _∩_, size}
-use Rattle.model.specs.State.{View, Status, Stage, idle, leader, boards, Registry, Controller, State, isNormal, isWaiting, isChoosing, stageNumber}
+use Rattle.model.specs.State.{View, Status, normal, waiting, Stage, idle, leader, boards, Registry, Controller, State, isNormal, isChoosing, stageNumber}
 
 -- Views: each is a copy of what the registry once held.
 
@@ -31,6 +31,11 @@ pub record ViewOk (L : ℕ → ℕ) (r v : View) (j : ℕ) : Type 0 where
   pub joined : j ≤ v .term
   pub current : v .epoch ≡ r .epoch → v ≡ r
   pub led : v .leader ≢ 0 → v .leader ≡ L (v .term)
+
+abbrev pub isWaiting : Status → Bool
+isWaiting normal = false
+isWaiting waiting = true
+isWaiting Status.choosing = false
 
 -- the stage that a status brings the controller to, or a later one
 abbrev pub fits : Status → Stage → Bool

@@ -17,3 +17,4 @@ pub mod Range
 pub mod Bounds
 pub mod Answer
 pub mod Forms
+pub mod Table

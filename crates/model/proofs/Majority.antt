@@ -10,7 +10,7 @@ use Rattle.model.specs.Prelude.{asks}
 use Rattle.model.specs.Members.{Members, isReplica, _∩_, size, quorum, hasQuorum}
 use Rattle.model.specs.State.{Controller, Outline}
 use Rattle.model.specs.Steps.{Step, commit, setNormal, install, checks, above, countedAbove, heardEnough, rankedNotAbove}
-use Rattle.model.specs.Majority.{MajorityOf, SomeMajority, Heard, RanksAbove, Question, Questions, Majorities}
+use Rattle.model.specs.Majority.{SomeMajority, Heard, RanksAbove, Question, Questions, Majorities}
 use Rattle.model.proofs.Tests.{split-and, join-and, eq-test}
 use Rattle.model.proofs.Quorum.{size-sub}
 use Rattle.model.proofs.Refusals.{once, once-fails}

@@ -2,12 +2,12 @@
 use mathlib.Core.Bool.{Bool, true, false, not, cond, _&&_}
 use mathlib.Core.Logic.{_⊎_, inl, inr, _≢_}
 use mathlib.Core.Path.{_≡_, refl, sym, subst}
-use Prim.Native.Nat.{ℕ, zero, suc, _+_, _*_, _≤_, _<_, _/_}
+use Prim.Native.Nat.{ℕ, zero, suc, _+_, _*_, _≤_, _<_}
 use native.Mathlib.Omega.{arith}
-use lib.Dec.{T, leb, eqb, eqb→eq, leb→le}
+use lib.Dec.{T, leb, leb→le}
 use Rattle.model.specs.Prelude.{upd}
 use Rattle.model.specs.Members.{Members, isReplica, _∩_, bit, size, quorum, hasQuorum, lowest}
-use Rattle.model.proofs.Tests.{split-and, join-and, by-cond, upd-same, upd-other, of-true, ne-fact, eq-or-ne}
+use Rattle.model.proofs.Tests.{split-and, join-and, by-cond, upd-other, eq-or-ne}
 
 pub replica-range : (b : ℕ) → T (isReplica b) → (1 ≤ b) × (b ≤ 8)
 replica-range b t = let h = split-and (leb 1 b) (leb b 8) t in (leb→le 1 b (h .0), leb→le b 8 (h .1))

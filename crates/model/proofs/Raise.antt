@@ -1,22 +1,22 @@
 -- A raise of the registry's epoch: every view is now an old one, and the history changes at most at the new epoch. Then
 -- the raises that keep leader and term: add (3), remove (4), set normal (13). Assumes nothing.
-use mathlib.Core.Bool.{Bool, true, false, not, cond, _&&_}
+use mathlib.Core.Bool.{true, false, not}
 use mathlib.Core.List.{List}
-use mathlib.Core.Logic.{_⊎_, inl, inr, _≢_}
+use mathlib.Core.Logic.{inl, inr, _≢_}
 use mathlib.Core.Path.{_≡_, refl, sym, subst, ap, _∙_}
-use Prim.Native.Nat.{ℕ, suc, _+_, _*_, _≤_, _<_}
+use Prim.Native.Nat.{ℕ, suc, _*_, _≤_, _<_}
 use native.Mathlib.Omega.{arith}
 use lib.Dec.{T, leb, eqb, eqb→eq, leb→le, T-not}
 use lib.ListN.{length}
 use Rattle.model.specs.Prelude.{upd, _⊑_}
 use Rattle.model.specs.Members.{Members, isReplica, _∩_, size, hasQuorum}
-use Rattle.model.specs.State.{outline, Entries, View, Status, normal, waiting, Stage, idle, Registry, Controller, State, isNormal, isChoosing, stageNumber}
+use Rattle.model.specs.State.{outline, Entries, View, Status, waiting, Registry, State, isNormal, isChoosing, stageNumber}
 use Rattle.model.specs.Steps as Steps
-use Rattle.model.specs.Steps.{add, remove, setNormal, checks, next, withRegistry, heardEnough, deaf}
-use Rattle.model.proofs.Tests.{Holds, split-and, join-and, by-test, by-cond, eq-test, ne-fact, upd-other, upd-idle, is-true}
+use Rattle.model.specs.Steps.{add, remove, setNormal, checks, next, withRegistry, heardEnough}
+use Rattle.model.proofs.Tests.{Holds, split-and, join-and, by-cond, ne-fact, upd-other, upd-idle, is-true}
 use Rattle.model.proofs.Quorum.{meet-sub, quorum-half, replica-ne}
 use Rattle.model.proofs.Invariant as Invariant
-use Rattle.model.proofs.Invariant.{RegistryOk, ViewOk, ControllerOk, reading, Firm, vacant, steady, reads, electors, LeaderOk, LogsOk, HeardOk, holding, Backed, held, Ok, Stale, Blocked, passed, stuck, Outvoted, SafeIn, OutvotedIn, Inv}
+use Rattle.model.proofs.Invariant.{ViewOk, ControllerOk, reading, Firm, vacant, steady, reads, electors, LogsOk, HeardOk, holding, Backed, held, Ok, Stale, Blocked, passed, stuck, Outvoted, SafeIn, Inv}
 use Rattle.model.proofs.Static as Static
 use Rattle.model.proofs.Static.{o, _⇒_, to-holding, still-outvoted}
 use Rattle.model.proofs.Control.{waits, waits-named}

@@ -1,5 +1,5 @@
 -- The ranges as facts, and back. Assumes nothing.
-use mathlib.Core.Bool.{Bool, true, false, not, _&&_, _||_}
+use mathlib.Core.Bool.{Bool, true, false, not, _||_}
 use mathlib.Core.List.{List, [], _∷_}
 use mathlib.Core.Logic.{_≢_}
 use mathlib.Core.Path.{_≡_, refl}
@@ -158,7 +158,10 @@ module _ (m : Outline) where
                           le→leb (controller .heard b) 513 (r .heard b k),
                           (
                             le→leb (controller .heardJoined b) 4000 (r .heardJoined b k),
-                            (to-eight (λ x. leb (acked b x) 512) (λ x j. le→leb (acked b x) 512 (r .acked b x k j)), tt),
+                            (
+                              to-eight (λ x. leb (acked b x) 512) (λ x j. le→leb (acked b x) 512 (r .acked b x k j)),
+                              tt,
+                            ),
                           ),
                         ),
                       ),

@@ -1,19 +1,19 @@
 -- What the invariant says of one state, before any step. Assumes nothing.
-use mathlib.Core.Bool.{Bool, true, false, not, cond, _&&_}
-use mathlib.Core.List.{List, []}
+use mathlib.Core.Bool.{not, cond}
+use mathlib.Core.List.{List}
 use mathlib.Core.Logic.{_⊎_, inl, inr, _≢_}
 use mathlib.Core.Path.{_≡_, refl, sym, subst, ap, _∙_}
-use Prim.Native.Nat.{ℕ, suc, _+_, _*_, _≤_, _<_}
+use Prim.Native.Nat.{ℕ, _≤_, _<_}
 use native.Mathlib.Omega.{arith}
 use lib.Dec.{T, leb, eqb, eqb→eq, leb→le, le→leb, T-not}
 use lib.ListN.{length, take}
-use Rattle.model.specs.Prelude.{upd, _⊑_}
+use Rattle.model.specs.Prelude.{_⊑_}
 use Rattle.model.specs.Members.{Members, isReplica, _∩_, size, hasQuorum}
-use Rattle.model.specs.State.{View, Status, normal, waiting, Stage, idle, leader, boards, Registry, Controller, State, isNormal, isChoosing, stageNumber}
-use Rattle.model.proofs.Tests.{split-and, join-and, by-test, by-cond, eq-test, le-or-lt, upd-same, upd-idle, is-true, is-false, of-true}
+use Rattle.model.specs.State.{View, Status, Stage, idle, leader, boards, Registry, Controller, State, isChoosing, stageNumber}
+use Rattle.model.proofs.Tests.{split-and, join-and, by-test, by-cond, eq-test, le-or-lt, is-true, is-false}
 use Rattle.model.proofs.Prefix.{begins-nil, begins-trans, begins-take, begins-length, begins-compare, take-grown}
-use Rattle.model.proofs.Quorum.{Common, overlap, meet-sub, quorum-half, size-with, size-sub, replica-ne}
-use Rattle.model.proofs.Invariant.{RegistryOk, ViewOk, fits, ControllerOk, reading, Firm, electors, LeaderOk, LogsOk, HeardOk, holding, Backed, held, read, Ok, Stale, Blocked, passed, stuck, Outvoted, SafeIn, OutvotedIn, Inv}
+use Rattle.model.proofs.Quorum.{overlap, meet-sub, quorum-half, size-with}
+use Rattle.model.proofs.Invariant.{fits, reading, Firm, electors, holding, Backed, held, read, Ok, Blocked, passed, stuck, Outvoted, SafeIn, Inv}
 
 pub chooses : (g : Status) (x : Stage) → stageNumber x ≡ 3 → T (fits g x) → T (isChoosing g)
 chooses g idle n t = absurd (omega arith)

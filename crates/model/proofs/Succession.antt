@@ -1,24 +1,20 @@
 -- A new leader: whoever is named holds every safe list, and the leader that is replaced is outvoted from then on. Used
 -- by change leader (5) and install (15). Assumes nothing.
-use mathlib.Core.Bool.{Bool, true, false, not, cond, _&&_, _||_}
+use mathlib.Core.Bool.{not}
 use mathlib.Core.List.{List}
-use mathlib.Core.Logic.{_⊎_, inl, inr, _≢_}
+use mathlib.Core.Logic.{_⊎_, inl, inr}
 use mathlib.Core.Path.{_≡_, refl, sym, subst, ap, _∙_}
-use Prim.Native.Nat.{ℕ, suc, _+_, _*_, _≤_, _<_}
+use Prim.Native.Nat.{ℕ, suc, _≤_, _<_}
 use native.Mathlib.Omega.{arith}
-use lib.Dec.{T, leb, ltb, eqb, eqb→eq, leb→le, nltb→le, eqb-refl, T-not}
-use lib.ListN.{length}
+use lib.Dec.{T, eqb}
 use Rattle.model.specs.Prelude.{upd, _⊑_}
-use Rattle.model.specs.Members.{Members, isReplica, only, _∩_, size, hasQuorum, lowest}
-use Rattle.model.specs.State.{Entries, View, Status, normal, waiting, Stage, idle, leader, Registry, Controller, State, isNormal, isChoosing, stageNumber}
-use Rattle.model.specs.Steps.{changeLeader, install, checks, next, withRegistry, succeeded, vacated, above, rankedNotAbove, deaf}
-use Rattle.model.proofs.Tests.{Holds, split-and, join-and, by-test, by-cond, not-left, not-right, not-both, eqb-same, eq-test, ne-fact, le-or-lt, eq-or-ne, upd-same, upd-other, upd-twice, upd-idle, is-true, is-false}
-use Rattle.model.proofs.Prefix.{begins-refl, begins-trans, begins-length, begins-compare}
-use Rattle.model.proofs.Quorum.{overlap, meet-sub, quorum-half, replica-ne, size-with, size-without, size-some, lowest-in}
-use Rattle.model.proofs.Invariant.{RegistryOk, fits, ControllerOk, reading, Firm, vacant, steady, reads, electors, LeaderOk, HeardOk, holding, Backed, held, read, Ok, Stale, Blocked, passed, stuck, Outvoted, SafeIn, OutvotedIn, Inv}
+use Rattle.model.specs.Members.{Members, isReplica}
+use Rattle.model.specs.State.{View, Status, leader, Registry, Controller, State, isChoosing}
+use Rattle.model.proofs.Tests.{by-cond, eqb-same, le-or-lt, upd-other, is-false}
+use Rattle.model.proofs.Invariant.{ControllerOk, Firm, HeardOk, Ok, Stale, Outvoted, SafeIn, Inv}
 use Rattle.model.proofs.Static as Static
-use Rattle.model.proofs.Static.{o, _⇒_, chooses, holding-of, Holder, witness, Later, later}
-use Rattle.model.proofs.Raise.{raised-views, raised-logs, raised-controller, raised-heard, not-reading, outvoted-under}
+use Rattle.model.proofs.Static.{o, _⇒_, Later, later}
+use Rattle.model.proofs.Raise.{raised-views, raised-logs, outvoted-under}
 
 module _ {E : Type 0} {L : ℕ → ℕ} {s : State E} (i : Inv L s) where
   open State s using (registry, controller, view, joined, acked, log, committed)

@@ -1,25 +1,22 @@
 -- Demand 3: the invariant holds after the opening and after every list of steps, and says what is claimed. Assumes
 -- nothing.
-use mathlib.Core.Bool.{Bool, true, false, not, cond, _&&_}
+use mathlib.Core.Bool.{cond}
 use mathlib.Core.List.{List, [], _∷_, _++_, append-assoc, append-nil}
-use mathlib.Core.Logic.{_≢_}
 use mathlib.Core.Path.{_≡_, refl, sym, subst, ap, _∙_}
 use Prim.Native.Nat.{ℕ, zero, suc, _+_, _≤_, _<_}
-use native.Mathlib.Nat.{zero-add}
 use native.Mathlib.Omega.{arith}
-use lib.Dec.{T, leb, eqb, eqb→eq, eqb-refl}
-use lib.ListN.{length, getD}
-use borrow.Author.Tests.{ne-eqb}
-use Rattle.model.specs.Prelude.{passes, _⊑_}
+use lib.Dec.{T, eqb-refl}
+use lib.ListN.{getD}
+use Rattle.model.specs.Prelude.{_⊑_}
 use Rattle.model.specs.Members.{isReplica, only, size}
 use Rattle.model.specs.State.{outline, Entries, State, Opening, canOpen, opened, firstView, noView}
 use Rattle.model.specs.Steps.{Step, append, commit, add, remove, changeLeader, refresh, join, receive, acknowledge, refreshController, readLeader, read, setNormal, hear, install, malformed, writes, checks, next, accepted, step}
 use Rattle.model.specs.Runs.{run, taken, gives, given}
 use Rattle.model.specs.Claim.{LeadsUnder, after, receipts, Safe, Safety}
-use Rattle.model.proofs.Tests.{Holds, facts, by-test, by-cond, is-true, is-false, upd-idle, eqb-same}
-use Rattle.model.proofs.Prefix.{begins-refl, begins-nil, begins-more}
+use Rattle.model.proofs.Tests.{Holds, facts, by-test, by-cond, is-true, is-false}
+use Rattle.model.proofs.Prefix.{begins-refl, begins-more}
 use Rattle.model.proofs.Quorum.{by-replica, replica-ne}
-use Rattle.model.proofs.Invariant.{ViewOk, Firm, vacant, steady, reads, Stale, Inv}
+use Rattle.model.proofs.Invariant.{Firm, vacant, steady, reads, Stale, Inv}
 use Rattle.model.proofs.Static.{acting, named-only, Later, later}
 use Rattle.model.proofs.Replicas.{append-keeps, refresh-keeps, join-keeps, receive-keeps, acknowledge-keeps}
 use Rattle.model.proofs.Commit.{commit-keeps}

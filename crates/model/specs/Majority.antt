@@ -9,7 +9,8 @@ use Rattle.model.specs.Members.{Members, isReplica, size, quorum, hasQuo
 use Rattle.model.specs.State.{Controller, Outline}
 use Rattle.model.specs.Steps.{Step, commit, setNormal, install, checks, answerOf}
 
--- q is a majority of m: a set of its members, at least so many as "a majority of n boards" is.
+-- q is a majority of m: a set of its members, of at least as many as "a majority of n boards" is. (That one of just as
+-- many exists is the same.)
 pub record MajorityOf (m q : Members) : Type 0 where
   pub within : (x : ℕ) → T (isReplica x) → T (q x) → T (m x)
   pub most : quorum (size m) ≤ size q

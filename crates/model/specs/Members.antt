@@ -1,5 +1,5 @@
 -- Replicas, sets of replicas, and the majority. Cited by State, Steps, Claim and most contracts. Assumes nothing.
-use mathlib.Core.Bool.{Bool, true, false, cond, _&&_}
+use mathlib.Core.Bool.{Bool, false, cond, _&&_}
 use Prim.Native.Nat.{ℕ, _+_, _/_}
 use lib.Dec.{leb, eqb}
 

@@ -1,6 +1,6 @@
 -- Point updates, checks with their refusal numbers, beginnings of lists.
 -- Cited by Steps and Claim, and by contracts of the crates over this one. Assumes nothing.
-use mathlib.Core.Bool.{Bool, true, false, cond, _&&_}
+use mathlib.Core.Bool.{Bool, true, cond, _&&_}
 use mathlib.Core.List.{List, [], _∷_, _++_}
 use mathlib.Core.Path.{_≡_}
 use Prim.Native.Nat.{ℕ}

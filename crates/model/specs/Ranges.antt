@@ -4,8 +4,8 @@ use mathlib.Core.Bool.{Bool, true, not, _&&_, _||_}
 use mathlib.Core.List.{List, [], _∷_}
 use Prim.Native.Nat.{ℕ}
 use lib.Dec.{T, leb, eqb}
-use Rattle.model.specs.Members.{Members, isReplica}
-use Rattle.model.specs.State.{entries, View, Outline, Opening, canOpen, outline, isChoosing, stageNumber}
+use Rattle.model.specs.Members.{Members}
+use Rattle.model.specs.State.{entries, View, Registry, Controller, Outline, Opening, canOpen, outline, isChoosing, stageNumber}
 use Rattle.model.specs.Steps.{Step}
 use Rattle.model.specs.Claim.{after}
 
@@ -26,6 +26,15 @@ isEpoch e = leb 1 e && leb e 4000
 abbrev pub viewRanges : View → List Bool
 viewRanges v = isEpoch (v .epoch) ∷ isEpoch (v .term) ∷ leb (v .leader) 8 ∷ []
 
+-- Not "the registry's leader 0 while status is not choosing",
+abbrev pub leaderNamed : Registry → Bool
+leaderNamed r = isChoosing (r .status) || not (eqb (r .view .leader) 0)
+
+-- nor "the controller's leader 0 at stage leader or boards".
+abbrev pub controllerLeaderNamed : Controller → Bool
+controllerLeaderNamed c =
+    let stage = stageNumber (c .stage) in eqb stage 0 || eqb stage 3 || not (eqb (c .view .leader) 0)
+
 module _ (m : Outline) where
   open Outline m using (registry, controller, view, joined, acked, len, issued)
 
@@ -35,19 +44,10 @@ module _ (m : Outline) where
       every (viewRanges (view b)) ∷ isEpoch (joined b) ∷ leb (len b) 512 ∷ leb (controller .heard b) 513
       ∷ leb (controller .heardJoined b) 4000 ∷ every (eight (λ x. leb (acked b x) 512)) ∷ []
 
-  -- Not "the registry's leader 0 while status is not choosing",
-  abbrev pub leaderNamed : Bool
-  leaderNamed = isChoosing (registry .status) || not (eqb (registry .view .leader) 0)
-
-  -- nor "the controller's leader 0 at stage leader or boards".
-  abbrev pub controllerLeaderNamed : Bool
-  controllerLeaderNamed =
-      eqb (stageNumber (controller .stage)) 0 || eqb (stageNumber (controller .stage)) 3 || not
-      (eqb (controller .view .leader) 0)
-
   abbrev pub ranges : List Bool
   ranges =
-      every (viewRanges (registry .view)) ∷ every (viewRanges (controller .view)) ∷ leaderNamed ∷ controllerLeaderNamed
+      every (viewRanges (registry .view)) ∷ every (viewRanges (controller .view))
+      ∷ leaderNamed registry ∷ controllerLeaderNamed controller
       ∷ leb issued 512
       ∷ every (eight (λ b. every (replicaRanges b))) ∷ []
 

@@ -1,6 +1,6 @@
 -- A record of a sheet as five numbers, when it is well formed, and the step that it stands for.
--- Cited by Runs, Claim, Trials, the promise of `records`, and the contracts that speak of records. Assumes nothing.
-use mathlib.Core.Bool.{Bool, true, false, cond, not, _&&_, _||_}
+-- Cited by Runs, Trials, the promise of `records`, and the contracts that speak of records. Assumes nothing.
+use mathlib.Core.Bool.{Bool, cond, not, _&&_, _||_}
 use mathlib.Core.List.{List, [], _∷_}
 use mathlib.Core.Logic.{_≢_}
 use mathlib.Core.Path.{_≡_}
@@ -98,7 +98,8 @@ rules r =
 abbrev pub stepOf : Record → Step
 stepOf r = getD (rules r) (r .step) malformed
 
--- Refusal 1 of a record's fields is just that: no other check of a step has it, on any row.
+-- Refusal 1 of a record's fields is just that: the step's checks do not answer 1, whatever they look at. (A row that
+-- refusal 1 turns away answers 1 to every record: `valid`, crate steps.)
 -- Step 0 stands for no step; it is well formed where it is a valid opening.
 pub record Forms : Type 0 where
   pub steps : (m : Outline) (r : Record) → r .step ≢ 0 → wellFormed r ≡ not (eqb (answerOf m (stepOf r)) 1)

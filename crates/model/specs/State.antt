@@ -3,7 +3,7 @@
 use mathlib.Core.Bool.{Bool, true, false, cond}
 use mathlib.Core.List.{List, []}
 use mathlib.Core.Logic.{_↔_}
-use mathlib.Core.Path.{_≡_, sym, subst}
+use mathlib.Core.Path.{_≡_, subst}
 use Prim.Native.Nat.{ℕ}
 use lib.Dec.{T, eqb, eqb→eq, eqb-refl}
 use lib.ListN.{length}
@@ -99,11 +99,6 @@ abbrev pub isNormal : Status → Bool
 isNormal normal = true
 isNormal waiting = false
 isNormal Status.choosing = false
-
-abbrev pub isWaiting : Status → Bool
-isWaiting normal = false
-isWaiting waiting = true
-isWaiting Status.choosing = false
 
 abbrev pub isChoosing : Status → Bool
 isChoosing normal = false

@@ -7,7 +7,7 @@ use Prim.Native.Nat.{ℕ, suc}
 use lib.Dec.{leb, ltb, eqb}
 use lib.ListN.{length, getD}
 use Rattle.model.specs.Prelude.{upd, Check, _else_, firstFailed, passes}
-use Rattle.model.specs.Members.{Members, isReplica, _∩_, size, hasQuorum, lowest}
+use Rattle.model.specs.Members.{Members, isReplica, size, hasQuorum, lowest}
 use Rattle.model.specs.State.{Entries, View, Status, normal, waiting, Stage, idle, boards, Registry, Controller, State, Outline, outline, isNormal, isChoosing, stageNumber, stageFor, zeros}
 
 -- The steps, each with its number and document 01's word where ours is another.

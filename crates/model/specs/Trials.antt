@@ -1,8 +1,7 @@
 -- The trials of document 01 marked P as one table, and the others. What P2 says of a sheet stands in the crate `sheet`.
 -- Cited by the promise of `trials`. Assumes nothing.
-use mathlib.Core.Bool.{Bool, true, false, cond, _&&_}
+use mathlib.Core.Bool.{Bool, true, false, _&&_}
 use mathlib.Core.List.{List, [], _∷_, _++_}
-use mathlib.Core.Path.{_≡_}
 use Prim.Native.Nat.{ℕ, zero, suc}
 use lib.Dec.{T, eqb}
 use lib.ListN.{length, replicate}

@@ -1,5 +1,5 @@
-// What is proved of the rules of document 01 alone. Nothing here is to be run: each function is the carrier of a statement, which is
-// its promise.
+// What is proved of the rules of document 01 alone. Nothing here is to be run: each function is the carrier of a
+// statement, which is its promise.
 
 ghost use Rattle.model.specs.Claim.{DemandThree};
 ghost use Rattle.model.specs.Majority.{Majorities};
@@ -22,7 +22,8 @@ pub fn ranges()
     ensures { λ r. ⌜ RunsInRange ⌝ }
 {}
 
-// A record is well formed just where no row answers 1 to it; an opening, where it is a valid one.
+// A record is well formed just where its step's checks do not answer 1, whatever they look at; an opening, where it is
+// a valid one.
 pub fn records()
     ensures { λ r. ⌜ Forms ⌝ }
 {}

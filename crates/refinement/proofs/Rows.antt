@@ -13,18 +13,9 @@ use Rattle.cluster.specs.declared.Status.{Status}
 use Rattle.cluster.specs.declared.Status.the-variants.{Normal, Waiting}
 use Rattle.cluster.specs.declared.Stage.{Stage}
 use Rattle.cluster.specs.declared.Stage.the-variants.{Idle, Leader, Boards}
-use Rattle.cluster.specs.declared.Cluster.{Cluster}
-use Rattle.cluster.specs.Layout.{statusOf, stageOf, viewOf, at, atPair, noView, outlineOf}
-use Rattle.refinement.specs.Memory.{Shape}
-
--- What a row's type fixes: the lengths of its arrays, and that its members are masks.
-pub record Typed (row : Cluster) : Type 0 where
-  pub shape : Shape row
-  pub heard : length (row .controller .heard) ≡ 8
-  pub heardJoined : length (row .controller .joined) ≡ 8
-  pub registry : row .registry .view .members < 256
-  pub controller : row .controller .view .members < 256
-  pub views : (b : ℕ) → at noView (row .views) b .members < 256
+use Rattle.cluster.specs.declared.Controller.{Controller}
+use Rattle.cluster.specs.Layout.{statusOf, stageOf, viewOf, controllerOf, at, atPair, noView}
+use Rattle.refinement.specs.Rows.{TypedController, RowsFixed}
 
 -- Lists as long as each other are equal if they are by replica.
 pub at-equal : {A : Type 0} (d : A) (xs ys : List A) → length xs ≡ length ys → ((b : ℕ) → at d xs b ≡ at d ys b) → xs
@@ -80,18 +71,23 @@ stage-from Stage.Choosing = refl
 pub stage-equal : (g h : Stage) → stageOf g ≡ stageOf h → g ≡ h
 stage-equal g h e = sym (stage-from g) ∙ ap stageFrom e ∙ stage-from h
 
-pub rows-equal : (row row′ : Cluster) → Typed row → Typed row′ → outlineOf row ≡ outlineOf row′ → row ≡ row′
+pub controllers-equal : (c d : Controller) → TypedController c → TypedController d → controllerOf c ≡ controllerOf d
+    → c ≡ d
+controllers-equal c d t u e =
+    let v = view-equal (c .view) (d .view) (t .members) (u .members) (λ i. e i .view) in
+    let s = stage-equal (c .stage) (d .stage) (λ i. e i .stage) in
+    let h = at-equal 0 (c .heard) (d .heard) (t .heard ∙ sym (u .heard)) (λ b i. e i .heard b) in
+    let j = at-equal 0 (c .joined) (d .joined) (t .joined ∙ sym (u .joined)) (λ b i. e i .heardJoined b) in
+    λ i. record { view = v i; stage = s i; heard = h i; joined = j i }
+
+pub rows-equal : RowsFixed
+unfolding RowsFixed
 rows-equal row row′ t t′ e =
     let rv = view-equal (row .registry .view) (row′ .registry .view) (t .registry) (t′ .registry)
     (λ i. e i .registry .view) in
     let rs = status-equal (row .registry .status) (row′ .registry .status) (λ i. e i .registry .status) in
-    let cv = view-equal (row .controller .view) (row′ .controller .view) (t .controller) (t′ .controller)
-    (λ i. e i .controller .view) in
-    let cs = stage-equal (row .controller .stage) (row′ .controller .stage) (λ i. e i .controller .stage) in
-    let ch = at-equal 0 (row .controller .heard) (row′ .controller .heard) (t .heard ∙ sym (t′ .heard))
-    (λ b i. e i .controller .heard b) in
-    let cj = at-equal 0 (row .controller .joined) (row′ .controller .joined) (t .heardJoined ∙ sym (t′ .heardJoined))
-    (λ b i. e i .controller .heardJoined b) in
+    let c = controllers-equal (row .controller) (row′ .controller) (t .controller) (t′ .controller)
+    (λ i. e i .controller) in
     let vs = at-equal noView (row .views) (row′ .views) (t .shape .views ∙ sym (t′ .shape .views))
     (λ b. view-equal (at noView (row .views) b) (at noView (row′ .views) b) (t .views b) (t′ .views b)
     (λ i. e i .view b)) in
@@ -101,7 +97,7 @@ rows-equal row row′ t t′ e =
     let ls = at-equal 0 (row .len) (row′ .len) (t .shape .len ∙ sym (t′ .shape .len)) (λ b i. e i .len b) in
     λ i. record {
       registry = record { view = rv i; status = rs i };
-      controller = record { view = cv i; stage = cs i; heard = ch i; joined = cj i };
+      controller = c i;
       views = vs i;
       joined = js i;
       acked = ks i;

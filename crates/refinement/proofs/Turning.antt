@@ -1,13 +1,13 @@
 -- A row in outline, and the state that it stands for with the lent places: from a refused and from an accepted step to
 -- `Turns`; what a write does to the lengths, the logs and the counts. Assumes nothing.
-use mathlib.Core.Bool.{Bool, true, false, not, cond, _&&_}
+use mathlib.Core.Bool.{true, false, cond, _&&_}
 use mathlib.Core.List.{List, [], _∷_, _++_}
 use mathlib.Core.Logic.{_⊎_, inl, inr, _≢_}
 use mathlib.Core.Path.{_≡_, refl, sym, subst, ap, _∙_, fun-ext}
 use Prim.Native.Nat.{ℕ, zero, suc, _+_, _-_, _*_, _≤_, _<_}
 use native.Mathlib.Omega.{arith}
 use lib.Dec.{T, eqb, ltb}
-use lib.ListN.{length, take, drop, getD, set, length-set, List·getD-eq-default}
+use lib.ListN.{length, take, getD, set, length-set, List·getD-eq-default}
 use lib.Seq.{length-take-le, getD-set-same, getD-set-other}
 use borrow.Author.Tests.{ne-eqb}
 use mir.Val.{Fits}
@@ -16,7 +16,7 @@ use Rattle.model.specs.Prelude.{upd}
 use Rattle.model.specs.Members.{isReplica}
 use Rattle.model.specs.State as M
 use Rattle.model.specs.State.{outline, entries}
-use Rattle.model.specs.Steps.{Step, countedAbove, accepted, answerOf, next, step}
+use Rattle.model.specs.Steps.{Step, countedAbove, accepted, answerOf, next}
 use Rattle.model.proofs.Tests.{at-or, by-test, by-cond, eqb-same, upd-same, upd-other, le-or-lt, split-and, is-true, is-false, of-true}
 use Rattle.model.proofs.Quorum.{replica-range}
 use Rattle.model.proofs.Answer.{zero-accepted, nonzero-refused}
@@ -25,10 +25,9 @@ use Rattle.members.proofs.Laws.{replica, gathered}
 use Rattle.logstore.specs.Log.{place, logOf}
 use Rattle.logstore.proofs.Laws.{log-length, log-other, log-gains}
 use Rattle.cluster.specs.declared.Cluster.{Cluster}
-use Rattle.cluster.specs.declared.Outcome.{Outcome}
 use Rattle.cluster.specs.Layout.{at, atPair, outlineOf}
 use Rattle.cluster.proofs.Laws.{at-index, at-set}
-use Rattle.refinement.specs.Memory.{Places, Full, abs, Short, placesAfter, Turns}
+use Rattle.refinement.specs.Refinement.{Places, Full, abs, Short, placesAfter, Turns}
 
 -- A list of eight by a number that is no replica.
 pub at-none : {A : Type 0} (d : A) (xs : List A) (b : ℕ) → length xs ≡ 8 → 8 < b → at d xs b ≡ d

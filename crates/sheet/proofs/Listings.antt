@@ -15,14 +15,14 @@ use Rattle.model.specs.Claim.{receipts}
 use Rattle.model.proofs.Theorem.{safe}
 use Rattle.cluster.specs.declared.Cluster.{Cluster}
 use Rattle.cluster.specs.Layout.{outlineOf}
-use Rattle.refinement.specs.Memory.{Places}
+use Rattle.refinement.specs.Refinement.{Places}
 use Rattle.text.specs.Text.{Text, over, Wrote}
 use Rattle.text.proofs.Laws.{over-holds, over-length, digits-one-length}
-use Rattle.records.specs.Bytes.{recordAt, records, isSheet}
+use Rattle.records.specs.Bytes.{recordAt, records, wholeRecords, isSheet}
 use Rattle.lines.specs.Lines.{answerLine}
 use Rattle.listing.specs.Listing.{answerLines, lines, ending, Delivered}
 use Rattle.lines.proofs.Lengths.{line-length}
-use Rattle.sheet.specs.Sheet.{listingOf, listing, result, left, LengthsTell}
+use Rattle.sheet.specs.Sheet.{listingOf, listing, result, left, openingBytes, Refused, RefusedHolds, LengthsTell}
 use Rattle.sheet.specs.Running.{following, stateAt, Ran}
 use Rattle.records.proofs.Decoding.{room}
 use Rattle.sheet.proofs.Playing.{sheet-whole, sheet-step, sheet-real}
@@ -63,6 +63,23 @@ lengths-tell s =
 pub no-sheet : (s out : Text) → isSheet s ≡ false → (2 ≡ result s out) × (out ≡ left s out)
 unfolding result left
 no-sheet s out e = (rw e, rw e)
+
+-- P2's sheets: the board of the first record is none, so it is no valid opening.
+and-false : (t : Bool) → (t && false) ≡ false
+and-false true = refl
+and-false false = refl
+
+pub refused-holds : RefusedHolds
+unfolding RefusedHolds
+refused-holds rest out = (
+  refused (openingBytes 0 ++ rest) (and-false (wholeRecords (length (openingBytes 0 ++ rest)))),
+  refused (openingBytes 9 ++ rest) (and-false (wholeRecords (length (openingBytes 9 ++ rest)))),
+  refused [] refl,
+  refused (0 ∷ 1 ∷ 0 ∷ 0 ∷ []) refl,
+)
+  where
+    refused : (s : Text) → isSheet s ≡ false → Refused s out
+    refused s e = let n = no-sheet s out e in (sym (n .0), sym (n .1))
 
 module _ (s : Text) (e : isSheet s ≡ true) (row : Cluster) (p : Places) (ns : List ℕ)
     (h : Ran s (length s / 8 - 1) row p ns) where

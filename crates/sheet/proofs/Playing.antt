@@ -23,7 +23,7 @@ use Rattle.model.proofs.Theorem.{run-append}
 use Rattle.cluster.specs.declared.Cluster.{Cluster}
 use Rattle.cluster.specs.declared.Outcome.{Outcome}
 use Rattle.cluster.specs.Layout.{outlineOf}
-use Rattle.refinement.specs.Memory.{Places, Full, abs, Shape, Ready, Turns}
+use Rattle.refinement.specs.Refinement.{Places, Full, abs, Shape, Ready, Turns}
 use Rattle.steps_central.specs.Opening.{Opens, OpenedWith}
 use Rattle.steps.specs.Call.{valid, Did}
 use Rattle.steps.proofs.Calling.{ready, all-tests, did-step, did-full}

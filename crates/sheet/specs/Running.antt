@@ -9,7 +9,7 @@ use Rattle.model.specs.Runs.{stepsOf, answers}
 use Rattle.model.specs.Claim.{after}
 use Rattle.cluster.specs.declared.Cluster.{Cluster}
 use Rattle.cluster.specs.Layout.{outlineOf}
-use Rattle.refinement.specs.Memory.{Places, Full, abs}
+use Rattle.refinement.specs.Refinement.{Places, Full, abs}
 use Rattle.text.specs.Text.{Text}
 use Rattle.records.specs.Bytes.{recordAt, records}
 

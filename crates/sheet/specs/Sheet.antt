@@ -1,11 +1,11 @@
 -- Sheets and listings of document 01, byte for byte, through the model's run; the records stand in the crate records,
 -- single lines in lines, the parts of a listing in listing. Cited by the promises of `run_sheet` and `sample`.
 -- Assumes nothing.
-use mathlib.Core.Bool.{Bool, true, cond, _&&_}
+use mathlib.Core.Bool.{true, cond, _&&_}
 use mathlib.Core.List.{List, [], _∷_, _++_}
 use mathlib.Core.Path.{_≡_}
-use Prim.Native.Nat.{ℕ, _-_, _/_, _%_, _≤_}
-use lib.Dec.{eqb, leb}
+use Prim.Native.Nat.{ℕ, _-_, _/_, _≤_}
+use lib.Dec.{leb}
 use lib.ListN.{length, drop, replicate}
 use Rattle.model.specs.State.{entries, outline, Opening, opened}
 use Rattle.model.specs.Records.{openingOf, Record}
@@ -74,17 +74,20 @@ RoomHolds =
     × (result sampleSheet (slice 285) ≡ 285) × (left sampleSheet (slice 285) ≡ sampleListing)
     × (result sampleSheet (slice 287) ≡ 285) × (left sampleSheet (slice 287) ≡ sampleListing ++ slice 2)
 
--- A sheet of an opening alone.
-abbrev pub openingSheet : ℕ → Text
-openingSheet b = 0 ∷ b ∷ 0 ∷ 0 ∷ 0 ∷ 0 ∷ 0 ∷ 0 ∷ []
+-- The record of an opening.
+abbrev pub openingBytes : ℕ → Text
+openingBytes b = 0 ∷ b ∷ 0 ∷ 0 ∷ 0 ∷ 0 ∷ 0 ∷ 0 ∷ []
 
--- P2: the opening with board 0 or 9, "a sheet that begins so: 2", whatever the slice holds. No byte at all, and half a
--- record: 2 as well.
+-- A sheet that is refused 2, and its slice left as it was.
+abbrev pub Refused : Text → Text → Type 0
+Refused s out = (result s out ≡ 2) × (left s out ≡ out)
+
+-- P2: the opening with board 0 or 9, "a sheet that begins so: 2", whatever follows and whatever the slice holds. No byte
+-- at all, and half a record: 2 as well.
 unfoldable pub RefusedHolds : Type 0
-RefusedHolds =
-    (out : Text) → (result (openingSheet 0) out ≡ 2) × (result (openingSheet 9) out ≡ 2) × (result [] out ≡ 2)
-    × (result (0 ∷ 1 ∷ 0 ∷ 0 ∷ []) out ≡ 2)
-    × (left (openingSheet 9) out ≡ out)
+RefusedHolds = (rest out : Text)
+    → Refused (openingBytes 0 ++ rest) out × Refused (openingBytes 9 ++ rest) out
+    × Refused [] out × Refused (0 ∷ 1 ∷ 0 ∷ 0 ∷ []) out
 
 -- No listing is so short that its length could be taken for a refusal.
 unfoldable pub LengthsTell : Type 0

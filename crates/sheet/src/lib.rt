@@ -1,6 +1,7 @@
 // A sheet and its listing: the call behind the entry for the hub's firmware (crate row) and the program `runsheet`.
 
 ghost use mathlib.Core.Path.{_≡_};
+ghost use Rattle.model.specs.Trials.{TrialsHold};
 ghost use Rattle.sheet.specs.Sheet.{SampleHolds, RoomHolds, RefusedHolds, LengthsTell, result, left};
 
 mod running;
@@ -8,7 +9,7 @@ mod running;
 // The paper's sample sheet has the paper's listing, byte for byte; short slices and bad openings are refused; no
 // listing is so short that its length could be a refusal. By the definitions: nothing to run.
 pub fn sample()
-    ensures { λ r. ⌜ SampleHolds × RoomHolds × RefusedHolds × LengthsTell ⌝ }
+    ensures { λ r. ⌜ SampleHolds × RoomHolds × RefusedHolds × LengthsTell × TrialsHold ⌝ }
 {}
 
 // Sheet in, listing out. It returns the listing's length, 2 for a sheet of wrong length or without

@@ -5,7 +5,7 @@ ghost use mathlib.Core.Bool.{true};
 ghost use Prim.Native.Nat.{_-_, _/_};
 ghost use lib.ListN.{length};
 ghost use Rattle.model.specs.Records.{openingOf};
-ghost use Rattle.refinement.specs.Memory.{lent, Full, rowOf, Shape};
+ghost use Rattle.refinement.specs.Refinement.{lent, Full, rowOf, Shape};
 ghost use Rattle.steps_central.specs.Opening.{OpenedWith};
 ghost use Rattle.records.specs.Bytes.{recordAt, isSheet};
 ghost use Rattle.sheet.specs.Running.{Ran};

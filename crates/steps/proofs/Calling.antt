@@ -1,10 +1,10 @@
 -- From refusal 1 and the inner step to what a call promises; a row that refusal 1 lets through is ready; the lent
 -- places keep their lengths; the shown list. Assumes nothing.
 use mathlib.Core.Bool.{Bool, true, false, not, cond, _&&_}
-use mathlib.Core.List.{List, [], _∷_}
+use mathlib.Core.List.{List, []}
 use mathlib.Core.Logic.{_⊎_, inl, inr, _≢_}
 use mathlib.Core.Path.{_≡_, refl, sym, subst, ap, _∙_}
-use Prim.Native.Nat.{ℕ, zero, suc, _+_, _-_, _≤_, _<_}
+use Prim.Native.Nat.{ℕ, zero, suc, _-_, _≤_, _<_}
 use native.Mathlib.Omega.{arith}
 use lib.Dec.{T, eqb, eqb→eq}
 use lib.ListN.{length, take, getD, length-set}
@@ -14,15 +14,14 @@ use Rattle.model.specs.State.{outline, entries}
 use Rattle.model.specs.Steps.{Step, Writes, appends, commits, receives, nothing, writes, accepted, answerOf, step}
 use Rattle.model.specs.Ranges.{inRange}
 use Rattle.model.proofs.Tests.{of-true, by-cond, split-and, le-or-lt, ne-fact}
-use Rattle.model.proofs.Quorum.{by-replica}
-use Rattle.model.proofs.Range.{InRange, to-ranges}
+use Rattle.model.proofs.Range.{to-ranges}
 use Rattle.members.proofs.Laws.{replica}
 use Rattle.cluster.specs.declared.Cluster.{Cluster}
 use Rattle.cluster.specs.declared.Outcome.{Outcome}
 use Rattle.cluster.specs.Layout.{at, noView, outlineOf}
 use Rattle.cluster.proofs.Laws.{at-index}
 use Rattle.logstore.specs.Log.{logOf, visibleOf}
-use Rattle.refinement.specs.Memory.{Places, Full, abs, Shape, Ready, written, placesAfter, Turns}
+use Rattle.refinement.specs.Refinement.{Places, Full, abs, Shape, Ready, written, placesAfter, Turns}
 use Rattle.refinement.proofs.Turning.{at-none, outline-abs}
 use Rattle.steps.specs.Call.{valid, shown, Did}
 

@@ -1,9 +1,8 @@
 -- Calls follow the model's run: by induction over the list, each call's promise is the model's step. Assumes nothing.
-use mathlib.Core.Bool.{Bool, true, cond}
-use mathlib.Core.List.{List, [], _∷_, _++_, append-assoc}
+use mathlib.Core.Bool.{true, cond}
+use mathlib.Core.List.{List, _∷_, _++_}
 use mathlib.Core.Path.{_≡_, refl, sym, subst, ap, _∙_}
 use Prim.Native.Nat.{ℕ}
-use lib.Dec.{T}
 use Rattle.model.specs.Prelude.{_⊑_}
 use Rattle.model.specs.State.{RowState, entries, Entry, outline, Opening, openingWith, canOpen, opened}
 use Rattle.model.specs.Steps.{Step, answerOf, step}
@@ -16,7 +15,7 @@ use Rattle.model.proofs.Range.{from-ranges}
 use Rattle.model.proofs.Theorem.{opened-inv, step-keeps, run-append, safe}
 use Rattle.model.proofs.Bounds.{Bounds, opened-bounds, step-bounds, all-in}
 use Rattle.cluster.specs.Layout.{outlineOf}
-use Rattle.refinement.specs.Memory.{Full}
+use Rattle.refinement.specs.Refinement.{Full}
 use Rattle.steps.specs.Call.{valid}
 use Rattle.steps.specs.Calls.{Held, stateOf, Called, Calls, stop, call, Begins, Follows, CallsSafe}
 use Rattle.steps.proofs.Calling.{all-tests, did-full}

@@ -1,6 +1,6 @@
 -- What a call promises: its answer, the row it returns and every place of what it was lent. Cited by the contracts of
 -- steps and hub's claim. Assumes nothing.
-use mathlib.Core.Bool.{Bool, true, cond, _&&_}
+use mathlib.Core.Bool.{Bool, cond, _&&_}
 use mathlib.Core.List.{List, []}
 use mathlib.Core.Logic.{_≢_}
 use mathlib.Core.Path.{_≡_}
@@ -14,7 +14,7 @@ use Rattle.logstore.specs.Log.{visibleAt}
 use Rattle.cluster.specs.declared.Cluster.{Cluster}
 use Rattle.cluster.specs.declared.Outcome.{Outcome}
 use Rattle.cluster.specs.Layout.{outlineOf}
-use Rattle.refinement.specs.Memory.{Places, abs, placesAfter}
+use Rattle.refinement.specs.Refinement.{Places, abs, placesAfter}
 
 -- Refusal 1, apart from a step's fields: "a store not 4,096 or receipts not 512 long, a row with a number outside the
 -- ranges", leaders.
@@ -27,8 +27,7 @@ pub record Did (st : Step) (row : Cluster) (p : Places) (x : Outcome) (p′ : Pl
   pub answer : x .answer ≡ cond (valid row p) (answerOf (outlineOf row) st) 1
   -- The state then is the model's step of the state before.
   pub state : abs (x .row) p′ ≡ cond (valid row p) (step entries (abs row p) st) (abs row p)
-  -- An outline fixes its row (refinement/proofs/Rows.antt, `rows-equal`; the type fixes the lengths of arrays), so this
-  -- is the whole row.
+  -- An outline fixes its row (`RowsFixed`), so this is the whole row.
   pub outlined : outlineOf (x .row) ≡ cond (valid row p) (outline (step entries (abs row p) st)) (outlineOf row)
   -- Every lent place, accepted and refused.
   pub places : p′ ≡ cond (valid row p && accepted (outlineOf row) st) (placesAfter st row p) p

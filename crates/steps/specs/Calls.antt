@@ -15,7 +15,7 @@ use Rattle.model.specs.Claim.{LeadsUnder, after, receipts}
 use Rattle.model.specs.Records.{bare, of, ofBoth, ofValue}
 use Rattle.cluster.specs.declared.Cluster.{Cluster}
 use Rattle.cluster.specs.Layout.{outlineOf}
-use Rattle.refinement.specs.Memory.{Places, Full, abs}
+use Rattle.refinement.specs.Refinement.{Places, Full, abs}
 use Rattle.steps_central.specs.Opening.{Opens}
 use Rattle.steps.specs.Call.{valid, Did}
 

@@ -4,9 +4,10 @@
 ghost use mathlib.Core.Path.{_≡_};
 ghost use denote.Ref.{ptr};
 ghost use Rattle.model.specs.State as M;
-ghost use Rattle.model.specs.Steps as T;
+ghost use Rattle.model.specs.Steps as S;
 ghost use Rattle.model.specs.Records as R;
-ghost use Rattle.refinement.specs.Memory.{lent, Full, Ready, Turns};
+ghost use Rattle.refinement.specs.Refinement.{lent, Full, Ready, Turns};
+ghost use Rattle.refinement.specs.Rows.{RowsFixed};
 ghost use Rattle.steps_central.specs.Opening.{Opens};
 ghost use Rattle.steps.specs.Calls.{CallsSafe, NamesHold};
 ghost use Rattle.records.specs.Record.{recordOf};
@@ -105,7 +106,7 @@ pub fn opening(b: u8) -> Outcome
 
 // Step 1, b appends the value.
 pub fn append(row: Cluster, store: &mut [u32], list: &mut [u32], b: u8, value: u32) -> Outcome
-    ensures { λ x. ⌜ Did (T.Step.append b value) row (lent (now (store .entry)) (now (list .entry)))
+    ensures { λ x. ⌜ Did (S.Step.append b value) row (lent (now (store .entry)) (now (list .entry)))
         x (lent (now (store .exit)) (now (list .exit))) ⌝ }
 {
     step(
@@ -124,7 +125,7 @@ pub fn append(row: Cluster, store: &mut [u32], list: &mut [u32], b: u8, value: u
 
 // Step 2, a receipt by b.
 pub fn commit(row: Cluster, store: &mut [u32], list: &mut [u32], b: u8) -> Outcome
-    ensures { λ x. ⌜ Did (T.Step.commit b) row (lent (now (store .entry)) (now (list .entry)))
+    ensures { λ x. ⌜ Did (S.Step.commit b) row (lent (now (store .entry)) (now (list .entry)))
         x (lent (now (store .exit)) (now (list .exit))) ⌝ }
 {
     step(
@@ -143,7 +144,7 @@ pub fn commit(row: Cluster, store: &mut [u32], list: &mut [u32], b: u8) -> Outco
 
 // Step 3, add b.
 pub fn add(row: Cluster, store: &mut [u32], list: &mut [u32], b: u8) -> Outcome
-    ensures { λ x. ⌜ Did (T.Step.add b) row (lent (now (store .entry)) (now (list .entry)))
+    ensures { λ x. ⌜ Did (S.Step.add b) row (lent (now (store .entry)) (now (list .entry)))
         x (lent (now (store .exit)) (now (list .exit))) ⌝ }
 {
     step(
@@ -162,7 +163,7 @@ pub fn add(row: Cluster, store: &mut [u32], list: &mut [u32], b: u8) -> Outcome
 
 // Step 4, remove b.
 pub fn remove(row: Cluster, store: &mut [u32], list: &mut [u32], b: u8) -> Outcome
-    ensures { λ x. ⌜ Did (T.Step.remove b) row (lent (now (store .entry)) (now (list .entry)))
+    ensures { λ x. ⌜ Did (S.Step.remove b) row (lent (now (store .entry)) (now (list .entry)))
         x (lent (now (store .exit)) (now (list .exit))) ⌝ }
 {
     step(
@@ -181,7 +182,7 @@ pub fn remove(row: Cluster, store: &mut [u32], list: &mut [u32], b: u8) -> Outco
 
 // Step 5, change leader.
 pub fn change(row: Cluster, store: &mut [u32], list: &mut [u32]) -> Outcome
-    ensures { λ x. ⌜ Did T.Step.changeLeader row (lent (now (store .entry)) (now (list .entry)))
+    ensures { λ x. ⌜ Did S.Step.changeLeader row (lent (now (store .entry)) (now (list .entry)))
         x (lent (now (store .exit)) (now (list .exit))) ⌝ }
 {
     step(
@@ -200,7 +201,7 @@ pub fn change(row: Cluster, store: &mut [u32], list: &mut [u32]) -> Outcome
 
 // Step 6, b takes news.
 pub fn refresh(row: Cluster, store: &mut [u32], list: &mut [u32], b: u8) -> Outcome
-    ensures { λ x. ⌜ Did (T.Step.refresh b) row (lent (now (store .entry)) (now (list .entry)))
+    ensures { λ x. ⌜ Did (S.Step.refresh b) row (lent (now (store .entry)) (now (list .entry)))
         x (lent (now (store .exit)) (now (list .exit))) ⌝ }
 {
     step(
@@ -219,7 +220,7 @@ pub fn refresh(row: Cluster, store: &mut [u32], list: &mut [u32], b: u8) -> Outc
 
 // Step 7, b joins.
 pub fn join(row: Cluster, store: &mut [u32], list: &mut [u32], b: u8) -> Outcome
-    ensures { λ x. ⌜ Did (T.Step.join b) row (lent (now (store .entry)) (now (list .entry)))
+    ensures { λ x. ⌜ Did (S.Step.join b) row (lent (now (store .entry)) (now (list .entry)))
         x (lent (now (store .exit)) (now (list .exit))) ⌝ }
 {
     step(
@@ -238,7 +239,7 @@ pub fn join(row: Cluster, store: &mut [u32], list: &mut [u32], b: u8) -> Outcome
 
 // Step 8, b receives.
 pub fn receive(row: Cluster, store: &mut [u32], list: &mut [u32], b: u8) -> Outcome
-    ensures { λ x. ⌜ Did (T.Step.receive b) row (lent (now (store .entry)) (now (list .entry)))
+    ensures { λ x. ⌜ Did (S.Step.receive b) row (lent (now (store .entry)) (now (list .entry)))
         x (lent (now (store .exit)) (now (list .exit))) ⌝ }
 {
     step(
@@ -257,7 +258,7 @@ pub fn receive(row: Cluster, store: &mut [u32], list: &mut [u32], b: u8) -> Outc
 
 // Step 9, the leader a counts b.
 pub fn acknowledge(row: Cluster, store: &mut [u32], list: &mut [u32], a: u8, b: u8) -> Outcome
-    ensures { λ x. ⌜ Did (T.Step.acknowledge a b) row (lent (now (store .entry)) (now (list .entry)))
+    ensures { λ x. ⌜ Did (S.Step.acknowledge a b) row (lent (now (store .entry)) (now (list .entry)))
         x (lent (now (store .exit)) (now (list .exit))) ⌝ }
 {
     step(
@@ -276,7 +277,7 @@ pub fn acknowledge(row: Cluster, store: &mut [u32], list: &mut [u32], a: u8, b: 
 
 // Step 10, the controller takes news.
 pub fn refresh_controller(row: Cluster, store: &mut [u32], list: &mut [u32]) -> Outcome
-    ensures { λ x. ⌜ Did T.Step.refreshController row (lent (now (store .entry)) (now (list .entry)))
+    ensures { λ x. ⌜ Did S.Step.refreshController row (lent (now (store .entry)) (now (list .entry)))
         x (lent (now (store .exit)) (now (list .exit))) ⌝ }
 {
     step(
@@ -295,7 +296,7 @@ pub fn refresh_controller(row: Cluster, store: &mut [u32], list: &mut [u32]) -> 
 
 // Step 11, the controller reads its leader.
 pub fn read_leader(row: Cluster, store: &mut [u32], list: &mut [u32]) -> Outcome
-    ensures { λ x. ⌜ Did T.Step.readLeader row (lent (now (store .entry)) (now (list .entry)))
+    ensures { λ x. ⌜ Did S.Step.readLeader row (lent (now (store .entry)) (now (list .entry)))
         x (lent (now (store .exit)) (now (list .exit))) ⌝ }
 {
     step(
@@ -314,7 +315,7 @@ pub fn read_leader(row: Cluster, store: &mut [u32], list: &mut [u32]) -> Outcome
 
 // Step 12, the controller reads b.
 pub fn read(row: Cluster, store: &mut [u32], list: &mut [u32], b: u8) -> Outcome
-    ensures { λ x. ⌜ Did (T.Step.read b) row (lent (now (store .entry)) (now (list .entry)))
+    ensures { λ x. ⌜ Did (S.Step.read b) row (lent (now (store .entry)) (now (list .entry)))
         x (lent (now (store .exit)) (now (list .exit))) ⌝ }
 {
     step(
@@ -333,7 +334,7 @@ pub fn read(row: Cluster, store: &mut [u32], list: &mut [u32], b: u8) -> Outcome
 
 // Step 13, set normal.
 pub fn set_normal(row: Cluster, store: &mut [u32], list: &mut [u32]) -> Outcome
-    ensures { λ x. ⌜ Did T.Step.setNormal row (lent (now (store .entry)) (now (list .entry)))
+    ensures { λ x. ⌜ Did S.Step.setNormal row (lent (now (store .entry)) (now (list .entry)))
         x (lent (now (store .exit)) (now (list .exit))) ⌝ }
 {
     step(
@@ -352,7 +353,7 @@ pub fn set_normal(row: Cluster, store: &mut [u32], list: &mut [u32]) -> Outcome
 
 // Step 14, the controller hears b.
 pub fn hear(row: Cluster, store: &mut [u32], list: &mut [u32], b: u8) -> Outcome
-    ensures { λ x. ⌜ Did (T.Step.hear b) row (lent (now (store .entry)) (now (list .entry)))
+    ensures { λ x. ⌜ Did (S.Step.hear b) row (lent (now (store .entry)) (now (list .entry)))
         x (lent (now (store .exit)) (now (list .exit))) ⌝ }
 {
     step(
@@ -371,7 +372,7 @@ pub fn hear(row: Cluster, store: &mut [u32], list: &mut [u32], b: u8) -> Outcome
 
 // Step 15, install b.
 pub fn install(row: Cluster, store: &mut [u32], list: &mut [u32], b: u8) -> Outcome
-    ensures { λ x. ⌜ Did (T.Step.install b) row (lent (now (store .entry)) (now (list .entry)))
+    ensures { λ x. ⌜ Did (S.Step.install b) row (lent (now (store .entry)) (now (list .entry)))
         x (lent (now (store .exit)) (now (list .exit))) ⌝ }
 {
     step(
@@ -409,5 +410,5 @@ pub fn visible<'a>(row: Cluster, store: &'a [u32], list: &'a [u32]) -> &'a [u32]
 // Demand 3 about the calls: for every opening and every list of calls, by record or by name, whatever the lent places
 // held before. Nothing to run: the promise is the statement.
 pub fn claim()
-    ensures { λ r. ⌜ CallsSafe × NamesHold ⌝ }
+    ensures { λ r. ⌜ CallsSafe × NamesHold × RowsFixed ⌝ }
 {}

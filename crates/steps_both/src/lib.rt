@@ -7,7 +7,7 @@ ghost use mathlib.Core.Bool.{not, _&&_, _||_};
 ghost use Prim.Native.Nat.{_≤_};
 ghost use lib.Dec.{leb, ltb, eqb};
 ghost use Rattle.model.specs.Prelude.{firstFailed};
-ghost use Rattle.model.specs.Steps as T;
+ghost use Rattle.model.specs.Steps as S;
 ghost use Rattle.members.specs.Mask.{bits, under};
 ghost use Rattle.cluster.specs.Layout.{at};
 ghost use Rattle.cluster.specs.Parts.{Settles};
@@ -96,7 +96,7 @@ fn may_set_normal(r: Registry, v: View, g: Stage, q: u8) -> u8
 
 // Step 13, the registry goes normal on the controller's word.
 pub fn set_normal(r: Registry, c: Controller) -> Settled
-    ensures { λ x. ⌜ Settles T.Step.setNormal r c x ⌝ }
+    ensures { λ x. ⌜ Settles S.Step.setNormal r c x ⌝ }
 {
     let w = r.view;
     let v = c.view;
@@ -157,7 +157,7 @@ fn may_install(r: Registry, v: View, g: Stage, l: u16, q: u8, k: u8, b: u8) -> u
 
 // Step 15, the controller installs b.
 pub fn install(r: Registry, c: Controller, b: u8) -> Settled
-    ensures { λ x. ⌜ Settles (T.Step.install b) r c x ⌝ }
+    ensures { λ x. ⌜ Settles (S.Step.install b) r c x ⌝ }
 {
     let w = r.view;
     let v = c.view;

@@ -20,7 +20,7 @@ use Rattle.cluster.specs.declared.Settled.{Settled}
 use Rattle.cluster.specs.Layout.{at, noView, outlineOf}
 use Rattle.cluster.specs.Parts.{Rules, Tells, Settles}
 use Rattle.cluster.proofs.Laws.{at-index}
-use Rattle.refinement.specs.Memory.{Places, Full, abs, rowOf, Short, written, Governs}
+use Rattle.refinement.specs.Refinement.{Places, Full, abs, rowOf, Short, written, Governs}
 use Rattle.refinement.proofs.Turning.{log-len, outline-abs}
 
 -- A step that writes no lent place, and changes at most what put takes over from its second state.

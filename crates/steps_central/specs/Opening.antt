@@ -1,5 +1,5 @@
--- What the opening call answers, and the row it leaves. Cited by the contracts of control, steps and sheet. Assumes
--- nothing.
+-- What the opening call answers, and the row it leaves. Cited by the contracts of steps_central, steps and sheet.
+-- Assumes nothing.
 use mathlib.Core.Bool.{cond}
 use mathlib.Core.Path.{_≡_}
 use Rattle.model.specs.State as M
@@ -7,7 +7,7 @@ use Rattle.model.specs.State.{Entry, Opening, openingWith, canOpen, opened, ope
 use Rattle.cluster.specs.declared.Cluster.{Cluster}
 use Rattle.cluster.specs.declared.Outcome.{Outcome}
 use Rattle.cluster.specs.Layout.{outlineOf}
-use Rattle.refinement.specs.Memory.{Places, abs}
+use Rattle.refinement.specs.Refinement.{Places, abs}
 
 -- A row that is the model's opened with o, whatever the lent places hold.
 pub record OpenedWith (o : Opening) (row : Cluster) : Type 0 where

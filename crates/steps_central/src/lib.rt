@@ -9,9 +9,9 @@ ghost use mathlib.Core.List.{List};
 ghost use Prim.Native.Nat.{ℕ, _≤_};
 ghost use lib.ListN.{length};
 ghost use Rattle.model.specs.State as M;
-ghost use Rattle.model.specs.Steps as T;
+ghost use Rattle.model.specs.Steps as S;
 ghost use Rattle.cluster.specs.declared.View.{View};
-ghost use Rattle.refinement.specs.Memory.{Short, HasLeader, Governs};
+ghost use Rattle.refinement.specs.Refinement.{Short, HasLeader, Governs};
 ghost use Rattle.steps_central.specs.Opening.{Opens, OpenedWith};
 use cluster::Cluster;
 use cluster::Controller;
@@ -75,7 +75,7 @@ pub fn opening(b: u8) -> Outcome
 // Step 3, the registry adds b.
 pub fn add(g: Registry, c: Controller, b: u8) -> Settled
     ensures { λ x. ⌜ ((views : List View) (joined len : List ℕ) → Short len
-        → Governs (T.Step.add b) g c views joined len x) ⌝ }
+        → Governs (S.Step.add b) g c views joined len x) ⌝ }
 {
     let a = steps_registry::add(g, b);
     let h = a.registry;
@@ -89,7 +89,7 @@ pub fn add(g: Registry, c: Controller, b: u8) -> Settled
 // Step 4, the registry removes b.
 pub fn remove(g: Registry, c: Controller, b: u8) -> Settled
     ensures { λ x. ⌜ ((views : List View) (joined len : List ℕ) → Short len
-        → Governs (T.Step.remove b) g c views joined len x) ⌝ }
+        → Governs (S.Step.remove b) g c views joined len x) ⌝ }
 {
     let a = steps_registry::remove(g, b);
     let h = a.registry;
@@ -103,7 +103,7 @@ pub fn remove(g: Registry, c: Controller, b: u8) -> Settled
 // Step 5, the registry changes the leader.
 pub fn change(g: Registry, c: Controller) -> Settled
     ensures { λ x. ⌜ ((views : List View) (joined len : List ℕ) → Short len
-        → Governs (T.Step.changeLeader) g c views joined len x) ⌝ }
+        → Governs (S.Step.changeLeader) g c views joined len x) ⌝ }
 {
     let a = steps_registry::change(g);
     let h = a.registry;
@@ -117,7 +117,7 @@ pub fn change(g: Registry, c: Controller) -> Settled
 // Step 10, the controller takes news.
 pub fn refresh_controller(g: Registry, c: Controller) -> Settled
     ensures { λ x. ⌜ ((views : List View) (joined len : List ℕ) → Short len
-        → Governs (T.Step.refreshController) g c views joined len x) ⌝ }
+        → Governs (S.Step.refreshController) g c views joined len x) ⌝ }
 {
     let a = steps_controller::refresh_controller(c, g);
     let d = a.controller;
@@ -131,7 +131,7 @@ pub fn refresh_controller(g: Registry, c: Controller) -> Settled
 // Step 11, the controller reads its leader. Inner layer: callers see to the leader and the lengths.
 pub fn read_leader(g: Registry, c: Controller, views: [View; 8], len: &[u16]) -> Settled
     requires { ⌜ HasLeader c × Short (now len) ⌝ }
-    ensures { λ x. ⌜ ((joined : List ℕ) → Governs T.Step.readLeader g c views joined (now (len .entry)) x) ⌝ }
+    ensures { λ x. ⌜ ((joined : List ℕ) → Governs S.Step.readLeader g c views joined (now (len .entry)) x) ⌝ }
 {
     let w = c.view;
     let k = seat(w.leader);
@@ -151,7 +151,7 @@ pub fn read_leader(g: Registry, c: Controller, views: [View; 8], len: &[u16]) ->
 pub fn read(g: Registry, c: Controller, joined: &[u16], len: &[u16], b: u8) -> Settled
     requires { ⌜ (length (now joined) ≡ 8) × Short (now len) ⌝ }
     ensures { λ x. ⌜ ((views : List View)
-        → Governs (T.Step.read b) g c views (now (joined .entry)) (now (len .entry)) x) ⌝ }
+        → Governs (S.Step.read b) g c views (now (joined .entry)) (now (len .entry)) x) ⌝ }
 {
     let k = seat(b);
     let i = (k - 1) as usize;
@@ -169,7 +169,7 @@ pub fn read(g: Registry, c: Controller, joined: &[u16], len: &[u16], b: u8) -> S
 // Step 13, the registry goes normal on the controller's word.
 pub fn set_normal(g: Registry, c: Controller) -> Settled
     ensures { λ x. ⌜ ((views : List View) (joined len : List ℕ) → Short len
-        → Governs (T.Step.setNormal) g c views joined len x) ⌝ }
+        → Governs (S.Step.setNormal) g c views joined len x) ⌝ }
 {
     steps_both::set_normal(g, c)
 }
@@ -184,7 +184,7 @@ pub fn hear(
     b: u8,
 ) -> Settled
     requires { ⌜ (length (now joined) ≡ 8) × Short (now len) ⌝ }
-    ensures { λ x. ⌜ Governs (T.Step.hear b) g c views (now (joined .entry)) (now (len .entry)) x ⌝ }
+    ensures { λ x. ⌜ Governs (S.Step.hear b) g c views (now (joined .entry)) (now (len .entry)) x ⌝ }
 {
     let k = seat(b);
     let i = (k - 1) as usize;
@@ -203,7 +203,7 @@ pub fn hear(
 // Step 15, the controller installs b.
 pub fn install(g: Registry, c: Controller, b: u8) -> Settled
     ensures { λ x. ⌜ ((views : List View) (joined len : List ℕ) → Short len
-        → Governs (T.Step.install b) g c views joined len x) ⌝ }
+        → Governs (S.Step.install b) g c views joined len x) ⌝ }
 {
     let a = steps_both::install(g, c, b);
     let installed = a.registry;

@@ -7,7 +7,7 @@ ghost use mathlib.Core.Path.{_≡_};
 ghost use Prim.Native.Nat.{_≤_};
 ghost use Rattle.model.specs.Prelude.{firstFailed};
 ghost use Rattle.model.specs.State as M;
-ghost use Rattle.model.specs.Steps as T;
+ghost use Rattle.model.specs.Steps as S;
 ghost use Rattle.cluster.specs.Layout.{statusOf, stageOf, controllerOf};
 ghost use Rattle.cluster.specs.Parts.{Tells};
 ghost use Rattle.cluster.specs.Stages.{HasLeader};
@@ -44,7 +44,7 @@ fn may_refresh_controller(v: View, w: View) -> u8
 
 // Step 10, the controller takes news of the registry r.
 pub fn refresh_controller(c: Controller, r: Registry) -> Told
-    ensures { λ x. ⌜ Tells (RegistryKnown r) T.Step.refreshController c x ⌝ }
+    ensures { λ x. ⌜ Tells (RegistryKnown r) S.Step.refreshController c x ⌝ }
 {
     let v = c.view;
     let w = r.view;
@@ -71,7 +71,7 @@ pub fn refresh_controller(c: Controller, r: Registry) -> Told
 // The controller c once the length n and the joined epoch j are heard of the replica k; its stage is then g.
 fn heard(c: Controller, g: Stage, k: u8, n: u16, j: u16) -> Controller
     requires { ⌜ (1 ≤ k) × (k ≤ 8) × (n ≤ 512) ⌝ }
-    ensures { λ x. ⌜ controllerOf x ≡ T.heardOf (controllerOf c) (stageOf g) k n j ⌝ }
+    ensures { λ x. ⌜ controllerOf x ≡ S.heardOf (controllerOf c) (stageOf g) k n j ⌝ }
 {
     let i = (k - 1) as usize;
     let v = c.view;
@@ -100,7 +100,7 @@ fn may_read_leader(v: View, g: Stage, e: u16) -> u8
 // the length, and to a leader at stage leader.
 pub fn read_leader(c: Controller, e: u16, n: u16) -> Told
     requires { ⌜ HasLeader c × (n ≤ 512) ⌝ }
-    ensures { λ x. ⌜ Tells (LeaderKnown c e n) T.Step.readLeader c x ⌝ }
+    ensures { λ x. ⌜ Tells (LeaderKnown c e n) S.Step.readLeader c x ⌝ }
 {
     let v = c.view;
     let g = c.stage;
@@ -137,7 +137,7 @@ fn may_read(v: View, g: Stage, h: u16, j: u16, n: u16, k: u8, b: u8) -> u8
 // length.
 pub fn read(c: Controller, b: u8, j: u16, n: u16) -> Told
     requires { ⌜ n ≤ 512 ⌝ }
-    ensures { λ x. ⌜ Tells (ReadKnown b j n) (T.Step.read b) c x ⌝ }
+    ensures { λ x. ⌜ Tells (ReadKnown b j n) (S.Step.read b) c x ⌝ }
 {
     let v = c.view;
     let g = c.stage;
@@ -171,11 +171,11 @@ fn may_hear(v: View, g: Stage, h: u16, e: u16, n: u16, k: u8, b: u8) -> u8
     check(replica(b), n15, 1)
 }
 
-// Step 14, the controller hears b, whose epoch is e, whose joined epoch is j and whose log has n entries. Inner
-// layer: callers see to the length.
+// Step 14, the controller hears b, whose epoch is e, whose joined epoch is j and whose log has n entries.
+// Inner layer: callers see to the length.
 pub fn hear(c: Controller, b: u8, e: u16, j: u16, n: u16) -> Told
     requires { ⌜ n ≤ 512 ⌝ }
-    ensures { λ x. ⌜ Tells (HearKnown b e j n) (T.Step.hear b) c x ⌝ }
+    ensures { λ x. ⌜ Tells (HearKnown b e j n) (S.Step.hear b) c x ⌝ }
 {
     let v = c.view;
     let g = c.stage;

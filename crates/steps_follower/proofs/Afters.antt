@@ -19,7 +19,7 @@ use Rattle.cluster.specs.declared.View.{View}
 use Rattle.cluster.specs.declared.Cluster.{Cluster}
 use Rattle.cluster.specs.Layout.{viewOf, at, atPair, noView, outlineOf}
 use Rattle.cluster.proofs.Laws.{at-index, at-set, at-seat}
-use Rattle.refinement.specs.Memory.{Places, lent, Full, abs, Short}
+use Rattle.refinement.specs.Refinement.{Places, lent, Full, abs, Short}
 use Rattle.refinement.proofs.Turning.{log-len, logs-set, logs-grow}
 use Rattle.steps_follower.proofs.Answers.{leader-seat}
 

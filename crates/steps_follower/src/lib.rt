@@ -11,13 +11,13 @@ ghost use lib.Dec.{eqb};
 ghost use lib.ListN.{length, set};
 ghost use Rattle.model.specs.Prelude.{upd, firstFailed};
 ghost use Rattle.model.specs.State as M;
-ghost use Rattle.model.specs.Steps as T;
+ghost use Rattle.model.specs.Steps as S;
 ghost use Rattle.members.specs.Mask.{bits};
 ghost use Rattle.cluster.specs.declared.Registry.{Registry};
 ghost use Rattle.cluster.specs.declared.Controller.{Controller};
 ghost use Rattle.cluster.specs.declared.Status.{Status};
 ghost use Rattle.cluster.specs.Layout.{atPair};
-ghost use Rattle.refinement.specs.Memory.{Places, lent, Full, rowOf, Short, Led, Leaves};
+ghost use Rattle.refinement.specs.Refinement.{Places, lent, Full, rowOf, Short, Led, Leaves};
 ghost use Rattle.steps_follower.specs.Checks.{refreshChecks, joinChecks, receiveChecks};
 use cluster::View;
 use cluster::check;
@@ -67,7 +67,8 @@ fn joins(t: u16, w: View, b: u8, j: u16) -> u16
 fn counts(t: u16, w: View, b: u8, acked: &mut [u16], n: u16)
     requires { ⌜ (1 ≤ b) × (b ≤ 8) × (length (now acked) ≡ 64) ⌝ }
     ensures { λ x. ⌜ atPair (now (acked .exit))
-        ≡ cond (not (eqb t (w .term))) (upd (atPair (now (acked .entry))) b (upd M.zeros b n)) (atPair (now (acked .entry)))
+        ≡ cond (not (eqb t (w .term))) (upd (atPair (now (acked .entry))) b (upd M.zeros b n))
+        (atPair (now (acked .entry)))
         ⌝ }
 {
     if t == w.term {
@@ -96,7 +97,7 @@ pub fn refresh(
     requires { ⌜ (length (now joined) ≡ 8) × (length (now acked) ≡ 64) × Short (now len) ⌝ }
     ensures { λ x. ⌜ (x .place < 8) × (
         (s : Status) (c : Controller) (issued : ℕ) (p : Places) → issued ≤ 512 → Full p
-        → Leaves (T.Step.refresh b)
+        → Leaves (S.Step.refresh b)
         (rowOf (record { view = w; status = s }) c views (now (joined .entry)) (now (acked .entry)) (now (len .entry))
         issued) p
         (x .answer) (rowOf (record { view = w; status = s }) c (set views (x .place) (x .view)) (now (joined .exit))
@@ -150,7 +151,7 @@ pub fn join(views: [View; 8], joined: &mut [u16], len: &mut [u16], store: &[u32]
     ensures { λ x. ⌜ (
         (g : Registry) (c : Controller) (acked : List ℕ) (issued : ℕ) (list : List ℕ) → issued ≤ 512
         → Full (lent (now (store .entry)) list)
-        → Leaves (T.Step.join b)
+        → Leaves (S.Step.join b)
         (rowOf g c views (now (joined .entry)) acked (now (len .entry)) issued) (lent (now (store .entry)) list)
         x (rowOf g c views (now (joined .exit)) acked (now (len .exit)) issued) (lent (now (store .entry)) list)
         ) ⌝ }
@@ -202,7 +203,7 @@ pub fn receive(views: [View; 8], joined: &[u16], len: &mut [u16], store: &mut [u
     ensures { λ x. ⌜ (
         (g : Registry) (c : Controller) (acked : List ℕ) (issued : ℕ) (list : List ℕ) → issued ≤ 512
         → Full (lent (now (store .entry)) list)
-        → Leaves (T.Step.receive b)
+        → Leaves (S.Step.receive b)
         (rowOf g c views (now (joined .entry)) acked (now (len .entry)) issued) (lent (now (store .entry)) list)
         x (rowOf g c views (now (joined .entry)) acked (now (len .exit)) issued) (lent (now (store .exit)) list)
         ) ⌝ }

@@ -2,7 +2,7 @@
 use mathlib.Core.Bool.{true, not, _&&_}
 use mathlib.Core.List.{List, [], _∷_, _++_}
 use mathlib.Core.Path.{_≡_, sym, ap, _∙_}
-use Prim.Native.Nat.{ℕ, suc, _+_, _-_, _*_, _≤_, _<_}
+use Prim.Native.Nat.{ℕ, suc, _+_, _-_, _*_, _<_}
 use native.Mathlib.Omega.{arith}
 use lib.Dec.{eqb, ltb→lt}
 use lib.ListN.{length, take, getD, set}
@@ -18,7 +18,7 @@ use Rattle.logstore.proofs.Laws.{list-gains, log-entry}
 use Rattle.cluster.specs.declared.Cluster.{Cluster}
 use Rattle.cluster.specs.Layout.{at, atPair, outlineOf}
 use Rattle.cluster.proofs.Laws.{at-index, at-seat}
-use Rattle.refinement.specs.Memory.{Places, lent, Full, abs, Short}
+use Rattle.refinement.specs.Refinement.{Places, lent, Full, abs, Short}
 use Rattle.refinement.proofs.Turning.{log-len, logs-grow, pair-set}
 
 -- The place that step 1 writes.

@@ -1,5 +1,6 @@
 -- The checks of a leader's steps, in the order of document 01, over the few values that they look at. Cited by the
--- contracts of the functions that answer; `Answers` has that these are the model's checks. Assumes nothing.
+-- contracts of the functions that answer; `Answers` has that these are the model's checks. Who reads the public
+-- promises need not read this: they cite the model. Assumes nothing.
 use mathlib.Core.Bool.{not, _&&_}
 use mathlib.Core.List.{List, [], _∷_}
 use Prim.Native.Nat.{ℕ}
@@ -9,14 +10,15 @@ use Rattle.model.specs.Members.{isReplica, hasQuorum}
 use Rattle.members.specs.Mask.{bits}
 use Rattle.cluster.specs.declared.View.{View}
 
--- Step 1, by b: its view v, the length n of its log.
+-- Step 1, by b: its view v, the length n of its log. "b's leader is b [8]; log under 512 [13]".
 abbrev pub appendChecks : View → ℕ → ℕ → List Check
 appendChecks v n b = (isReplica b else 1)
     ∷ (eqb (v .leader) b else 8)
     ∷ (ltb n 512 else 13) ∷ []
 
 -- Step 2, by b: its view v, the length n of its log, the number of receipts issued, the replicas q that it has counted
--- above that.
+-- above that. "b's leader is b [8]; b's log is longer than the receipts [12]; a majority of b's members have counts in
+-- b above the receipts' length [14]".
 abbrev pub commitChecks : View → ℕ → ℕ → ℕ → ℕ → List Check
 commitChecks v n issued q b = (isReplica b else 1)
     ∷ (eqb (v .leader) b else 8)
@@ -24,7 +26,8 @@ commitChecks v n issued q b = (isReplica b else 1)
     ∷ (hasQuorum (bits (v .members)) (bits q) else 14) ∷ []
 
 -- Step 9, by a about b, whose seat is k: their views v and w, b's joined epoch t, the count c that a has of b, the
--- length n of b's log.
+-- length n of b's log. "a's leader is a [8]; b is in its own members [5]; equal leader epochs [10]; b's joined equals
+-- its leader epoch [11]; a's count for b is below b's length [12]".
 abbrev pub acknowledgeChecks : View → View → ℕ → ℕ → ℕ → ℕ → ℕ → ℕ → List Check
 acknowledgeChecks v w t c n k a b = (isReplica a && isReplica b && not (eqb a b) else 1)
     ∷ (eqb (v .leader) a else 8)

@@ -11,12 +11,12 @@ ghost use lib.Dec.{eqb};
 ghost use lib.ListN.{length};
 ghost use Rattle.model.specs.Prelude.{firstFailed};
 ghost use Rattle.model.specs.Members as Q;
-ghost use Rattle.model.specs.Steps as T;
+ghost use Rattle.model.specs.Steps as S;
 ghost use Rattle.members.specs.Mask.{bits, under};
 ghost use Rattle.cluster.specs.declared.Registry.{Registry};
 ghost use Rattle.cluster.specs.declared.Controller.{Controller};
 ghost use Rattle.cluster.specs.Layout.{atPair};
-ghost use Rattle.refinement.specs.Memory.{Places, lent, Full, rowOf, Short, Leaves};
+ghost use Rattle.refinement.specs.Refinement.{Places, lent, Full, rowOf, Short, Leaves};
 ghost use Rattle.steps_leader.specs.Checks.{appendChecks, commitChecks, acknowledgeChecks};
 use cluster::View;
 use cluster::check;
@@ -53,7 +53,7 @@ pub fn append(
     ensures { λ x. ⌜ (
         (g : Registry) (c : Controller) (joined : List ℕ) (issued : ℕ) (list : List ℕ) → issued ≤ 512
         → Full (lent (now (store .entry)) list)
-        → Leaves (T.Step.append b value)
+        → Leaves (S.Step.append b value)
         (rowOf g c views joined (now (acked .entry)) (now (len .entry)) issued) (lent (now (store .entry)) list)
         x (rowOf g c views joined (now (acked .exit)) (now (len .exit)) issued) (lent (now (store .exit)) list)
         ) ⌝ }
@@ -84,7 +84,7 @@ fn pair(h: u8, k: u8) -> usize
 // The replicas that b has counted above n, members or not, among the counts acked.
 fn counted(acked: &[u16], b: u8, n: u16) -> u8
     requires { ⌜ (1 ≤ b) × (b ≤ 8) × (length (now acked) ≡ 64) ⌝ }
-    ensures { λ x. ⌜ bits x ≡ under 9 (T.countedAbove (atPair (now (acked .entry)) b) n) ⌝ }
+    ensures { λ x. ⌜ bits x ≡ under 9 (S.countedAbove (atPair (now (acked .entry)) b) n) ⌝ }
 {
     let mut q: u8 = 0;
     let mut x: u8 = 1;
@@ -119,7 +119,7 @@ pub fn commit(
     requires { ⌜ (issued ≤ 512) × (length (now acked) ≡ 64) × Short (now len) × Full (lent (now store) (now list)) ⌝ }
     ensures { λ x. ⌜ (
         (g : Registry) (c : Controller) (joined : List ℕ)
-        → Leaves (T.Step.commit b)
+        → Leaves (S.Step.commit b)
         (rowOf g c views joined (now (acked .entry)) (now (len .entry)) issued)
         (lent (now (store .entry)) (now (list .entry)))
         (x .answer) (rowOf g c views joined (now (acked .entry)) (now (len .entry)) (x .issued))
@@ -178,7 +178,7 @@ pub fn acknowledge(
     requires { ⌜ (length (now joined) ≡ 8) × (length (now acked) ≡ 64) × Short (now len) ⌝ }
     ensures { λ x. ⌜ (
         (g : Registry) (c : Controller) (issued : ℕ) (p : Places) → issued ≤ 512 → Full p
-        → Leaves (T.Step.acknowledge a b)
+        → Leaves (S.Step.acknowledge a b)
         (rowOf g c views (now (joined .entry)) (now (acked .entry)) (now (len .entry)) issued) p
         x (rowOf g c views (now (joined .entry)) (now (acked .exit)) (now (len .entry)) issued) p
         ) ⌝ }

@@ -1,5 +1,6 @@
 -- The checks of steps 3, 4 and 5, in the order of document 01, over the registry. Cited by the contracts of the
--- functions that answer; `Answers` has that these are the model's checks. Assumes nothing.
+-- functions that answer; `Answers` has that these are the model's checks. Who reads the public promises need not read
+-- this: they cite the model. Assumes nothing.
 use mathlib.Core.Bool.{not}
 use mathlib.Core.List.{List, [], _∷_}
 use Prim.Native.Nat.{ℕ}

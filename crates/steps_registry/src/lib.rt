@@ -7,7 +7,7 @@ ghost use Prim.Native.Nat.{_≤_};
 ghost use lib.Dec.{eqb};
 ghost use Rattle.model.specs.Prelude.{upd, firstFailed};
 ghost use Rattle.model.specs.State as M;
-ghost use Rattle.model.specs.Steps as T;
+ghost use Rattle.model.specs.Steps as S;
 ghost use Rattle.members.specs.Mask.{bits};
 ghost use Rattle.cluster.specs.Layout.{statusOf, registryOf};
 ghost use Rattle.cluster.specs.Parts.{Rules};
@@ -39,7 +39,7 @@ fn may_add(r: Registry, k: u8, b: u8) -> u8
 
 // Step 3, add b.
 pub fn add(r: Registry, b: u8) -> Ruled
-    ensures { λ x. ⌜ Rules (T.Step.add b) r x ⌝ }
+    ensures { λ x. ⌜ Rules (S.Step.add b) r x ⌝ }
 {
     let v = r.view;
     let k = seat(b);
@@ -83,7 +83,7 @@ fn may_remove(r: Registry, k: u8, b: u8) -> u8
 
 // Step 4, remove b.
 pub fn remove(r: Registry, b: u8) -> Ruled
-    ensures { λ x. ⌜ Rules (T.Step.remove b) r x ⌝ }
+    ensures { λ x. ⌜ Rules (S.Step.remove b) r x ⌝ }
 {
     let v = r.view;
     let k = seat(b);
@@ -132,7 +132,7 @@ fn may_change(r: Registry) -> u8
 
 // Step 5, change leader.
 pub fn change(r: Registry) -> Ruled
-    ensures { λ x. ⌜ Rules T.Step.changeLeader r x ⌝ }
+    ensures { λ x. ⌜ Rules S.Step.changeLeader r x ⌝ }
 {
     let v = r.view;
     let n = may_change(r);

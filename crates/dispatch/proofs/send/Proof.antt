@@ -1,7 +1,7 @@
 -- `dispatch::send` meets its contract: in each arm of the match the step's number is known, and its step does what its
 -- record says. Assumes nothing.
 use mathlib.Core.Path.{_≡_, refl}
-use Prim.Native.Nat.{ℕ, _≤_}
+use Prim.Native.Nat.{ℕ}
 use native.Mathlib.Omega.{arith}
 use lib.Dec.{eqb, eqb→eq}
 use denote.Ref.{now}
@@ -9,7 +9,7 @@ use borrow.Author.Needs.{needs}
 use Rattle.model.specs.Steps.{append, commit, add, remove, changeLeader, refresh, join, receive, acknowledge, refreshController, readLeader, read, setNormal, hear, install}
 use Rattle.model.proofs.Tests.{by-test, ne-fact}
 use Rattle.records.specs.Record.{recordOf}
-use Rattle.refinement.specs.Memory.{Places, lent}
+use Rattle.refinement.specs.Refinement.{Places, lent}
 use Rattle.dispatch.proofs.Sending.{malformed-leaves, sends-kept, by-board, alone-taken, alone-refused, no-step}
 use Rattle.dispatch.proofs.send.Statement.{statement}
 use Rattle.dispatch.proofs.send.Tie as tie

@@ -1,6 +1,5 @@
 -- `records::whole` meets its contract. Assumes nothing.
 use mathlib.Core.Path.{refl}
-use borrow.Author.Needs.{needs}
 use Rattle.records.proofs.whole.Statement.{statement}
 use Rattle.records.proofs.whole.Tie as tie
 

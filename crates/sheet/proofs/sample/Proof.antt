@@ -2,20 +2,21 @@
 use mathlib.Core.Path.{refl}
 use Rattle.sheet.proofs.sample.Statement.{statement}
 use Rattle.sheet.proofs.sample.Tie as tie
+use Rattle.model.proofs.Table.{trials-hold}
 use Rattle.model.specs.Runs.{run, answers, given}
 use Rattle.text.specs.Text.{digits, digitsWithin, over}
-use Rattle.sheet.proofs.Listings.{lengths-tell}
+use Rattle.sheet.proofs.Listings.{refused-holds, lengths-tell}
 use Rattle.records.specs.Bytes.{records}
 use Rattle.lines.specs.Lines.{answerLine, registryLine, controlLine, viewText, membersText}
 use Rattle.listing.specs.Listing.{answerLines, boardLine, boardLines, receiptsLine, valuesText, ending}
-use Rattle.sheet.specs.Sheet.{SampleHolds, RoomHolds, RefusedHolds, result, left, listing, listingOf}
+use Rattle.sheet.specs.Sheet.{SampleHolds, RoomHolds, result, left, listing, listingOf}
 
 returns : tie.Need-returns
-unfolding SampleHolds RoomHolds RefusedHolds result left over listing listingOf records answerLine answerLines
+unfolding SampleHolds RoomHolds result left over listing listingOf records answerLine answerLines
     registryLine controlLine boardLine boardLines receiptsLine valuesText ending viewText membersText digits
     digitsWithin run answers given
 returns c =
-    ((refl, refl, refl), (refl, refl, refl, refl, refl, refl), (λ out. (refl, refl, refl, refl, refl)), lengths-tell)
+    ((refl, refl, refl), (refl, refl, refl, refl, refl, refl), refused-holds, lengths-tell, trials-hold)
 
 pub sample-spec : {M : Type 1} → statement M
 sample-spec = tie.close (tie.spec returns)

@@ -2,7 +2,7 @@
 use mathlib.Core.Path.{sym, _∙_}
 use denote.Ref.{now}
 use borrow.Author.Needs.{needs}
-use Rattle.refinement.specs.Memory.{Places, lent}
+use Rattle.refinement.specs.Refinement.{Places, lent}
 use Rattle.steps.proofs.Calling.{short-store, short-list, all-tests}
 use Rattle.steps.proofs.fits.Statement.{statement}
 use Rattle.steps.proofs.fits.Tie as tie

@@ -5,7 +5,7 @@ use lib.ListN.{length-map}
 use denote.Ref.{now}
 use borrow.Author.Tests.{not-true, not-false}
 use borrow.Author.Needs.{needs}
-use Rattle.refinement.specs.Memory.{Places, lent, Shape}
+use Rattle.refinement.specs.Refinement.{Places, lent, Shape}
 use Rattle.steps.specs.Call.{valid}
 use Rattle.steps.proofs.Calling.{ready, valid-full, valid-range, did-refused, did-step}
 use Rattle.steps.proofs.step.Statement.{statement}

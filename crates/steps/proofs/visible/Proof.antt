@@ -7,7 +7,7 @@ use denote.Ref.{now}
 use borrow.Author.Tests.{not-true, not-false}
 use borrow.Author.Needs.{needs}
 use Rattle.logstore.proofs.Laws.{from-start}
-use Rattle.refinement.specs.Memory.{Places, lent, Shape}
+use Rattle.refinement.specs.Refinement.{Places, lent, Shape}
 use Rattle.refinement.proofs.Turning.{short-at}
 use Rattle.steps.specs.Call.{valid}
 use Rattle.steps.proofs.Calling.{ready, valid-full, valid-range, shown-is, leader-small}

@@ -3,7 +3,6 @@ use mathlib.Core.List.{List}
 use mathlib.Core.Path.{_≡_, refl, _∙_}
 use Prim.Native.Nat.{ℕ}
 use native.Mathlib.Omega.{arith}
-use lib.ListN.{length-set}
 use denote.Ref.{now}
 use borrow.Author.Needs.{needs}
 use Rattle.model.specs.Steps.{join, answerOf}
@@ -11,7 +10,7 @@ use Rattle.cluster.specs.declared.Registry.{Registry}
 use Rattle.cluster.specs.declared.Controller.{Controller}
 use Rattle.cluster.specs.declared.Cluster.{Cluster}
 use Rattle.cluster.specs.Layout.{outlineOf}
-use Rattle.refinement.specs.Memory.{rowOf}
+use Rattle.refinement.specs.Refinement.{rowOf}
 use Rattle.refinement.proofs.Turning.{turns-refused, turns-accepted, short-at, len-short}
 use Rattle.steps_follower.proofs.Answers.{join-answer}
 use Rattle.steps_follower.proofs.Afters.{join-after, join-short}

@@ -3,7 +3,7 @@ use mathlib.Core.List.{List}
 use mathlib.Core.Path.{_≡_, sym, ap, _∙_}
 use Prim.Native.Nat.{ℕ, _-_, _<_}
 use native.Mathlib.Omega.{arith}
-use lib.ListN.{getD, length-set}
+use lib.ListN.{getD}
 use denote.Ref.{now}
 use borrow.Author.Needs.{needs}
 use Rattle.model.specs.Steps.{receive, answerOf}
@@ -12,7 +12,7 @@ use Rattle.cluster.specs.declared.Registry.{Registry}
 use Rattle.cluster.specs.declared.Controller.{Controller}
 use Rattle.cluster.specs.declared.Cluster.{Cluster}
 use Rattle.cluster.specs.Layout.{outlineOf}
-use Rattle.refinement.specs.Memory.{lent, rowOf}
+use Rattle.refinement.specs.Refinement.{lent, rowOf}
 use Rattle.refinement.proofs.Turning.{turns-refused, turns-accepted, short-at, fits-next, len-short}
 use Rattle.steps_follower.proofs.Answers.{receive-room, receive-answer}
 use Rattle.steps_follower.proofs.Afters.{receive-after, receive-place}

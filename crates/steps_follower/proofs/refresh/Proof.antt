@@ -11,7 +11,7 @@ use Rattle.cluster.specs.declared.Controller.{Controller}
 use Rattle.cluster.specs.declared.View.{View}
 use Rattle.cluster.specs.declared.Cluster.{Cluster}
 use Rattle.cluster.specs.Layout.{noView, outlineOf}
-use Rattle.refinement.specs.Memory.{rowOf, Leaves}
+use Rattle.refinement.specs.Refinement.{rowOf, Leaves}
 use Rattle.refinement.proofs.Turning.{turns-refused, turns-accepted, set-idle}
 use Rattle.steps_follower.proofs.Answers.{refresh-answer}
 use Rattle.steps_follower.proofs.Afters.{refresh-after}

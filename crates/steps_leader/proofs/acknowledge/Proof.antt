@@ -9,7 +9,7 @@ use Rattle.cluster.specs.declared.Registry.{Registry}
 use Rattle.cluster.specs.declared.Controller.{Controller}
 use Rattle.cluster.specs.declared.Cluster.{Cluster}
 use Rattle.cluster.specs.Layout.{outlineOf}
-use Rattle.refinement.specs.Memory.{rowOf}
+use Rattle.refinement.specs.Refinement.{rowOf}
 use Rattle.refinement.proofs.Turning.{turns-refused, turns-accepted}
 use Rattle.steps_leader.proofs.Answers.{acknowledge-answer}
 use Rattle.steps_leader.proofs.Afters.{acknowledge-after}

@@ -12,7 +12,7 @@ use Rattle.cluster.specs.declared.Registry.{Registry}
 use Rattle.cluster.specs.declared.Controller.{Controller}
 use Rattle.cluster.specs.declared.Cluster.{Cluster}
 use Rattle.cluster.specs.Layout.{outlineOf}
-use Rattle.refinement.specs.Memory.{lent, rowOf}
+use Rattle.refinement.specs.Refinement.{lent, rowOf}
 use Rattle.refinement.proofs.Turning.{turns-refused, turns-accepted, fits-next, len-short}
 use Rattle.steps_leader.proofs.Answers.{append-room, append-answer}
 use Rattle.steps_leader.proofs.Afters.{append-after, append-place}

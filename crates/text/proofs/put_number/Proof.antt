@@ -4,7 +4,6 @@ use mathlib.Core.List.{[], _∷_}
 use mathlib.Core.Path.{_≡_, refl, sym, ap, _∙_}
 use Prim.Native.Nat.{ℕ, _+_, _-_, _/_, _%_, _<_, _≤_}
 use native.Mathlib.Omega.{arith}
-use denote.Ref.{now}
 use lib.ListN.{length, set, length-set}
 use Rattle.text.specs.Text.{Text, over, digits}
 use Rattle.text.proofs.Laws.{over-one, over-append, over-set, digits-one, digits-more, digits-one-length, digits-more-length}

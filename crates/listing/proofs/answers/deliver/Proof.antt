@@ -1,5 +1,4 @@
 -- `listing::answers::deliver` meets its contract. Assumes nothing.
-use mathlib.Core.List.{_++_}
 use mathlib.Core.Path.{sym, _∙_}
 use Prim.Native.Nat.{_+_, _/_, _≤_}
 use native.Mathlib.Omega.{arith}

@@ -3,7 +3,7 @@ use mathlib.Core.Path.{sym, _∙_}
 use lib.ListN.{length-map, length-set}
 use denote.Ref.{now}
 use borrow.Author.Needs.{needs}
-use Rattle.refinement.specs.Memory.{Shape}
+use Rattle.refinement.specs.Refinement.{Shape}
 use Rattle.sheet.proofs.Playing.{ran-none}
 use Rattle.sheet.proofs.running.play.Statement.{statement}
 use Rattle.sheet.proofs.running.play.Tie as tie

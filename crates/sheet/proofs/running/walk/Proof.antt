@@ -6,7 +6,7 @@ use lib.ListN.{length, length-set}
 use denote.Ref.{now}
 use borrow.Author.Needs.{needs}
 use Rattle.cluster.specs.declared.Cluster.{Cluster}
-use Rattle.refinement.specs.Memory.{Places, lent, rowOf, Shape}
+use Rattle.refinement.specs.Refinement.{Places, lent, rowOf, Shape}
 use Rattle.sheet.specs.Running.{Ran}
 use Rattle.records.proofs.Decoding.{room}
 use Rattle.sheet.proofs.Playing.{sheet-whole, sheet-most, ran-ready, ran-more}

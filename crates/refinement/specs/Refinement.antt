@@ -1,5 +1,5 @@
 -- A row together with the lent places as a state of the model, and what a step makes of them. Cited by the contracts of
--- leader, follower, control, dispatch, steps, hub and sheet. Assumes nothing.
+-- steps_leader, steps_follower, steps_central, dispatch, steps, hub and sheet. Assumes nothing.
 use mathlib.Core.Bool.{cond}
 use mathlib.Core.List.{List}
 use mathlib.Core.Logic.{_≢_}
@@ -26,7 +26,7 @@ pub record Places : Type 0 where
 abbrev pub lent : List ℕ → List ℕ → Places
 lent store list = record { store = store; list = list }
 
--- Places of their lengths: "The log store is 4,096 numbers", "Receipts: at most 512".
+-- Places of their lengths: not "a store not 4,096 or receipts not 512 long".
 pub record Full (p : Places) : Type 0 where
   pub store : length (p .store) ≡ 4096
   pub list : length (p .list) ≡ 512
