@@ -135,8 +135,8 @@ fn put_late(out: &mut [u8], at: usize, late: bool) -> usize
     text::put_bytes(&mut *out, at, b"current\n")
 }
 
-// Writes the line of a replica: its number, its view, its joined epoch, its log's length, whether it is late. Inner
-// layer: callers see to the room.
+// Writes the line of a replica: its number, its view, its joined epoch, its log's length, whether it is late.
+// Inner layer: callers see to the room.
 pub fn put_board(
     out: &mut [u8],
     at: usize,

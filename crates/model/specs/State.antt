@@ -27,12 +27,13 @@ values = record {
   exact = λ x y. (eqb→eq x y, λ e. subst (λ z. T (eqb x z)) e (eqb-refl x));
 }
 
--- The kind of entry that the calls use, and its entry: here alone it is chosen.
+-- The kind of entry that the calls use: here alone it is chosen.
 abbrev pub entries : Entries
 entries = values
 
+-- An entry of the calls.
 abbrev pub Entry : Type 0
-Entry = ℕ
+Entry = entries .Entry
 
 -- Epoch, leader epoch (term), leader (0: none) and members: as the registry holds them, or as a replica or the
 -- controller last took them.
