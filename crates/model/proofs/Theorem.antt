@@ -11,7 +11,7 @@ use Rattle.model.specs.Prelude.{_⊑_}
 use Rattle.model.specs.Members.{isReplica, only, size}
 use Rattle.model.specs.State.{outline, Entries, State, Opening, canOpen, opened, firstView, noView}
 use Rattle.model.specs.Steps.{Step, append, commit, add, remove, changeLeader, refresh, join, receive, acknowledge, refreshController, readLeader, read, setNormal, hear, install, malformed, writes, checks, next, accepted, step}
-use Rattle.model.specs.Runs.{run, taken, gives, given}
+use Rattle.model.specs.Runs.{run, gift, gives, given}
 use Rattle.model.specs.Claim.{LeadsUnder, after, receipts, Safe, Safety}
 use Rattle.model.proofs.Tests.{Holds, facts, by-test, by-cond, is-true, is-false}
 use Rattle.model.proofs.Prefix.{begins-refl, begins-more}
@@ -134,7 +134,7 @@ module _ (𝓔 : Entries) where
   -- Receipts: the list that is kept is the list that was given.
 
   -- What an accepted step adds to the list kept is what it gives.
-  next-gives : (s : State Entry) (st : Step) → next 𝓔 s st .committed ≡ s .committed ++ taken 𝓔 s (writes st)
+  next-gives : (s : State Entry) (st : Step) → next 𝓔 s st .committed ≡ s .committed ++ gift 𝓔 s (writes st)
   next-gives s (append b v) = sym (append-nil (s .committed))
   next-gives s (commit b) = refl
   next-gives s (add b) = sym (append-nil (s .committed))

@@ -27,14 +27,14 @@ module _ (𝓔 : Entries) where
   answers s (st ∷ sts) = answerOf (outline s) st ∷ answers (step 𝓔 s st) sts
 
   -- What an accepted step gives out: step 2 the next entry of b's log, any other nothing.
-  abbrev pub taken : State Entry → Writes → List Entry
-  taken s (appends b value) = []
-  taken s (commits b) = entryAt 𝓔 s b (length (s .committed)) ∷ []
-  taken s (receives b) = []
-  taken s nothing = []
+  abbrev pub gift : State Entry → Writes → List Entry
+  gift s (appends b value) = []
+  gift s (commits b) = entryAt 𝓔 s b (length (s .committed)) ∷ []
+  gift s (receives b) = []
+  gift s nothing = []
 
   abbrev pub gives : State Entry → Step → List Entry
-  gives s st = cond (accepted (outline s) st) (taken s (writes st)) []
+  gives s st = cond (accepted (outline s) st) (gift s (writes st)) []
 
   -- "The receipts given are one for each accepted step 2, in that order, each the entry that step took from b's log."
   unfoldable pub given : State Entry → List Step → List Entry

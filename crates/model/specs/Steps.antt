@@ -292,9 +292,9 @@ abbrev pub answerOf : Outline → Step → ℕ
 answerOf m st = firstFailed (checks m st)
 
 -- A state of these parts.
-abbrev stateOf : {E : Type 0} → Registry → Controller
+abbrev fromParts : {E : Type 0} → Registry → Controller
     → (ℕ → View) → (ℕ → ℕ) → (ℕ → ℕ → ℕ) → (ℕ → List E) → List E → State E
-stateOf registry controller view joined acked log committed = record {
+fromParts registry controller view joined acked log committed = record {
   registry = registry;
   controller = controller;
   view = view;
@@ -309,25 +309,25 @@ module _ {E : Type 0} (s : State E) where
   open State s using (registry, controller, view, joined, acked, log, committed)
 
   abbrev pub withRegistry : Registry → State E
-  withRegistry r = stateOf r controller view joined acked log committed
+  withRegistry r = fromParts r controller view joined acked log committed
 
   abbrev pub withController : Controller → State E
-  withController c = stateOf registry c view joined acked log committed
+  withController c = fromParts registry c view joined acked log committed
 
   abbrev pub withView : ℕ → View → State E
-  withView b v = stateOf registry controller (upd view b v) joined acked log committed
+  withView b v = fromParts registry controller (upd view b v) joined acked log committed
 
   abbrev pub withJoined : ℕ → ℕ → State E
-  withJoined b j = stateOf registry controller view (upd joined b j) acked log committed
+  withJoined b j = fromParts registry controller view (upd joined b j) acked log committed
 
   abbrev pub withAcked : ℕ → (ℕ → ℕ) → State E
-  withAcked b n = stateOf registry controller view joined (upd acked b n) log committed
+  withAcked b n = fromParts registry controller view joined (upd acked b n) log committed
 
   abbrev pub withLog : ℕ → List E → State E
-  withLog b l = stateOf registry controller view joined acked (upd log b l) committed
+  withLog b l = fromParts registry controller view joined acked (upd log b l) committed
 
   abbrev pub withCommitted : List E → State E
-  withCommitted l = stateOf registry controller view joined acked log l
+  withCommitted l = fromParts registry controller view joined acked log l
 
 module _ (𝓔 : Entries) where
   open Entries 𝓔 using (Entry, make, same)

@@ -82,8 +82,8 @@ openingBytes b = 0 ∷ b ∷ 0 ∷ 0 ∷ 0 ∷ 0 ∷ 0 ∷ 0 ∷ []
 abbrev pub Refused : Text → Text → Type 0
 Refused s out = (result s out ≡ 2) × (left s out ≡ out)
 
--- P2: the opening with board 0 or 9, "a sheet that begins so: 2", whatever follows and whatever the slice holds. No byte
--- at all, and half a record: 2 as well.
+-- P2: the opening with board 0 or 9, "a sheet that begins so: 2", whatever follows and whatever the slice holds. No
+-- byte at all, and half a record: 2 as well.
 unfoldable pub RefusedHolds : Type 0
 RefusedHolds = (rest out : Text)
     → Refused (openingBytes 0 ++ rest) out × Refused (openingBytes 9 ++ rest) out

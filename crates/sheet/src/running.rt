@@ -27,7 +27,7 @@ fn begin(sheet: &[u8]) -> Cluster
 
 // What a run carries from record to record beside the lent places: the row without the joined epochs, the counts and
 // the lengths.
-struct Centre {
+struct Carried {
     registry: Registry,
     controller: Controller,
     views: [View; 8],
@@ -38,14 +38,14 @@ struct Centre {
 // opening's.
 fn walk(
     sheet: &[u8],
-    o: Centre,
+    o: Carried,
     joined: &mut [u16],
     acked: &mut [u16],
     len: &mut [u16],
     store: &mut [u32],
     list: &mut [u32],
     answers: &mut [u8],
-) -> Centre
+) -> Carried
     requires { ⌜ (isSheet (now sheet) ≡ true)
         × Shape (rowOf (o .registry) (o .controller) (o .views) (now joined) (now acked) (now len) (o .issued))
         × Ran (now sheet) 0
@@ -88,7 +88,7 @@ fn walk(
         c = d;
         k += 1;
     }
-    Centre {
+    Carried {
         registry: g,
         controller: c,
         views: views,
@@ -111,7 +111,7 @@ pub fn play(sheet: &[u8], store: &mut [u32], list: &mut [u32], answers: &mut [u8
     let mut joined = row.joined;
     let mut acked = row.acked;
     let mut len = row.len;
-    let o = Centre {
+    let o = Carried {
         registry: g,
         controller: c,
         views: views,
