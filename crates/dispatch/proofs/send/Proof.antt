@@ -24,6 +24,19 @@ places c = lent (now (start c .args .store)) (now (start c .args .list))
 abbrev number : tie.After-v → ℕ
 number c = start c .args .r .step
 
+-- The call of a step, from where what it was lent is given back.
+abbrev appended : tie.After-slice-known8 → tie.After-append
+appended c = c .before .before .before .before .before .before
+
+abbrev refreshed : tie.After-v2 → tie.After-refresh
+refreshed c = c .before .before .before .before .before
+
+abbrev joined : tie.After-slice-known14 → tie.After-join
+joined c = c .before .before .before .before
+
+abbrev received : tie.After-slice-known16 → tie.After-receive
+received c = c .before .before .before .before
+
 -- The last number of a range, which is the one that no test before named.
 four : (c : tie.Else5) → number (c .before .before .before .before .before) ≡ 4
 four c =
@@ -153,14 +166,15 @@ same-length-3 c = search needs
 
 returns-2 : tie.Need-returns-2
 returns-2 c =
-    let z = c .before .before .before .before .before .before .before .before .before .before .before .before in
+    let d = appended c in
+    let z = d .before .before .before .before .before .before in
     let a = start z .args in
     let p = start z .pre in
-    rw (c .before .before .before .before .before .before .before .before .before .before .before .match .keys2)
+    rw (d .before .before .before .before .before .match .keys2)
     (sends-kept (by-board _ (places z) _ _ (λ b. append b (a .r .value)) (a .r .board) (a .r .other) (a .r .spare) 0 _
-    (c .before .before .before .before .before .before .before .before .before .before .board .ensures) (λ m. refl)
+    (d .before .before .before .before .board .ensures) (λ m. refl)
     (λ m. refl)
-    (c .before .before .before .before .before .before .append .ensures (a .g) (a .c) (now (a .joined)) (a .issued)
+    (d .append .ensures (a .g) (a .c) (now (a .joined)) (a .issued)
     (now (a .list)) (p .0 .issued) (p .1))))
 
 returns-3 : tie.Need-returns-3
@@ -293,17 +307,18 @@ same-length-15 c = search needs
 
 returns-12 : tie.Need-returns-12
 returns-12 c =
-    let z = c .before .before .before .before .before .before .before .before .before .before .before .before .before
+    let d = refreshed c in
+    let z = d .before .before .before .before .before .before .before .before
     .before .before in
     let a = start z .args in
     let p = start z .pre in
-    rw (c .before .before .before .before .before .before .before .before .before .before .if7 .taken) (record {
-      place = c .before .before .before .before .before .refresh .ensures .0;
+    rw (d .before .before .before .before .before .if7 .taken) (record {
+      place = d .refresh .ensures .0;
       leaves =
           by-board _ (places z) _ _ refresh (a .r .board) (a .r .other) (a .r .spare) (a .r .value) _
-          (c .before .before .before .before .before .before .before .before .before .before .before .board5 .ensures)
+          (d .before .before .before .before .before .before .board5 .ensures)
           (λ m. refl) (λ m. refl)
-          (c .before .before .before .before .before .refresh .ensures .1 (a .g .status) (a .c) (a .issued) (places z)
+          (d .refresh .ensures .1 (a .g .status) (a .c) (a .issued) (places z)
           (p .0 .issued) (p .1));
     })
 
@@ -318,16 +333,17 @@ same-length-18 c = search needs
 
 returns-13 : tie.Need-returns-13
 returns-13 c =
-    let z = c .before .before .before .before .before .before .before .before .before .before .before .before .before
+    let d = joined c in
+    let z = d .before .before .before .before .before .before .before .before .before
     .before in
     let a = start z .args in
     let p = start z .pre in
-    rw (c .before .before .before .before .before .before .before .before .if8 .taken)
+    rw (d .before .before .before .before .if8 .taken)
     (sends-kept (by-board _ (places z) _ _ join
     (a .r .board) (a .r .other) (a .r .spare) (a .r .value) _
-    (c .before .before .before .before .before .before .before .before .before .before .board5 .ensures) (λ m. refl)
+    (d .before .before .before .before .before .before .board5 .ensures) (λ m. refl)
     (λ m. refl)
-    (c .before .before .before .before .join .ensures (a .g) (a .c) (now (a .acked)) (a .issued) (now (a .list))
+    (d .join .ensures (a .g) (a .c) (now (a .acked)) (a .issued) (now (a .list))
     (p .0 .issued) (p .1))))
 
 same-length-19 : tie.Need-same-length-19
@@ -341,15 +357,16 @@ same-length-21 c = search needs
 
 returns-14 : tie.Need-returns-14
 returns-14 c =
-    let z = c .before .before .before .before .before .before .before .before .before .before .before .before .before
+    let d = received c in
+    let z = d .before .before .before .before .before .before .before .before .before
     .before in
     let a = start z .args in
     let p = start z .pre in
-    rw (eight (c .before .before .before .before .before .before .before .before))
+    rw (eight (d .before .before .before .before))
     (sends-kept (by-board _ (places z) _ _ receive (a .r .board) (a .r .other) (a .r .spare) (a .r .value) _
-    (c .before .before .before .before .before .before .before .before .before .before .board5 .ensures) (λ m. refl)
+    (d .before .before .before .before .before .before .board5 .ensures) (λ m. refl)
     (λ m. refl)
-    (c .before .before .before .before .receive .ensures (a .g) (a .c) (now (a .acked)) (a .issued) (now (a .list))
+    (d .receive .ensures (a .g) (a .c) (now (a .acked)) (a .issued) (now (a .list))
     (p .0 .issued) (p .1))))
 
 returns-15 : tie.Need-returns-15
