@@ -71,7 +71,7 @@ unfoldable pub controlLine : M.Controller → Text
 unfolding viewText
 controlLine c = word "control " ++ (viewText (c .view) ++ (space ++ (stageWord (c .stage) ++ newline)))
 
--- "`late` if its epoch is below the registry's, else `current`"
+-- The mark of a board: "`late` if" so, "else `current`". When it is late: `late` in crate `mark`.
 abbrev pub lateWord : Bool → Text
 lateWord late = cond late (word "late") (word "current")
 

@@ -5,7 +5,7 @@ use mathlib.Core.Path.{_≡_, refl, ap, subst, _∙_}
 use Prim.Native.Nat.{ℕ, zero, suc, _+_, _-_, _*_, _^_, _<_, _≤_}
 use native.Mathlib.Numerals.{add-one}
 use native.Mathlib.Omega.{arith}
-use lib.Dec.{T, ltb}
+use lib.Dec.{T}
 use lib.ListN.{length, getD, take, drop, length-append, length-take}
 use lib.Seq.{take-suc, take-take, getD-take, length-take-le, split-at}
 use Rattle.model.specs.Members.{isReplica}
@@ -21,20 +21,22 @@ use Rattle.text.specs.Text.{Text, Wrote, digits}
 use Rattle.text.proofs.Laws.{rest, digits-most-10}
 use Rattle.lines.specs.Lines.{word, space, newline, boardText}
 use Rattle.lines.proofs.Lengths.{three-digits, eight-most, registry-most, control-most, board-most}
+use Rattle.mark.specs.Mark.{late}
 use Rattle.listing.specs.Listing.{boardLine, boardLines, valuesText, receiptsLine, ending}
 
--- The line of the replica b, from the row's parts and the registry's epoch.
-abbrev pub replica : List View → List ℕ → List ℕ → ℕ → ℕ → Text
-replica views joined len epoch b =
-    boardText b (viewOf (at noView views b)) (at 0 joined b) (at 0 len b) (ltb (at noView views b .epoch) epoch)
+-- The line of the replica b, from the row's parts and the registry's view.
+abbrev pub replica : List View → List ℕ → List ℕ → View → ℕ → Text
+replica views joined len r b =
+    let v = viewOf (at noView views b) in
+    boardText b v (at 0 joined b) (at 0 len b) (late v (at 0 joined b) (viewOf r))
 
 -- It is the line from the places of the arrays.
 pub replica-is :
-    (views : List View) (joined len : List ℕ) (epoch b : ℕ) → 1 ≤ b
-    → replica views joined len epoch b
+    (views : List View) (joined len : List ℕ) (r : View) (b : ℕ) → 1 ≤ b
+    → replica views joined len r b
     ≡ boardText b (viewOf (getD views (b - 1) noView)) (getD joined (b - 1) 0) (getD len (b - 1) 0)
-    (ltb (getD views (b - 1) noView .epoch) epoch)
-replica-is views joined len epoch b h = rw (at-index noView views b h, at-index 0 joined b h, at-index 0 len b h)
+    (late (viewOf (getD views (b - 1) noView)) (getD joined (b - 1) 0) (viewOf r))
+replica-is views joined len r b h = rw (at-index noView views b h, at-index 0 joined b h, at-index 0 len b h)
 
 -- Values, one after the other
 
@@ -101,7 +103,7 @@ module _ (m : M.Outline) (list : List ℕ) (ranges : inRange m ≡ true) (words 
   line-most : (b : ℕ) → T (isReplica b) → length (boardLine m b) ≤ 46
   unfolding boardLine
   line-most b t =
-      board-most b (m .view b) (m .joined b) (m .len b) (ltb (m .view b .epoch) (m .registry .view .epoch))
+      board-most b (m .view b) (m .joined b) (m .len b) (late (m .view b) (m .joined b) (m .registry .view))
       (replica-range b t .1) (all .views b t) (all .joined b t .1) (all .logs b t)
 
   boards-most : length (boardLines m) ≤ 368

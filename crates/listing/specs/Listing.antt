@@ -1,15 +1,16 @@
--- A listing of document 01, byte for byte: the lines of its records, its ending, and its slice. Cited by the promises
+-- A listing of document 01, byte for byte, with the mark of document 02: the lines of its records, its ending, and its slice. Cited by the promises
 -- of `deliver`, of the writers of the ending and, through `listing`, of `run_sheet`. Assumes nothing.
 use mathlib.Core.Bool.{cond}
 use mathlib.Core.List.{List, [], _∷_, _++_}
 use mathlib.Core.Path.{_≡_}
 use Prim.Native.Nat.{ℕ, suc}
-use lib.Dec.{leb, ltb}
+use lib.Dec.{leb}
 use lib.ListN.{length, take}
 use Rattle.model.specs.State.{Outline}
 use Rattle.model.specs.Records.{Record}
 use Rattle.text.specs.Text.{Text, digits, over}
 use Rattle.lines.specs.Lines.{word, space, newline, eight, answerLine, registryLine, controlLine, boardText}
+use Rattle.mark.specs.Mark.{late}
 use Rattle.records.specs.Bytes.{records}
 
 -- The records' lines
@@ -29,7 +30,7 @@ lines s ns n = answerLines 1 (records n s) (take n ns)
 
 unfoldable pub boardLine : Outline → ℕ → Text
 unfolding boardText
-boardLine m b = boardText b (m .view b) (m .joined b) (m .len b) (ltb (m .view b .epoch) (m .registry .view .epoch))
+boardLine m b = boardText b (m .view b) (m .joined b) (m .len b) (late (m .view b) (m .joined b) (m .registry .view))
 
 unfoldable pub boardLines : Outline → Text
 unfolding boardLine

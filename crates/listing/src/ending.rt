@@ -4,17 +4,17 @@
 ghost use mathlib.Core.Bool.{true};
 ghost use mathlib.Core.Path.{_≡_};
 ghost use Prim.Native.Nat.{_+_, _-_, _≤_};
-ghost use lib.Dec.{ltb};
 ghost use lib.ListN.{length, getD, take};
 ghost use Rattle.model.specs.Ranges.{inRange};
 ghost use Rattle.cluster.specs.Layout.{viewOf, noView, outlineOf};
 ghost use Rattle.text.specs.Text.{Wrote};
 ghost use Rattle.lines.specs.Lines.{boardText};
+ghost use Rattle.mark.specs.Mark.{late};
 ghost use Rattle.listing.specs.Listing.{boardLines, valuesText, receiptsLine, ending};
 use cluster::Cluster;
 use cluster::View;
 
-// Writes the line of the replica b, where the registry is at `epoch`.
+// Writes the line of the replica b, where r is the registry's view.
 fn put_replica(
     out: &mut [u8],
     at: usize,
@@ -22,29 +22,30 @@ fn put_replica(
     views: [View; 8],
     joined: [u16; 8],
     len: [u16; 8],
-    epoch: u16,
+    r: View,
 ) -> usize
     requires { ⌜
         (1 ≤ b)
         × (b ≤ 8)
         × (at + length (boardText b
         (viewOf (getD views (b - 1) noView)) (getD joined (b - 1) 0) (getD len (b - 1) 0)
-        (ltb (getD views (b - 1) noView .epoch) epoch))
+        (late (viewOf (getD views (b - 1) noView)) (getD joined (b - 1) 0) (viewOf r)))
         ≤ length (now out))
         ⌝ }
-    ensures { λ r. ⌜
+    ensures { λ p. ⌜
         Wrote (now (out .entry)) at
         (boardText b
         (viewOf (getD views (b - 1) noView)) (getD joined (b - 1) 0) (getD len (b - 1) 0)
-        (ltb (getD views (b - 1) noView .epoch) epoch))
-        (now (out .exit)) r
+        (late (viewOf (getD views (b - 1) noView)) (getD joined (b - 1) 0) (viewOf r)))
+        (now (out .exit)) p
         ⌝ }
 {
     let i = (b - 1) as usize;
     let v = views[i];
     let j = joined[i];
     let n = len[i];
-    lines::put_board(&mut *out, at, b, v, j, n, v.epoch < epoch)
+    let late = mark::is_late(v, j, r);
+    lines::put_board(&mut *out, at, b, v, j, n, late)
 }
 
 // Writes the lines of the eight replicas.
@@ -61,7 +62,7 @@ fn put_replicas(out: &mut [u8], at: usize, row: Cluster) -> usize
     let mut b: u8 = 0;
     while b < 8 {
         b += 1;
-        p = put_replica(&mut *out, p, b, views, joined, len, w.epoch);
+        p = put_replica(&mut *out, p, b, views, joined, len, w);
     }
     p
 }

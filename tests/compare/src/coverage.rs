@@ -1,4 +1,5 @@
-//! Which answers each step can give in a run, and how often they were met.
+//! Which answers each step can give in a run, what lines a listing can have, and how
+//! often they were met.
 
 use peer::row::{Row, EPOCH_MAX, LOG_MAX};
 use std::fmt;
@@ -111,7 +112,7 @@ const EVENTS: [Event; 16] = [
         let some = |counts: &[usize]| counts.iter().filter(|&&n| n > 0).count();
         s.gives(6, 0) && some(&s.after.board(s.b).counts) > 1
     }),
-    ("read of a late board", |s| {
+    ("read of a board below the registry's epoch", |s| {
         s.gives(12, 0) && s.after.board(s.b).view.epoch < s.after.registry.epoch
     }),
     ("install over a longer log heard", |s| {
@@ -119,10 +120,55 @@ const EVENTS: [Event; 16] = [
     }),
 ];
 
+/// A board's line in a listing, and what came before it in the sheet.
+struct Line<'a> {
+    row: &'a Row,
+    b: u8,
+    /// Boards that were members before.
+    past: u8,
+}
+
+impl Line<'_> {
+    fn took_news(&self) -> bool {
+        self.row.board(self.b).view.epoch == self.row.registry.epoch
+    }
+
+    fn joined(&self) -> bool {
+        self.row.board(self.b).joined == self.row.registry.leader_epoch
+    }
+
+    /// Was it a member, and is it none now?
+    fn left(&self) -> bool {
+        self.past & (1 << (self.b - 1)) != 0 && !self.row.registry.has(self.b)
+    }
+}
+
+/// The lines that the listings should have: the mark's two tests, each by itself.
+const LINES: [(&str, fn(&Line) -> bool); 5] = [
+    ("line of a board that took news and has not joined", |l| {
+        l.took_news() && !l.joined()
+    }),
+    (
+        "line of one that is no member any more, and so cannot",
+        |l| l.took_news() && !l.joined() && l.left(),
+    ),
+    ("line of a board that has joined and took no news", |l| {
+        l.joined() && !l.took_news()
+    }),
+    ("line of a board that is late for both", |l| {
+        !l.joined() && !l.took_news()
+    }),
+    (
+        "line of a board that is current under a later leader",
+        |l| l.joined() && l.took_news() && l.row.registry.leader_epoch > 1,
+    ),
+];
+
 #[derive(Default)]
 pub struct Coverage {
     met: [[u64; ANSWERS]; STEPS],
     events: [u64; EVENTS.len()],
+    lines: [u64; LINES.len()],
 }
 
 impl Coverage {
@@ -156,6 +202,18 @@ impl Coverage {
                 *number += u64::from(came_about(&seen));
             }
         }
+        for b in 1..=8 {
+            let row = &row;
+            for (number, (_, stands)) in self.lines.iter_mut().zip(LINES) {
+                *number += u64::from(stands(&Line { row, b, past }));
+            }
+        }
+    }
+
+    /// What is counted besides the pairs, with its number.
+    fn counts(&self) -> impl Iterator<Item = (&'static str, u64)> {
+        let events = EVENTS.map(|(name, _)| name).into_iter().zip(self.events);
+        events.chain(LINES.map(|(name, _)| name).into_iter().zip(self.lines))
     }
 
     /// What can be met and was not, and what cannot and was.
@@ -170,9 +228,8 @@ impl Coverage {
                 }
             }
         }
-        let events = EVENTS.iter().zip(self.events);
-        let absent = events.filter(|&(_, number)| number == 0);
-        faults.extend(absent.map(|((name, _), _)| format!("not met: {name}")));
+        let absent = self.counts().filter(|&(_, number)| number == 0);
+        faults.extend(absent.map(|(name, _)| format!("not met: {name}")));
         faults
     }
 }
@@ -201,7 +258,7 @@ impl fmt::Display for Coverage {
                 }
             }
         }
-        for ((name, _), number) in EVENTS.iter().zip(self.events) {
+        for (name, number) in self.counts() {
             write!(out, "\n{number:>8} {name}")?;
         }
         Ok(())

@@ -1,8 +1,8 @@
-//! A second program for document 01: it turns a sheet into its listing, or into
-//! the number of the refusal.
+//! A second program for document 01 and Paper 1 of document 02: it turns a sheet
+//! into its listing, or into the number of the refusal.
 //!
-//! It was written from document 01, document 003 and the readings alone, apart
-//! from the proved program, so that a misreading in one shows in the other.
+//! It was written from these, document 003 and the readings alone, apart from
+//! the proved program, so that a misreading in one shows in the other.
 //! Numbers in brackets are the paper's refusals.
 
 pub mod listing;

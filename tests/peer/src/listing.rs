@@ -115,7 +115,10 @@ fn list(out: &mut impl Out, records: &[[u8; 8]], answers: &[u8], row: &Row) {
         out.number(board.joined.into());
         out.byte(b' ');
         out.number(board.log.len() as u32);
-        out.text(match board.view.epoch < row.registry.epoch {
+        // late or current: document 02, Paper 1
+        let behind = board.view.epoch < row.registry.epoch;
+        let unjoined = board.joined != row.registry.leader_epoch;
+        out.text(match behind || unjoined {
             true => b" late\n",
             false => b" current\n",
         });

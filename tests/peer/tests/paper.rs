@@ -1,7 +1,7 @@
-//! The trials and refusals of document 01.
+//! The trials and refusals of document 01, and the marks of document 02, Paper 1.
 
 use peer::row::{majority, Row, Status, View};
-use peer::{list, run};
+use peer::{list, listing, run};
 
 /// A record of a step's number, its board or boards, and a value.
 fn record(step: u8, a: u8, b: u8, value: u32) -> [u8; 8] {
@@ -77,6 +77,30 @@ impl Trial {
     fn accepts<const N: usize>(&mut self, records: [[u8; 8]; N]) -> &mut Trial {
         self.gives(records.map(|record| (record, 0)))
     }
+
+    /// A listing of the row marks these boards `current` and all others `late`.
+    #[track_caller]
+    fn current<const N: usize>(&mut self, boards: [u8; N]) -> &mut Trial {
+        let mut slice = vec![0; listing::length(&[], &[], &self.0)];
+        listing::write(&mut slice, &[], &[], &self.0);
+        let listing = String::from_utf8(slice).unwrap();
+        for b in 1..=8 {
+            let word = if boards.contains(&b) {
+                "current"
+            } else {
+                "late"
+            };
+            assert_eq!(mark(&listing, b), word, "board {b}");
+        }
+        self
+    }
+}
+
+/// The last word of board b's line in a listing.
+fn mark(listing: &str, b: u8) -> &str {
+    let start = format!("board {b} ");
+    let line = listing.lines().find(|line| line.starts_with(&start));
+    line.unwrap().split(' ').next_back().unwrap()
 }
 
 const SAMPLE: &str = "\
@@ -343,4 +367,193 @@ fn refusal_3_and_what_the_slice_keeps() {
     assert_eq!(long[285..], [170; 15]);
     assert_eq!(run(&open(9), &mut long), 2);
     assert_eq!(&long[..285], SAMPLE.as_bytes());
+}
+
+#[test]
+fn all_boards_of_an_opened_row_are_current() {
+    // Every epoch, leader epoch and joined is 1.
+    for b in 1..=8 {
+        let mut opened = format!("1 0 0\nregistry 1 1 {b} {b} normal\n");
+        opened += &format!("control 1 1 {b} {b} idle\n");
+        for n in 1..=8 {
+            opened += &format!("board {n} 1 1 {b} {b} 1 0 current\n");
+        }
+        opened += "receipts 0\n";
+        assert_eq!(list(&open(b)).unwrap(), opened);
+    }
+}
+
+/// Four boards, where 1 appended 41, only 4 received it, and 2 is installed: the
+/// registry's epoch and leader epoch are 7. 2 and 3 have epoch 6, 1 and 4 have 5.
+fn board_2_installed() -> Trial {
+    let mut trial = four_boards();
+    trial
+        .accepts([append(1, 41), receive(4)])
+        .accepts([CHANGE, news(2), news(3), CONTROLLER_NEWS])
+        .accepts([hear(2), hear(3), install(2)]);
+    trial
+}
+
+#[test]
+fn a_board_with_a_replaced_leaders_entry_is_late_until_it_joins() {
+    let mut trial = board_2_installed();
+    // Its leader has no news yet, so 4 cannot join yet.
+    trial
+        .accepts([news(4)])
+        .current([])
+        .gives([(join(4), 10)])
+        .accepts([news(2), append(2, 42)])
+        .current([2]);
+    assert_eq!(trial.0.board(4).log[..], [41]);
+    // 41 is not shared with the leader's log, 42: it is cut.
+    trial.accepts([join(4)]).current([2, 4]);
+    assert!(trial.0.board(4).log.is_empty());
+    // A board with nothing to cut must join as well.
+    trial
+        .accepts([news(3)])
+        .current([2, 4])
+        .accepts([join(3)])
+        .current([2, 3, 4]);
+}
+
+#[test]
+fn a_board_is_current_with_the_replaced_leaders_entries_that_its_join_keeps() {
+    let mut trial = four_boards();
+    trial
+        .accepts([append(1, 41), receive(2), receive(4)])
+        .accepts([append(1, 42), receive(4)])
+        .accepts([CHANGE, news(2), news(3), CONTROLLER_NEWS])
+        .accepts([hear(2), hear(3), install(2), news(2), append(2, 43)])
+        .accepts([news(4)])
+        .current([2]);
+    assert_eq!(trial.0.board(4).log[..], [41, 42]);
+    trial.accepts([join(4)]).current([2, 4]);
+    assert_eq!(trial.0.board(4).log[..], [41]);
+}
+
+#[test]
+fn an_installed_leader_is_late_until_its_news() {
+    let mut trial = board_2_installed();
+    // Installing changes no board: 2 still has epoch 6, leader 0 and joined 1.
+    assert_eq!(trial.0.board(2).joined, 1);
+    trial.current([]).gives([(join(2), 9)]);
+    // Its news makes joined the new leader epoch; it has no other to join.
+    trial.accepts([news(2)]).current([2]);
+    assert_eq!(trial.0.registry.leader_epoch, 7);
+    assert_eq!(trial.0.board(2).joined, 7);
+    trial.gives([(join(2), 9)]);
+}
+
+#[test]
+fn a_board_that_is_no_member_any_more_stays_late() {
+    let mut trial = board_2_installed();
+    // 1 was replaced and 4 is removed: the members they take are 2 and 3.
+    trial
+        .accepts([remove(4), news(1), news(2), news(3), news(4)])
+        .current([2])
+        .gives([(join(1), 5), (join(4), 5), (join(3), 0)])
+        .current([2, 3])
+        .accepts([CONTROLLER_NEWS, READ_LEADER, read(3), SET_NORMAL])
+        .current([])
+        .accepts([news(1), news(2), news(3), news(4)])
+        .current([2, 3])
+        .gives([(join(1), 5), (join(4), 5)]);
+    assert_eq!(trial.0.board(1).log[..], [41]);
+    assert_eq!(trial.0.board(4).log[..], [41]);
+    // Added again, 1 is still late after its news, and can join. 2 and 3 have no news.
+    trial
+        .accepts([add(1), news(1)])
+        .current([])
+        .accepts([join(1)])
+        .current([1]);
+    assert!(trial.0.board(1).log.is_empty());
+}
+
+#[test]
+fn a_joined_board_is_late_while_its_epoch_is_below_the_registrys() {
+    let mut trial = board_2_installed();
+    trial
+        .accepts([news(2), news(4), join(4)])
+        .current([2, 4])
+        .accepts([add(5)])
+        .current([]);
+    // The registry's epoch is 8 now, its leader epoch is still 7.
+    assert_eq!(trial.0.registry.leader_epoch, 7);
+    assert_eq!(trial.0.board(2).joined, 7);
+    assert_eq!(trial.0.board(4).joined, 7);
+    // Under the same leader epoch news is enough, but not for 5, which joined none.
+    trial
+        .accepts([news(2), news(4), news(5)])
+        .current([2, 4])
+        .gives([(join(4), 11), (join(5), 0)])
+        .current([2, 4, 5]);
+}
+
+#[test]
+fn while_choosing_the_leader_epoch_is_kept() {
+    // 1 is no member any more, but its joined is still the registry's leader epoch.
+    let mut trial = four_boards();
+    trial
+        .current([1, 2, 3, 4])
+        .accepts([append(1, 41), receive(4), CHANGE])
+        .current([])
+        .accepts([news(1), news(2), news(4)])
+        .current([1, 2, 4])
+        .gives([(join(1), 9), (join(4), 9)]);
+}
+
+#[test]
+fn a_mark_asks_for_no_membership() {
+    // 5 was never a member, but no leader was changed since the opening.
+    four_boards().accepts([news(5)]).current([1, 2, 3, 4, 5]);
+    // 4 joins while it is still in its own members.
+    board_2_installed()
+        .accepts([news(2), news(4), remove(4), join(4)])
+        .current([])
+        .accepts([news(4)])
+        .current([4]);
+}
+
+#[test]
+fn the_listing_of_a_replaced_leader() {
+    let sheet = [
+        open(1),
+        add(2),
+        news(1),
+        CONTROLLER_NEWS,
+        READ_LEADER,
+        read(2),
+        SET_NORMAL,
+        append(1, 41),
+        CHANGE,
+        news(1),
+        news(2),
+        join(1),
+    ];
+    let listing = "\
+1 0 0
+2 3 0
+3 6 0
+4 10 0
+5 11 0
+6 12 0
+7 13 0
+8 1 0
+9 5 0
+10 6 0
+11 6 0
+12 7 5
+registry 4 4 2 2 normal
+control 3 1 1 12 idle
+board 1 4 4 2 2 1 1 late
+board 2 4 4 2 2 4 0 current
+board 3 1 1 1 1 1 0 late
+board 4 1 1 1 1 1 0 late
+board 5 1 1 1 1 1 0 late
+board 6 1 1 1 1 1 0 late
+board 7 1 1 1 1 1 0 late
+board 8 1 1 1 1 1 0 late
+receipts 0
+";
+    assert_eq!(list(&sheet.concat()).unwrap(), listing);
 }

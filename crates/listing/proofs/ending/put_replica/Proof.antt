@@ -1,8 +1,12 @@
 -- `listing::ending::put_replica` meets its contract. By hand, as the search takes long to refuse an edit.
 -- Assumes nothing.
 use borrow.Author.Needs.{needs}
+use mathlib.Core.Path.{sym}
 use Rattle.listing.proofs.ending.put_replica.Statement.{statement}
 use Rattle.listing.proofs.ending.put_replica.Tie as tie
+
+abbrev start : tie.After-is-late → tie.Start
+start c = c .before .before .before
 
 sub-i : tie.Need-sub-i
 sub-i c = search needs
@@ -28,14 +32,19 @@ mul-n c = search needs
 array-read-n : tie.Need-array-read-n
 array-read-n c = search needs
 
+is-late-requires : tie.Need-is-late-requires
+is-late-requires c κs = tt
+
 put-board-requires : tie.Need-put-board-requires
-put-board-requires c κs = c .before .before .before .before .pre .2
+put-board-requires c κs =
+    let d = c .before in rw (d .is-late .ensures) (start d .pre .2)
 
 same-length : tie.Need-same-length
 same-length c = search needs
 
 returns : tie.Need-returns
-returns c = c .before .before .put-board .ensures
+returns c =
+    let d = c .before .before in rw (sym (d .before .before .is-late .ensures)) (d .put-board .ensures)
 
 pub put-replica-spec : {M : Type 1} → statement M
 put-replica-spec =
@@ -49,6 +58,7 @@ put-replica-spec =
     array-read-j
     mul-n
     array-read-n
+    is-late-requires
     put-board-requires
     same-length
     returns)

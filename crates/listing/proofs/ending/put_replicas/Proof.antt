@@ -15,11 +15,11 @@ use Rattle.listing.proofs.ending.put_replicas.Statement.{statement}
 use Rattle.listing.proofs.ending.put_replicas.Tie as tie
 
 abbrev line : Cluster → ℕ → Text
-line row = replica (row .views) (row .joined) (row .len) (row .registry .view .epoch)
+line row = replica (row .views) (row .joined) (row .len) (row .registry .view)
 
 abbrev Inv-loop : tie.InvT-loop
 Inv-loop out₀ at views joined len w p₀ b₀ out p b =
-    (b ≤ 8) × Wrote out₀ at (upTo (replica views joined len (w .epoch)) b) out p
+    (b ≤ 8) × Wrote out₀ at (upTo (replica views joined len w) b) out p
 
 abbrev μ-loop : tie.MeasureT-loop
 μ-loop out₀ at views joined len w p₀ b₀ out p b = 8 - b
@@ -41,7 +41,7 @@ put-replica-requires c κs =
     let e = start d in
     let row = e .args .row in
     let q =
-    replica-is (row .views) (row .joined) (row .len) (row .registry .view .epoch) (d .loop .b + 1) (omega arith) in
+    replica-is (row .views) (row .joined) (row .len) (row .registry .view) (d .loop .b + 1) (omega arith) in
     let r = upTo-fits (line row) (d .loop .b) (c .before .loop-test .taken) (d .loop .inv .1) (e .pre) in
     (omega arith, omega arith, subst (λ t. d .loop .p + length t ≤ length (d .loop .out)) q r)
 
@@ -54,7 +54,7 @@ loop-again c =
     let d = c .before .before .before .before .before in
     let row = start d .args .row in
     let q =
-    replica-is (row .views) (row .joined) (row .len) (row .registry .view .epoch) (d .loop .b + 1) (omega arith) in
+    replica-is (row .views) (row .joined) (row .len) (row .registry .view) (d .loop .b + 1) (omega arith) in
     (omega arith, rw (upTo-next (line row) (d .loop .b), q) (then (d .loop .inv .1) (w .ensures)))
 
 same-length : tie.Need-same-length Inv-loop μ-loop
