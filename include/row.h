@@ -107,6 +107,10 @@ enum row_answer {
  *                                8 lines, boards 1 to 8
  *   receipts N VALUE ... VALUE   how many, then their values
  *
+ * A board is late if its EPOCH is below the registry's or its JOINED differs
+ * from the registry's LEADER-EPOCH. The log of one that is current is a first
+ * part of the leader's; that of one that is late may hold other entries.
+ *
  * ROW_LISTING_LEN(n) bytes suffice for the listing of any sheet of n records:
  *
  *     12 n  n record lines of at most 4 + 3 + 2 digits, 2 spaces and byte 10

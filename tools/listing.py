@@ -8,7 +8,7 @@ from phrases import phrase
 VIEW = ["epoch", "leader epoch", "leader", "members"]
 REGISTRY = [*VIEW, "status"]
 CONTROL = [*VIEW, "stage"]
-BOARD = ["board", *VIEW, "joined", "length", "news"]
+BOARD = ["board", *VIEW, "joined", "length", "mark"]
 
 
 class Listing(NamedTuple):

@@ -256,7 +256,7 @@ class InWords(InFolder):
         self.assertEqual(views[0], [*view, "status or stage"])
         self.assertEqual(views[1], ["registry", "2", "1", "1", "1 2", "waiting"])
         self.assertEqual(views[2], ["controller", "1", "1", "1", "1", "idle"])
-        self.assertEqual(boards[0], ["board", *view, "joined", "length", "news"])
+        self.assertEqual(boards[0], ["board", *view, "joined", "length", "mark"])
         self.assertEqual(boards[1], ["1", "1", "1", "1", "1", "1", "1", "late"])
         self.assertEqual(boards[2:], [[str(b), "1", "1", "1", "1", "1", "0", "late"] for b in range(2, 9)])
         self.assertEqual(receipts, [["receipts: 1, of 41"]])
@@ -268,7 +268,7 @@ class InWords(InFolder):
         end = names.index("leader epoch") + len("leader epoch")
         self.assertEqual(board[end - 1 : end + 1], "1 ")
         self.assertEqual(board[names.index("members")], "1")
-        self.assertEqual(board[names.index("news") :], "late")
+        self.assertEqual(board[names.index("mark") :], "late")
 
     def test_records_have_no_lines(self):
         lines = run("--words", "-", given=RECORDS + bytes([200, 1, 2, 3, 4, 5, 6, 7])).stdout.decode().splitlines()
@@ -389,9 +389,25 @@ class Asking(InFolder):
                 "  receipts: 0 -> 1, 41",
                 "accepted",
                 "  registry: epoch 1 -> 2, members 1 -> 1 2, status normal -> waiting",
-                "  boards 1 2 3 4 5 6 7 8: news current -> late",
+                "  boards 1 2 3 4 5 6 7 8: mark current -> late",
                 "accepted",
-                "  board 2: epoch 1 -> 2, members 1 -> 1 2, news late -> current",
+                "  board 2: epoch 1 -> 2, members 1 -> 1 2, mark late -> current",
+            ],
+        )
+
+    def test_late_until_joined(self):
+        """Document 02, Paper 1: a board that took news is late until it joins."""
+        story = str(ROOT / "examples" / "late-until-joined.txt")
+        joined = "joined 1 -> 7, length 2 -> 1, mark late -> current"
+        self.assertEqual(
+            self.ask(["undo", "join 4", "join 1"], story),
+            [
+                "taken back: join 4",
+                "  board 4: joined 7 -> 1, length 1 -> 2, mark current -> late",
+                "accepted",
+                f"  board 4: {joined}",
+                "accepted",
+                f"  board 1: {joined}",
             ],
         )
 

@@ -10,7 +10,7 @@ use Rattle.model.specs.State.{Outline}
 use Rattle.model.specs.Records.{Record}
 use Rattle.text.specs.Text.{Text, digits, over}
 use Rattle.lines.specs.Lines.{word, space, newline, eight, answerLine, registryLine, controlLine, boardText}
-use Rattle.mark.specs.Mark.{late}
+use Rattle.mark.specs.Mark.{isLate}
 use Rattle.records.specs.Bytes.{records}
 
 -- The records' lines
@@ -30,7 +30,7 @@ lines s ns n = answerLines 1 (records n s) (take n ns)
 
 unfoldable pub boardLine : Outline → ℕ → Text
 unfolding boardText
-boardLine m b = boardText b (m .view b) (m .joined b) (m .len b) (late (m .view b) (m .joined b) (m .registry .view))
+boardLine m b = boardText b (m .view b) (m .joined b) (m .len b) (isLate m b)
 
 unfoldable pub boardLines : Outline → Text
 unfolding boardLine

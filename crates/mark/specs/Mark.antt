@@ -1,14 +1,14 @@
 -- The mark that ends a board line (document 02, Paper 1), and what a reader may take it for. Cited by the promises of
 -- `is_late` and `claim` and, through the listing, of `run_sheet`. Assumes nothing.
 use mathlib.Core.Bool.{Bool, not, _||_}
-use mathlib.Core.List.{List, _++_}
+use mathlib.Core.List.{List}
 use mathlib.Core.Logic.{_⊎_, _≢_}
 use mathlib.Core.Path.{_≡_}
 use Prim.Native.Nat.{ℕ}
 use lib.Dec.{T, ltb, eqb}
 use Rattle.model.specs.Prelude.{_⊑_}
-use Rattle.model.specs.State.{View, State, RowState, entries, Opening, canOpen}
-use Rattle.model.specs.Steps.{Step}
+use Rattle.model.specs.State.{View, State, Outline, outline, RowState, entries, Opening, canOpen}
+use Rattle.model.specs.Steps.{Step, join, accepted, step}
 use Rattle.model.specs.Claim.{after}
 
 -- "a board is `late` if its epoch is below the registry's or its joined differs from the registry's leader epoch": a
@@ -16,8 +16,11 @@ use Rattle.model.specs.Claim.{after}
 abbrev pub late : View → ℕ → View → Bool
 late v joined r = ltb (v .epoch) (r .epoch) || not (eqb joined (r .term))
 
-abbrev pub isLate : {E : Type 0} → State E → ℕ → Bool
-isLate s b = late (s .view b) (s .joined b) (s .registry .view)
+abbrev pub isLate : Outline → ℕ → Bool
+isLate m b = late (m .view b) (m .joined b) (m .registry .view)
+
+abbrev pub IsCurrent : {E : Type 0} → State E → ℕ → Type 0
+IsCurrent s b = T (not (isLate (outline s) b))
 
 -- What `current` says of replica b.
 pub record Current {E : Type 0} (s : State E) (b : ℕ) : Type 0 where
@@ -27,24 +30,34 @@ pub record Current {E : Type 0} (s : State E) (b : ℕ) : Type 0 where
   -- names, if it names one.
   pub follows : s .registry .view .leader ≢ 0 → s .log b ⊑ s .log (s .registry .view .leader)
   -- Of two current logs one begins with the other, also while no leader is named.
-  pub alike : (x : ℕ) → T (not (isLate s x)) → (s .log b ⊑ s .log x) ⊎ (s .log x ⊑ s .log b)
+  pub alike : (x : ℕ) → IsCurrent s x → (s .log b ⊑ s .log x) ⊎ (s .log x ⊑ s .log b)
 
 module _ (o : Opening) where
   abbrev ends : List Step → RowState
   ends sts = after entries o sts
 
-  -- Replica b is no member after sts, nor at any point of the steps that follow.
-  abbrev pub Outside : List Step → List Step → ℕ → Type 0
-  Outside sts more b =
-      (some rest : List Step) → some ++ rest ≡ more → T (not (ends (sts ++ some) .registry .view .members b))
+  abbrev term : List Step → ℕ
+  term sts = ends sts .registry .view .term
 
-  -- After every list of steps `current` says so; and who is no member stays late once a leader was named meanwhile,
-  -- whatever news it takes.
+  -- Replica b was a member at no point of the registry's present term.
+  abbrev pub Outside : List Step → ℕ → Type 0
+  Outside sts b =
+      (some : List Step) → some ⊑ sts → term some ≡ term sts → T (not (ends some .registry .view .members b))
+
+  -- After every list of steps:
   pub record MarkHolds (sts : List Step) (b : ℕ) : Type 0 where
-    pub current : T (not (isLate (ends sts) b)) → Current (ends sts) b
-    pub outside : (more : List Step) → Outside sts more b
-        → ends (sts ++ more) .registry .view .term ≢ ends sts .registry .view .term
-        → T (isLate (ends (sts ++ more)) b)
+    -- `current` says what `Current` does.
+    pub current : IsCurrent (ends sts) b → Current (ends sts) b
+    -- At the registry's epoch the leader that it names is current,
+    pub leading : b ≢ 0 → ends sts .registry .view .leader ≡ b
+        → ends sts .view b .epoch ≡ ends sts .registry .view .epoch
+        → IsCurrent (ends sts) b
+    -- and so is who joins.
+    pub joining : T (accepted (outline (ends sts)) (join b))
+        → ends sts .view b .epoch ≡ ends sts .registry .view .epoch
+        → IsCurrent (step entries (ends sts) (join b)) b
+    -- Under a later leader than the opening's, who was not a member under it is late, whatever news it takes.
+    pub outside : term sts ≢ 1 → Outside sts b → T (isLate (outline (ends sts)) b)
 
 unfoldable pub MarksHold : Type 0
 MarksHold = (o : Opening) → T (canOpen o) → (sts : List Step) (b : ℕ) → MarkHolds o sts b

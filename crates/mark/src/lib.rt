@@ -3,6 +3,7 @@
 ghost use mathlib.Core.Path.{_≡_};
 ghost use Rattle.cluster.specs.Layout.{viewOf};
 ghost use Rattle.mark.specs.Mark.{late, MarksHold};
+ghost use Rattle.mark.specs.Trials.{MarkTrialsHold};
 use cluster::View;
 
 // Is a board late that has the view v and this joined epoch, where r is the registry's view?
@@ -12,8 +13,12 @@ pub fn is_late(v: View, joined: u16, r: View) -> bool
     (v.epoch < r.epoch) | (joined != r.term)
 }
 
-// Not to be run, the carrier of a statement: in every run a board that is current holds no entry that the leader does
-// not; one that is no member stays late after a change of leader.
+// What late and current say in every run. Not to be run, like `trials`: each is the carrier of a statement.
 pub fn claim()
     ensures { λ r. ⌜ MarksHold ⌝ }
+{}
+
+// Trials of the mark hold of the definitions.
+pub fn trials()
+    ensures { λ r. ⌜ MarkTrialsHold ⌝ }
 {}
