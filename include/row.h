@@ -108,8 +108,9 @@ enum row_answer {
  *   receipts N VALUE ... VALUE   how many, then their values
  *
  * A board is late if its EPOCH is below the registry's or its JOINED differs
- * from the registry's LEADER-EPOCH. The log of one that is current is a first
- * part of the leader's; that of one that is late may hold other entries.
+ * from the registry's LEADER-EPOCH, else current. The log of one that is current
+ * is a first part of the log of the registry's LEADER, if that is not 0; the log
+ * of one that is late may hold other entries.
  *
  * ROW_LISTING_LEN(n) bytes suffice for the listing of any sheet of n records:
  *

@@ -1,7 +1,8 @@
 #!/usr/bin/env python3
 """Tests of tools/run-sheet, with the program that RUNSHEET names.
 
-What a row answers is taken from document 01: its sample, its trials, its rules.
+What a row answers is taken from document 01, its sample, its trials, its rules,
+and a board's mark from document 02.
 """
 
 import os

@@ -1,5 +1,5 @@
--- Single lines of a listing of document 01, byte for byte. Cited by the promises of the writers of lines and, through
--- `listing`, of `run_sheet`. Assumes nothing.
+-- Single lines of a listing of document 01, byte for byte; of a board's mark its two words. Cited by the promises of
+-- the writers of lines and, through `listing`, of `run_sheet`. Assumes nothing.
 use mathlib.Core.Bool.{Bool, cond}
 use mathlib.Core.List.{[], _∷_, _++_}
 use Prim.Native.Nat.{ℕ, _+_}
@@ -71,7 +71,7 @@ unfoldable pub controlLine : M.Controller → Text
 unfolding viewText
 controlLine c = word "control " ++ (viewText (c .view) ++ (space ++ (stageWord (c .stage) ++ newline)))
 
--- The mark of a board: "`late` if" so, "else `current`". When it is late: `late` in crate `mark`.
+-- The mark of a board: the word `late` or `current`. Which of them: crate `mark`.
 abbrev pub lateWord : Bool → Text
 lateWord late = cond late (word "late") (word "current")
 

@@ -16,6 +16,7 @@ use Rattle.model.specs.Claim.{after}
 abbrev pub late : View → ℕ → View → Bool
 late v joined r = ltb (v .epoch) (r .epoch) || not (eqb joined (r .term))
 
+-- So for board b of a row.
 abbrev pub isLate : Outline → ℕ → Bool
 isLate m b = late (m .view b) (m .joined b) (m .registry .view)
 

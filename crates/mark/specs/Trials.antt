@@ -1,5 +1,5 @@
--- Trials of the mark (document 02, Paper 1), as rows of document 01's table: P9 and its last trial, gone on with. Cited
--- by the promise of `trials`. Assumes nothing.
+-- Trials of the mark (document 02, Paper 1), in the form of document 01's: the opening, and what follows P9 and its last
+-- trial. Cited by the promise of `trials`. Assumes nothing.
 use mathlib.Core.Bool.{Bool, cond}
 use mathlib.Core.List.{List, [], _∷_, _++_}
 use Prim.Native.Nat.{ℕ}

@@ -148,10 +148,9 @@ const LINES: [(&str, fn(&Line) -> bool); 5] = [
     ("line of a board that took news and has not joined", |l| {
         l.took_news() && !l.joined()
     }),
-    (
-        "line of one that is no member any more, and so cannot",
-        |l| l.took_news() && !l.joined() && l.left(),
-    ),
+    ("line of such a board that is no member any more", |l| {
+        l.took_news() && !l.joined() && l.left()
+    }),
     ("line of a board that has joined and took no news", |l| {
         l.joined() && !l.took_news()
     }),
