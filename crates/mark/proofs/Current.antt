@@ -56,8 +56,8 @@ module _ {E : Type 0} {L : ℕ → ℕ} {s : State E} (i : Inv L s) where
       ordered x k (inl l) = inl (begins-compare (begins b h) (begins x k) l)
       ordered x k (inr l) = inr (begins-compare (begins x k) (begins b h) (omega arith))
 
-  pub leading : (b : ℕ) → b ≢ 0 → registry .view .leader ≡ b → view b .epoch ≡ registry .view .epoch → IsCurrent s b
-  leading b real l e =
+  pub by-news : (b : ℕ) → b ≢ 0 → registry .view .leader ≡ b → view b .epoch ≡ registry .view .epoch → IsCurrent s b
+  by-news b real l e =
       let q : registry .view .leader ≡ L (registry .view .term) = named-only i (λ z. real (sym l ∙ z)) in
       let j : joined b ≡ view b .term =
       subst (λ x. joined x ≡ view x .term) (sym q ∙ l) (i .leader .joined) in
@@ -66,8 +66,8 @@ module _ {E : Type 0} {L : ℕ → ℕ} {s : State E} (i : Inv L s) where
 module _ (𝓔 : Entries) {L : ℕ → ℕ} {s : State (𝓔 .Entry)} (i : Inv L s) where
   open State s using (registry, view)
 
-  pub joining : (b : ℕ) → T (accepted (outline s) (join b)) → view b .epoch ≡ registry .view .epoch
+  pub by-joining : (b : ℕ) → T (accepted (outline s) (join b)) → view b .epoch ≡ registry .view .epoch
       → IsCurrent (step 𝓔 s (join b)) b
-  joining b h e =
+  by-joining b h e =
       rw (is-true (accepted (outline s) (join b)) h)
       (to-current (next 𝓔 s (join b)) b e (rw (eqb-same b) (ap (λ v. v .term) (i .views b .current e))))

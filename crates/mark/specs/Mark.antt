@@ -49,12 +49,12 @@ module _ (o : Opening) where
   pub record MarkHolds (sts : List Step) (b : ℕ) : Type 0 where
     -- `current` says what `Current` does.
     pub current : IsCurrent (ends sts) b → Current (ends sts) b
-    -- At the registry's epoch the leader that it names is current,
-    pub leading : b ≢ 0 → ends sts .registry .view .leader ≡ b
+    -- At the registry's epoch the leader that it names is current, and has to join nobody;
+    pub byNews : b ≢ 0 → ends sts .registry .view .leader ≡ b
         → ends sts .view b .epoch ≡ ends sts .registry .view .epoch
         → IsCurrent (ends sts) b
-    -- and so is who joins.
-    pub joining : T (accepted (outline (ends sts)) (join b))
+    -- so is who joins.
+    pub byJoining : T (accepted (outline (ends sts)) (join b))
         → ends sts .view b .epoch ≡ ends sts .registry .view .epoch
         → IsCurrent (step entries (ends sts) (join b)) b
     -- Under a later leader than the opening's, who was not a member under it is late, whatever news it takes.

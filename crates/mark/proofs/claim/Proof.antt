@@ -2,7 +2,7 @@
 use Rattle.model.specs.State.{entries}
 use Rattle.model.proofs.Theorem.{opened-inv, run-keeps}
 use Rattle.mark.specs.Mark.{MarksHold}
-use Rattle.mark.proofs.Current.{current, leading, joining}
+use Rattle.mark.proofs.Current.{current, by-news, by-joining}
 use Rattle.mark.proofs.Outside.{outside}
 use Rattle.mark.proofs.claim.Statement.{statement}
 use Rattle.mark.proofs.claim.Tie as tie
@@ -13,8 +13,8 @@ returns c = λ o real sts b.
     let i = run-keeps entries (opened-inv o real) sts .inv in
     record {
       current = current i b;
-      leading = leading i b;
-      joining = joining entries i b;
+      byNews = by-news i b;
+      byJoining = by-joining entries i b;
       outside = outside entries b (opened-inv o real) sts;
     }
 
