@@ -109,7 +109,7 @@ enum row_answer {
  *
  * A board is late if its EPOCH is below the registry's or its JOINED differs
  * from the registry's LEADER-EPOCH, else current. The log of one that is current
- * is a first part of the log of the registry's LEADER, if that is not 0; the log
+ * is a beginning of the log of the registry's LEADER, if that is not 0; the log
  * of one that is late may hold other entries.
  *
  * ROW_LISTING_LEN(n) bytes suffice for the listing of any sheet of n records:

@@ -21,7 +21,7 @@ use Rattle.text.specs.Text.{Text, Wrote, digits}
 use Rattle.text.proofs.Laws.{rest, digits-most-10}
 use Rattle.lines.specs.Lines.{word, space, newline, boardText}
 use Rattle.lines.proofs.Lengths.{three-digits, eight-most, registry-most, control-most, board-most}
-use Rattle.mark.specs.Mark.{late, isLate}
+use Rattle.mark.specs.Mark.{late, lateIn}
 use Rattle.listing.specs.Listing.{boardLine, boardLines, valuesText, receiptsLine, ending}
 
 -- The line of the replica b, from the row's parts and the registry's view.
@@ -103,7 +103,7 @@ module _ (m : M.Outline) (list : List ℕ) (ranges : inRange m ≡ true) (words 
   line-most : (b : ℕ) → T (isReplica b) → length (boardLine m b) ≤ 46
   unfolding boardLine
   line-most b t =
-      board-most b (m .view b) (m .joined b) (m .len b) (isLate m b)
+      board-most b (m .view b) (m .joined b) (m .len b) (lateIn m b)
       (replica-range b t .1) (all .views b t) (all .joined b t .1) (all .logs b t)
 
   boards-most : length (boardLines m) ≤ 368

@@ -11,7 +11,7 @@ use Rattle.model.specs.State.{Outline}
 use Rattle.model.specs.Records.{Record}
 use Rattle.text.specs.Text.{Text, digits, over}
 use Rattle.lines.specs.Lines.{word, space, newline, eight, answerLine, registryLine, controlLine, boardText}
-use Rattle.mark.specs.Mark.{isLate}
+use Rattle.mark.specs.Mark.{lateIn}
 use Rattle.records.specs.Bytes.{records}
 
 -- The records' lines
@@ -31,7 +31,7 @@ lines s ns n = answerLines 1 (records n s) (take n ns)
 
 unfoldable pub boardLine : Outline → ℕ → Text
 unfolding boardText
-boardLine m b = boardText b (m .view b) (m .joined b) (m .len b) (isLate m b)
+boardLine m b = boardText b (m .view b) (m .joined b) (m .len b) (lateIn m b)
 
 unfoldable pub boardLines : Outline → Text
 unfolding boardLine

@@ -15,7 +15,7 @@ use Rattle.model.proofs.Tests.{is-true, eqb-same, not-left, not-right, by-test,
 use Rattle.model.proofs.Prefix.{begins-compare}
 use Rattle.model.proofs.Invariant.{Inv}
 use Rattle.model.proofs.Static.{named-only}
-use Rattle.mark.specs.Mark.{IsCurrent, Current}
+use Rattle.mark.specs.Mark.{IsCurrent, CurrentSays}
 
 -- it is not below the registry's epoch, and has joined the registry's term
 pub parts : {E : Type 0} (s : State E) (b : ℕ) → IsCurrent s b
@@ -36,7 +36,7 @@ to-current s b e j = rw (le-ltb (s .view b .epoch) (s .registry .view .epoch) (o
 module _ {E : Type 0} {L : ℕ → ℕ} {s : State E} (i : Inv L s) where
   open State s using (registry, view, joined, log)
 
-  -- its log is a first part of the log of the term's leader
+  -- its log is a beginning of the log of the term's leader
   begins : (b : ℕ) → IsCurrent s b → log b ⊑ log (L (registry .view .term))
   begins b h =
       let j = parts s b h .1 in
@@ -44,7 +44,7 @@ module _ {E : Type 0} {L : ℕ → ℕ} {s : State E} (i : Inv L s) where
       omega (arith, j, i .logs .taken b, i .views (L (joined b)) .term) in
       subst (λ x. log b ⊑ log (L x)) j (i .logs .follows b t)
 
-  pub current : (b : ℕ) → IsCurrent s b → Current s b
+  pub current : (b : ℕ) → IsCurrent s b → CurrentSays s b
   current b h = record {
     view = i .views b .current (omega (arith, parts s b h .0, i .views b .epoch));
     follows = λ n. subst (λ x. log b ⊑ log x) (sym (named-only i n)) (begins b h);

@@ -19,7 +19,7 @@ use Rattle.model.proofs.Quorum.{replica-ne}
 use Rattle.model.proofs.Invariant.{Inv}
 use Rattle.model.proofs.Static.{named, vacant}
 use Rattle.model.proofs.Theorem.{step-keeps}
-use Rattle.mark.specs.Mark.{isLate}
+use Rattle.mark.specs.Mark.{lateIn}
 use Rattle.mark.proofs.Current.{parts}
 
 -- Replica b, with the view v and the joined term j, where the registry is at term u: it has not joined that term, and
@@ -125,8 +125,8 @@ module _ (𝓔 : Entries) (b : ℕ) where
 
   pub outside : {L : ℕ → ℕ} {s : State Entry} → Inv L s → (sts : List Step) → term (run 𝓔 s sts) ≢ term s
       → OutsideFrom s sts
-      → T (isLate (outline (run 𝓔 s sts)) b)
+      → T (lateIn (outline (run 𝓔 s sts)) b)
   outside {s} i sts n out =
       let z = run 𝓔 s sts in
       let k = barred i sts out (λ e. absurd (n e)) in
-      by-test (isLate (outline z) b) (λ y. y) (λ y. absurd (omega (arith, k .joined, parts z b y .1)))
+      by-test (lateIn (outline z) b) (λ y. y) (λ y. absurd (omega (arith, k .joined, parts z b y .1)))

@@ -17,48 +17,49 @@ abbrev pub late : View → ℕ → View → Bool
 late v joined r = ltb (v .epoch) (r .epoch) || not (eqb joined (r .term))
 
 -- So for board b of a row.
-abbrev pub isLate : Outline → ℕ → Bool
-isLate m b = late (m .view b) (m .joined b) (m .registry .view)
+abbrev pub lateIn : Outline → ℕ → Bool
+lateIn m b = late (m .view b) (m .joined b) (m .registry .view)
 
 abbrev pub IsCurrent : {E : Type 0} → State E → ℕ → Type 0
-IsCurrent s b = T (not (isLate (outline s) b))
+IsCurrent s b = T (not (lateIn (outline s) b))
 
 -- What `current` says of replica b.
-pub record Current {E : Type 0} (s : State E) (b : ℕ) : Type 0 where
+pub record CurrentSays {E : Type 0} (s : State E) (b : ℕ) : Type 0 where
   -- Its view is the registry's.
   pub view : s .view b ≡ s .registry .view
-  -- It holds no entry that the leader does not: its log is a first part of the log of the leader that the registry
+  -- It holds no entry that the leader does not: its log is a beginning of the log of the leader that the registry
   -- names, if it names one.
   pub follows : s .registry .view .leader ≢ 0 → s .log b ⊑ s .log (s .registry .view .leader)
   -- Of two current logs one begins with the other, also while no leader is named.
   pub alike : (x : ℕ) → IsCurrent s x → (s .log b ⊑ s .log x) ⊎ (s .log x ⊑ s .log b)
 
 module _ (o : Opening) where
-  abbrev ends : List Step → RowState
-  ends sts = after entries o sts
+  abbrev state : List Step → RowState
+  state sts = after entries o sts
 
-  abbrev term : List Step → ℕ
-  term sts = ends sts .registry .view .term
+  abbrev termAfter : List Step → ℕ
+  termAfter sts = state sts .registry .view .term
 
   -- Replica b was a member at no point of the registry's present term.
   abbrev pub Outside : List Step → ℕ → Type 0
   Outside sts b =
-      (some : List Step) → some ⊑ sts → term some ≡ term sts → T (not (ends some .registry .view .members b))
+      (begun : List Step) → begun ⊑ sts → termAfter begun ≡ termAfter sts
+      → T (not (state begun .registry .view .members b))
 
   -- After every list of steps:
-  pub record MarkHolds (sts : List Step) (b : ℕ) : Type 0 where
-    -- `current` says what `Current` does.
-    pub current : IsCurrent (ends sts) b → Current (ends sts) b
-    -- At the registry's epoch the leader that it names is current, and has to join nobody;
-    pub byNews : b ≢ 0 → ends sts .registry .view .leader ≡ b
-        → ends sts .view b .epoch ≡ ends sts .registry .view .epoch
-        → IsCurrent (ends sts) b
-    -- so is who joins.
-    pub byJoining : T (accepted (outline (ends sts)) (join b))
-        → ends sts .view b .epoch ≡ ends sts .registry .view .epoch
-        → IsCurrent (step entries (ends sts) (join b)) b
-    -- Under a later leader than the opening's, who was not a member under it is late, whatever news it takes.
-    pub outside : term sts ≢ 1 → Outside sts b → T (isLate (outline (ends sts)) b)
+  pub record MarkSays (sts : List Step) (b : ℕ) : Type 0 where
+    pub current : IsCurrent (state sts) b → CurrentSays (state sts) b
+    -- The leader that the registry names is current once it has the registry's epoch; it joins nobody.
+    pub byNews : b ≢ 0 → state sts .registry .view .leader ≡ b
+        → state sts .view b .epoch ≡ state sts .registry .view .epoch
+        → IsCurrent (state sts) b
+    -- A replica that has the registry's epoch and joins is current then.
+    pub byJoining : T (accepted (outline (state sts)) (join b))
+        → state sts .view b .epoch ≡ state sts .registry .view .epoch
+        → IsCurrent (step entries (state sts) (join b)) b
+    -- In a later term than the opening's, 1, a replica that was a member at no point of it is late, whatever news it
+    -- takes.
+    pub outside : termAfter sts ≢ 1 → Outside sts b → T (lateIn (outline (state sts)) b)
 
 unfoldable pub MarksHold : Type 0
-MarksHold = (o : Opening) → T (canOpen o) → (sts : List Step) (b : ℕ) → MarkHolds o sts b
+MarksHold = (o : Opening) → T (canOpen o) → (sts : List Step) (b : ℕ) → MarkSays o sts b

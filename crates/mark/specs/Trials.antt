@@ -1,5 +1,5 @@
--- Trials of the mark (document 02, Paper 1), in the form of document 01's: the opening, and what follows P9 and its last
--- trial. Cited by the promise of `trials`. Assumes nothing.
+-- Trials of the mark (document 02, Paper 1): the opening, P9 and on from it, and document 01's last trial. Cited by the
+-- promise of `trials`. Assumes nothing.
 use mathlib.Core.Bool.{Bool, cond}
 use mathlib.Core.List.{List, [], _∷_, _++_}
 use Prim.Native.Nat.{ℕ}
@@ -8,17 +8,17 @@ use lib.ListN.{replicate}
 use Rattle.model.specs.State.{outline, RowState}
 use Rattle.model.specs.Records.{Record, bare, of, ofValue}
 use Rattle.model.specs.Trials.{sameList, Trial, running, allHold}
-use Rattle.mark.specs.Mark.{isLate}
+use Rattle.mark.specs.Mark.{lateIn}
 
 -- Of boards 1 to 8 these are current, the others late.
-abbrev current : List ℕ → RowState → Bool
-current bs s =
+abbrev currentAre : List ℕ → RowState → Bool
+currentAre bs s =
     sameList (pick 1 ++ (pick 2 ++ (pick 3 ++ (pick 4 ++ (pick 5 ++ (pick 6 ++ (pick 7 ++ pick 8))))))) bs
   where
     pick : ℕ → List ℕ
-    pick b = cond (isLate (outline s) b) [] (b ∷ [])
+    pick b = cond (lateIn (outline s) b) [] (b ∷ [])
 
--- Two boards, as in P9: add 2; controller news; board 1 news; read leader; read 2; set normal; change. 2 is leader.
+-- P9 without its refused steps: add 2; controller news; board 1 news; read leader; read 2; set normal; change. 2 leads.
 abbrev replaced : List Record
 replaced = of 3 2 ∷ bare 10 ∷ of 6 1 ∷ bare 11 ∷ of 12 2 ∷ bare 13 ∷ bare 5 ∷ []
 
@@ -36,17 +36,17 @@ tookNews =
 abbrev table : List Trial
 table =
     -- The opening: "every epoch, leader epoch and joined is 1".
-    running 1 [] [] (current (1 ∷ 2 ∷ 3 ∷ 4 ∷ 5 ∷ 6 ∷ 7 ∷ 8 ∷ []))
+    running 1 [] [] (currentAre (1 ∷ 2 ∷ 3 ∷ 4 ∷ 5 ∷ 6 ∷ 7 ∷ 8 ∷ []))
     -- The new leader is late until its news; the one replaced is no member, cannot join, and stays late.
-    ∷ running 1 replaced (replicate 7 0) (current [])
-    ∷ running 1 (replaced ++ (of 6 1 ∷ of 6 2 ∷ of 7 1 ∷ [])) (replicate 9 0 ++ (5 ∷ [])) (current (2 ∷ []))
-    -- While choosing the leader epoch is kept: who takes news is current, the leader that left too.
-    ∷ running 1 (changed ++ (of 6 1 ∷ of 6 4 ∷ [])) (replicate 18 0) (current (1 ∷ 4 ∷ []))
+    ∷ running 1 replaced (replicate 7 0) (currentAre [])
+    ∷ running 1 (replaced ++ (of 6 1 ∷ of 6 2 ∷ of 7 1 ∷ [])) (replicate 9 0 ++ (5 ∷ [])) (currentAre (2 ∷ []))
+    -- While choosing the leader epoch is kept: who has joined and takes news is current, the leader that left too.
+    ∷ running 1 (changed ++ (of 6 1 ∷ of 6 4 ∷ [])) (replicate 18 0) (currentAre (1 ∷ 4 ∷ []))
     -- "The board had taken news and not yet joined": 4, with 41 in its log. Then it joins.
-    ∷ running 1 tookNews (replicate 25 0) (current (2 ∷ []))
-    ∷ running 1 (tookNews ++ (of 7 4 ∷ [])) (replicate 26 0) (current (2 ∷ 4 ∷ []))
+    ∷ running 1 tookNews (replicate 25 0) (currentAre (2 ∷ []))
+    ∷ running 1 (tookNews ++ (of 7 4 ∷ [])) (replicate 26 0) (currentAre (2 ∷ 4 ∷ []))
     -- 5 is added: who has joined is late until its news.
-    ∷ running 1 (tookNews ++ (of 7 4 ∷ of 3 5 ∷ of 6 4 ∷ [])) (replicate 28 0) (current (4 ∷ []))
+    ∷ running 1 (tookNews ++ (of 7 4 ∷ of 3 5 ∷ of 6 4 ∷ [])) (replicate 28 0) (currentAre (4 ∷ []))
     ∷ []
 
 unfoldable pub MarkTrialsHold : Type 0

@@ -13,7 +13,8 @@ pub fn is_late(v: View, joined: u16, r: View) -> bool
     (v.epoch < r.epoch) | (joined != r.term)
 }
 
-// What late and current say in every run. Not to be run, like `trials`: each is the carrier of a statement.
+// What current says of a board's log, and who is current or late, in every run. Not to be run, like `trials`: each is
+// the carrier of a statement.
 pub fn claim()
     ensures { λ r. ⌜ MarksHold ⌝ }
 {}
