@@ -44,6 +44,7 @@ module _ {E : Type 0} {L : ℕ → ℕ} {s : State E} (i : Inv L s) where
       omega (arith, j, i .logs .taken b, i .views (L (joined b)) .term) in
       subst (λ x. log b ⊑ log (L x)) j (i .logs .follows b t)
 
+  -- So it is a beginning of the named leader's, and comparable with any other that is.
   pub current : (b : ℕ) → IsCurrent s b → CurrentSays s b
   current b h = record {
     view = i .views b .current (omega (arith, parts s b h .0, i .views b .epoch));
@@ -56,6 +57,7 @@ module _ {E : Type 0} {L : ℕ → ℕ} {s : State E} (i : Inv L s) where
       ordered x k (inl l) = inl (begins-compare (begins b h) (begins x k) l)
       ordered x k (inr l) = inr (begins-compare (begins x k) (begins b h) (omega arith))
 
+  -- The term's leader has always joined its own term.
   pub by-news : (b : ℕ) → b ≢ 0 → registry .view .leader ≡ b → view b .epoch ≡ registry .view .epoch → IsCurrent s b
   by-news b real l e =
       let q : registry .view .leader ≡ L (registry .view .term) = named-only i (λ z. real (sym l ∙ z)) in
@@ -66,6 +68,7 @@ module _ {E : Type 0} {L : ℕ → ℕ} {s : State E} (i : Inv L s) where
 module _ (𝓔 : Entries) {L : ℕ → ℕ} {s : State (𝓔 .Entry)} (i : Inv L s) where
   open State s using (registry, view)
 
+  -- At the registry's epoch a replica's term, which it joins, is the registry's.
   pub by-joining : (b : ℕ) → T (accepted (outline s) (join b)) → view b .epoch ≡ registry .view .epoch
       → IsCurrent (step 𝓔 s (join b)) b
   by-joining b h e =

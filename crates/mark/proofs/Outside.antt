@@ -45,8 +45,8 @@ module _ (𝓔 : Entries) (b : ℕ) where
         (subst (λ x. T (registry .view .members x)) (sym (named i c) ∙ e) (i .registry .member c)))
 
     -- a term begins: nobody was at it
-    begun : Barred (suc (registry .view .epoch)) (view b) (joined b) b
-    begun =
+    new-term : Barred (suc (registry .view .epoch)) (view b) (joined b) b
+    new-term =
         let h : joined b ≤ view b .term = i .views b .joined in
         let l : view b .term ≤ registry .view .term = i .views b .term in
         let m : registry .view .term ≤ registry .view .epoch = i .registry .term in
@@ -70,6 +70,16 @@ module _ (𝓔 : Entries) (b : ℕ) where
     joins : Known → Holds (checks (outline s) (join b)) → BarredIn (next 𝓔 s (join b))
     joins k h = rw (eqb-same b) (record { joined = k .1 .member (h 5); member = k .1 .member })
 
+    -- a step of one replica: b's own, or another's
+    by-own : (st : ℕ → Step) → (Holds (checks (outline s) (st b)) → BarredIn (next 𝓔 s (st b)))
+        → ((y : ℕ) → y ≢ b → BarredIn (next 𝓔 s (st y)))
+        → (x : ℕ) → Holds (checks (outline s) (st x))
+        → BarredIn (next 𝓔 s (st x))
+    by-own st own other x h =
+        at-or {P = λ y. Holds (checks (outline s) (st y)) → BarredIn (next 𝓔 s (st y))} b own (λ y n _. other y n) x h
+
+    -- Every step keeps it: a step that begins a term does so whatever was before, any other stays in the term, and only
+    -- b's own news and joining change what is said of b.
     keeps : (st : Step) → Holds (checks (outline s) st)
         → (next 𝓔 s st .registry .view .term ≡ registry .view .term → Known)
         → BarredIn (next 𝓔 s st)
@@ -81,13 +91,11 @@ module _ (𝓔 : Entries) (b : ℕ) where
         let left = upd (registry .view .members) (registry .view .leader) false in
         by-cond
         (λ (r : Registry). (r .view .term ≡ registry .view .term → Known) → Barred (r .view .term) (view b) (joined b) b)
-        (eqb (size left) 1) (λ _ _. begun) (λ _ k. k refl .1) k
+        (eqb (size left) 1) (λ _ _. new-term) (λ _ k. k refl .1) k
     keeps (refresh x) h k =
-        at-or {P = λ y. Holds (checks (outline s) (refresh y)) → BarredIn (next 𝓔 s (refresh y))} b (told (k refl))
-        (λ y n _. rw (ne-eqb b y (λ e. n (sym e))) (k refl .1)) x h
+        by-own refresh (told (k refl)) (λ y n. rw (ne-eqb b y (λ e. n (sym e))) (k refl .1)) x h
     keeps (join x) h k =
-        at-or {P = λ y. Holds (checks (outline s) (join y)) → BarredIn (next 𝓔 s (join y))} b (joins (k refl))
-        (λ y n _. rw (ne-eqb b y (λ e. n (sym e))) (k refl .1)) x h
+        by-own join (joins (k refl)) (λ y n. rw (ne-eqb b y (λ e. n (sym e))) (k refl .1)) x h
     keeps (receive x) h k = k refl .1
     keeps (acknowledge a x) h k = k refl .1
     keeps refreshController h k = k refl .1
@@ -95,18 +103,19 @@ module _ (𝓔 : Entries) (b : ℕ) where
     keeps (read x) h k = k refl .1
     keeps setNormal h k = k refl .1
     keeps (hear x) h k = k refl .1
-    keeps (install x) h k = begun
+    keeps (install x) h k = new-term
     keeps malformed h k = k refl .1
 
   abbrev term : State Entry → ℕ
   term s = s .registry .view .term
 
-  -- b is no member at any point of the term in which the steps end
+  -- `Outside` from any state: b is no member at any point of the term in which the steps end
   abbrev OutsideFrom : State Entry → List Step → Type 0
   OutsideFrom s sts =
-      (some : List Step) → some ⊑ sts → term (run 𝓔 s some) ≡ term (run 𝓔 s sts)
-      → T (not (run 𝓔 s some .registry .view .members b))
+      (begun : List Step) → begun ⊑ sts → term (run 𝓔 s begun) ≡ term (run 𝓔 s sts)
+      → T (not (run 𝓔 s begun .registry .view .members b))
 
+  -- By induction: what is asked of a state is asked only if its term is the one in which the steps end.
   barred : {L : ℕ → ℕ} {s : State Entry} → Inv L s → (sts : List Step) → OutsideFrom s sts
       → (term (run 𝓔 s sts) ≡ term s → BarredIn s)
       → BarredIn (run 𝓔 s sts)
@@ -114,7 +123,7 @@ module _ (𝓔 : Entries) (b : ℕ) where
   barred i [] out k = k refl
   barred {s} i (st ∷ sts) out k =
       barred (step-keeps 𝓔 i st .inv) sts
-      (λ some p. out (st ∷ some) (record { rest = p .rest; is = ap (λ l. st ∷ l) (p .is) }))
+      (λ begun p. out (st ∷ begun) (record { rest = p .rest; is = ap (λ l. st ∷ l) (p .is) }))
       (λ e. by-test (accepted (outline s) st)
       (λ c. let q : step 𝓔 s st ≡ next 𝓔 s st = rw (is-true (accepted (outline s) st) c) in
       subst BarredIn (sym q)
@@ -123,6 +132,7 @@ module _ (𝓔 : Entries) (b : ℕ) where
       (λ c. let q : step 𝓔 s st ≡ s = rw (is-false (accepted (outline s) st) c) in
       subst BarredIn (sym q) (k (e ∙ ap term q))))
 
+  -- The steps end in another term than they began in, so nothing is asked of the first state.
   pub outside : {L : ℕ → ℕ} {s : State Entry} → Inv L s → (sts : List Step) → term (run 𝓔 s sts) ≢ term s
       → OutsideFrom s sts
       → T (lateIn (outline (run 𝓔 s sts)) b)
