@@ -1,7 +1,7 @@
 -- The records of a sheet of document 01, byte for byte, and refusal 2. Cited by the contracts of records, listing and
 -- sheet. Assumes nothing.
 use mathlib.Core.Bool.{Bool, _&&_}
-use mathlib.Core.List.{List, [], _∷_}
+use mathlib.Core.List.{List, [], _∷_, _++_}
 use Prim.Native.Nat.{ℕ, zero, suc, _+_, _*_, _/_, _%_}
 use lib.Dec.{eqb, leb}
 use lib.ListN.{length, getD, drop}
@@ -23,6 +23,18 @@ recordAt s = record {
   spare = getD s 3 0;
   value = number (getD s 4 0) (getD s 5 0) (getD s 6 0) (getD s 7 0);
 }
+
+-- Those bytes of a record. (A value has 32 bits.)
+unfoldable pub recordBytes : Record → Text
+recordBytes r =
+    r .step ∷ r .board ∷ r .other ∷ r .spare
+    ∷ r .value % 256 ∷ r .value / 256 % 256 ∷ r .value / 65536 % 256 ∷ r .value / 16777216 % 256 ∷ []
+
+-- The records rs as bytes, one after the other.
+unfoldable pub sheetBytes : List Record → Text
+unfolding recordBytes
+sheetBytes [] = []
+sheetBytes (r ∷ rs) = recordBytes r ++ sheetBytes rs
 
 -- The first n records.
 unfoldable pub records : ℕ → Text → List Record

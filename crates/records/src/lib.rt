@@ -5,8 +5,9 @@ ghost use mathlib.Core.Bool.{cond, _&&_};
 ghost use Prim.Native.Nat.{_+_, _≤_};
 ghost use lib.Dec.{eqb};
 ghost use lib.ListN.{length, drop};
+ghost use Rattle.text.specs.Text.{Wrote};
 ghost use Rattle.records.specs.Record.{recordOf};
-ghost use Rattle.records.specs.Bytes.{number, recordAt, wholeRecords, isOpening, isSheet};
+ghost use Rattle.records.specs.Bytes.{number, recordAt, recordBytes, wholeRecords, isOpening, isSheet};
 
 // A record of a sheet: its step, its board (a in step 9), b in step 9, a spare byte, the value.
 pub struct Record {
@@ -60,6 +61,32 @@ pub fn decode(sheet: &[u8], at: usize) -> Record
         spare: sheet[at + 3],
         value: v,
     }
+}
+
+// The eight bytes of a record.
+fn bytes(r: Record) -> [u8; 8]
+    ensures { λ b. ⌜ b ≡ recordBytes (recordOf r) ⌝ }
+{
+    let v = r.value;
+    [
+        r.step,
+        r.board,
+        r.other,
+        r.spare,
+        (v % 256) as u8,
+        (v / 256 % 256) as u8,
+        (v / 65536 % 256) as u8,
+        (v / 16777216 % 256) as u8,
+    ]
+}
+
+// Writes the bytes of a record at place at and answers the place after it. Inner layer: callers see to the room.
+pub fn encode(out: &mut [u8], at: usize, r: Record) -> usize
+    requires { ⌜ at + 8 ≤ length (now out) ⌝ }
+    ensures { λ n. ⌜ Wrote (now (out .entry)) at (recordBytes (recordOf r)) (now (out .exit)) n ⌝ }
+{
+    let b = bytes(r);
+    text::put_bytes(&mut *out, at, &b)
 }
 
 // Whether a record is the opening.

@@ -1,5 +1,6 @@
-//! A second program for document 01 and Paper 1 of document 02: it turns a sheet
-//! into its listing, or into the number of the refusal.
+//! A second program for document 01 and Papers 1 and 2 of document 02: it turns a
+//! sheet into its listing, or into the number of the refusal, and a seed and a
+//! count of records into a bench sheet.
 //!
 //! It was written from these, document 003 and the readings alone, apart from
 //! the proved program, so that a misreading in one shows in the other.
@@ -7,6 +8,7 @@
 
 pub mod listing;
 pub mod row;
+pub mod seed;
 
 use row::Row;
 

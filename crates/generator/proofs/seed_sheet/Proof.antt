@@ -1,0 +1,97 @@
+-- `generator::seed_sheet` meets its contract. Assumes nothing.
+use mathlib.Core.Path.{_≡_, _∙_}
+use native.Mathlib.Omega.{arith}
+use denote.Ref.{now}
+use borrow.Author.Needs.{needs}
+use Rattle.records.specs.Record.{recordOf}
+use Rattle.records.proofs.Encoding.{bytes-length}
+use Rattle.text.proofs.Laws.{wrote-length}
+use Rattle.generator.specs.Made.{drawnOf}
+use Rattle.generator.proofs.Sheets.{opening, opening-drawn, all-written, none, too-many, short, written}
+use Rattle.generator.proofs.seed_sheet.Statement.{statement}
+use Rattle.generator.proofs.seed_sheet.Tie as tie
+
+returns : tie.Need-returns
+returns c = let a = c .before .before .args in none (a .seed) (a .count) (now (a .sheet)) (c .if1 .taken)
+
+returns-2 : tie.Need-returns-2
+returns-2 c =
+    let a = c .before .before .before .args in
+    too-many (a .seed) (a .count) (now (a .sheet)) (c .before .if1 .left) (c .if2 .taken)
+
+mul-if3 : tie.Need-mul-if3
+mul-if3 c = search needs
+
+returns-3 : tie.Need-returns-3
+returns-3 c =
+    let a = c .before .before .before .before .args in
+    short (a .seed) (a .count) (now (a .sheet)) (c .before .before .if1 .left) (c .before .if2 .left) (c .if3 .taken)
+
+next-requires : tie.Need-next-requires
+next-requires c κs = search needs
+
+a-board-requires : tie.Need-a-board-requires
+a-board-requires c κs = search needs
+
+with-fields-requires : tie.Need-with-fields-requires
+with-fields-requires c κs = search needs
+
+encode-requires : tie.Need-encode-requires
+encode-requires c κs = search needs
+
+-- From the opening's record back to the tests, and to the start.
+abbrev tested : tie.After-encode → tie.Else3
+tested c = c .before .before .before .before .before
+
+abbrev start : tie.Else3 → tie.Start
+start c = c .before .before .before .before
+
+-- The opening was drawn.
+drawn : (c : tie.After-encode) → drawnOf (c .before .before .with-fields .result) ≡ opening (start (tested c) .args .seed)
+drawn c =
+    let w = c .before .before in
+    w .with-fields .ensures
+    ∙ opening-drawn (start (tested c) .args .seed) (w .before .before .next .ensures) (w .before .a-board .ensures)
+
+put-later-requires : tie.Need-put-later-requires
+put-later-requires c κs =
+    let e = c .before .before .before in
+    let w = e .encode .ensures in
+    let t = tested e in
+    omega (
+      arith,
+      w .next,
+      wrote-length w,
+      bytes-length (recordOf (e .before .before .with-fields .result .made)),
+      t .if3 .left,
+      t .before .before .if1 .left,
+    )
+
+same-length : tie.Need-same-length
+same-length c = search needs
+
+returns-4 : tie.Need-returns-4
+returns-4 c =
+    let e = c .before .before .before .before .before .before in
+    let t = tested e in
+    let a = start t .args in
+    let low = t .before .before .if1 .left in
+    written (a .seed) (a .count) (now (a .sheet)) low (t .before .if2 .left) (t .if3 .left)
+    (all-written (a .seed) (a .count) (drawnOf (e .before .before .with-fields .result)) low (drawn e) (e .encode .ensures)
+    (c .before .before .put-later .ensures))
+
+pub seed-sheet-spec : {M : Type 1} → statement M
+seed-sheet-spec =
+    tie.close
+    (tie.spec
+    returns
+    returns-2
+    mul-if3
+    returns-3
+    next-requires
+    a-board-requires
+    with-fields-requires
+    encode-requires
+    put-later-requires
+    same-length
+    returns-4)

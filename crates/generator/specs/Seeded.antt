@@ -1,0 +1,59 @@
+-- Sheets from a seed: their bytes, the call `seed_sheet`, and what is claimed of every such sheet. Cited by the
+-- promises of generator, row and seedline. Assumes nothing.
+use mathlib.Core.Bool.{Bool, true, cond, not, _&&_}
+use mathlib.Core.List.{map}
+use mathlib.Core.Path.{_≡_}
+use Prim.Native.Nat.{ℕ, _*_}
+use lib.Dec.{eqb, leb}
+use lib.ListN.{length, drop}
+use Rattle.model.specs.State.{Outline}
+use Rattle.model.specs.Steps.{answerOf}
+use Rattle.model.specs.Records.{Record, wellFormed, stepOf}
+use Rattle.model.specs.Ranges.{every}
+use Rattle.text.specs.Text.{Text, over}
+use Rattle.records.specs.Bytes.{records, sheetBytes, isSheet}
+use Rattle.generator.specs.Draws.{seedRecords}
+
+-- The sheet of the seed s and n records.
+unfoldable pub seedSheet : ℕ → ℕ → Text
+unfolding sheetBytes seedRecords
+seedSheet s n = sheetBytes (seedRecords s n)
+
+-- The call, with the seed s, the count n and a slice whose bytes are `out`
+
+-- "a record count of 1 to 4,095, the opening included"
+abbrev pub isCount : ℕ → Bool
+isCount n = leb 1 n && leb n 4095
+
+-- The sheet's length; 2 for another count, then 3 for a slice that is shorter than the sheet.
+unfoldable pub result : ℕ → ℕ → Text → ℕ
+unfolding seedSheet
+result s n out = cond (isCount n) (cond (leb (length (seedSheet s n)) (length out)) (length (seedSheet s n)) 3) 2
+
+-- What the slice holds then: both refusals leave it untouched, and bytes past the end of a sheet keep their values.
+unfoldable pub left : ℕ → ℕ → Text → Text
+unfolding seedSheet over
+left s n out = cond (isCount n && leb (length (seedSheet s n)) (length out)) (over out 0 (seedSheet s n)) out
+
+-- What is claimed of every sheet
+
+-- A record that stands for a step: no opening.
+abbrev pub isStep : Record → Bool
+isStep r = not (eqb (r .step) 0)
+
+-- "Every sheet so made has only well-formed records."
+pub record WellMade (s n : ℕ) : Type 0 where
+  -- The sheet has n records, and refusal 2 lets it through.
+  pub bytes : length (seedSheet s n) ≡ 8 * n
+  pub through : isSheet (seedSheet s n) ≡ true
+  -- What a run reads from the bytes is what was drawn:
+  pub read : records n (seedSheet s n) ≡ seedRecords s n
+  -- records that are well formed each by itself, after the opening steps alone.
+  pub formed : every (map wellFormed (seedRecords s n)) ≡ true
+  pub steps : every (map isStep (drop 1 (seedRecords s n))) ≡ true
+  -- So no row answers 1 to one of them, whatever came before it.
+  pub answered : (m : Outline)
+      → every (map (λ (r : Record). not (eqb (answerOf m (stepOf r)) 1)) (drop 1 (seedRecords s n))) ≡ true
+
+abbrev pub SheetsWellMade : Type 0
+SheetsWellMade = (s n : ℕ) → isCount n ≡ true → WellMade s n

@@ -1,0 +1,50 @@
+// Reading a line: a number within a text, and whether two texts are the same.
+
+ghost use Prim.Native.Nat.{_≤_};
+ghost use lib.ListN.{length};
+ghost use Rattle.reading.specs.Reading.{NumberAt, Same};
+
+// A number, and the place after its digits.
+pub struct Number {
+    pub value: u64,
+    pub end: usize,
+}
+
+// The number whose digits stand from place `from` on, as far as there are digits; 0 where there are none. Inner layer:
+// callers see to it that the text is so short that its numbers fit.
+pub fn number_at(s: &[u8], from: usize) -> Number
+    requires { ⌜ (from ≤ length (now s)) × (length (now s) ≤ 16) ⌝ }
+    ensures { λ r. ⌜ NumberAt (now (s .entry)) from (r .value) (r .end) ⌝ }
+{
+    let mut v: u64 = 0;
+    let mut i = from;
+    while i < s.len() {
+        let b = s[i];
+        if b < 48 {
+            return Number { value: v, end: i };
+        }
+        if b > 57 {
+            return Number { value: v, end: i };
+        }
+        v = 10 * v + (b - 48) as u64;
+        i += 1;
+    }
+    Number { value: v, end: i }
+}
+
+// Whether two texts are the same.
+pub fn same(a: &[u8], b: &[u8]) -> bool
+    ensures { λ r. ⌜ Same (now (a .entry)) (now (b .entry)) r ⌝ }
+{
+    if a.len() != b.len() {
+        return false;
+    }
+    let mut i = 0;
+    while i < a.len() {
+        if a[i] != b[i] {
+            return false;
+        }
+        i += 1;
+    }
+    true
+}
