@@ -1,5 +1,6 @@
 /*
- * A row of telemetry boards: runs a sheet of steps and writes its listing.
+ * A row of telemetry boards: runs a sheet of steps and writes its listing, and
+ * makes sheets from a seed.
  *
  * Link with librow.a. docs/FORMATS.md has the same formats with an example of
  * every line, what each step asks and does, and who causes each refusal.
@@ -44,6 +45,9 @@ extern "C" {
  */
 #define ROW_RECORD_LEN 8
 #define ROW_RECORDS_MAX 4095
+
+/* The length of a sheet of n records, 32,760 for the longest. It stands in #if too. */
+#define ROW_SHEET_LEN(n) (ROW_RECORD_LEN * (n))
 
 /* The steps, and the fields that each uses. */
 enum row_step {
@@ -145,6 +149,30 @@ enum row_answer {
  */
 size_t run_sheet(const uint8_t *sheet, size_t sheet_len,
                  uint8_t *listing, size_t listing_len);
+
+/* The results of seed_sheet that are refusals. Every sheet has 8 bytes or more. */
+#define ROW_BAD_COUNT 2   /* the count is not 1 to ROW_RECORDS_MAX */
+#define ROW_SHORT_SHEET 3 /* the sheet slice is shorter than the sheet */
+
+/*
+ * Makes the sheet of a seed: the same bytes for the same seed and count, on every
+ * machine. It is for benches: all its records are well formed, and which steps
+ * come, and on which boards, is drawn, so many of them will be refused.
+ *
+ *   seed       any 32 bits
+ *   count      how many records, the opening included
+ *   sheet      where the sheet goes
+ *   sheet_len  the length of that slice in bytes
+ *
+ * Returns the sheet's length in bytes, which is ROW_SHEET_LEN(count), or
+ * ROW_BAD_COUNT, or, for a count that is not refused so, ROW_SHORT_SHEET. run_sheet
+ * never gives ROW_BAD_SHEET for a sheet made here.
+ *
+ * Both refusals leave the slice untouched. Bytes of it past the end of a sheet keep
+ * their values. The pointer may not be null, even where the length is 0.
+ */
+size_t seed_sheet(uint32_t seed, size_t count,
+                  uint8_t *sheet, size_t sheet_len);
 
 #ifdef __cplusplus
 }
