@@ -1,19 +1,19 @@
 -- A draw, a record and the records after the opening, as the code makes them. Assumes nothing.
 use mathlib.Core.Bool.{true, false}
-use mathlib.Core.List.{List, [], _∷_, _++_}
+use mathlib.Core.List.{_++_}
 use mathlib.Core.Path.{_≡_, refl, sym, ap, _∙_}
-use Prim.Native.Nat.{ℕ, zero, suc, _+_, _-_, _*_, _/_, _%_, _^_, _<_, _≤_}
+use Prim.Native.Nat.{ℕ, zero, suc, _-_, _*_, _/_, _%_, _^_, _<_, _≤_}
 use native.Mathlib.Nat.{mod-eq-of-lt, not-suc-le-zero}
 use native.Mathlib.Omega.{arith}
 use lib.Bits.{bitXor, xor-lt, xor-mod}
 use lib.Dec.{eqb}
 use lib.ListN.{length}
-use Rattle.model.specs.Records.{Record, bare, of, ofBoth, ofValue, boardless}
+use Rattle.model.specs.Records.{bare, of, ofBoth, ofValue, boardless}
 use Rattle.text.specs.Text.{Text, Wrote, over}
 use Rattle.text.proofs.Laws.{over-none, over-append}
 use Rattle.records.specs.Bytes.{recordBytes, sheetBytes}
 use Rattle.records.proofs.Encoding.{sheet-length}
-use Rattle.generator.specs.Draws.{next, folded, draw, aStep, aBoard, another, Drawn, drawn, drawRecord, later, seedRecords}
+use Rattle.generator.specs.Draws.{next, folded, draw, aStep, aBoard, another, Drawn, drawn, drawRecord, later}
 
 -- Of what is shifted left the low 32 bits are kept before the exclusive-or, as well as after it.
 pub low-first : (s : ℕ) → s < 2 ^ 32 → bitXor (folded s) (folded s * 2 ^ 7 % 2 ^ 32) ≡ draw s
@@ -67,7 +67,8 @@ later-more zero s h = absurd (not-suc-le-zero h)
 later-more (suc k) s h = let e : suc k - 1 ≡ k = omega arith in rw e
 
 -- With the first record written, the others are left to write.
-pub one-less : {d e : Text} {p q : ℕ} (k s : ℕ) (x : Drawn) → 1 ≤ k → x ≡ drawRecord s → Wrote d p (recordBytes (x .made)) e q
+pub one-less : {d e : Text} {p q : ℕ} (k s : ℕ) (x : Drawn) → 1 ≤ k → x ≡ drawRecord s
+    → Wrote d p (recordBytes (x .made)) e q
     → over e q (sheetBytes (later (k - 1) (x .state))) ≡ over d p (sheetBytes (later k s))
 one-less {d} {e} {p} {q} k s x h ex w =
     let xs = recordBytes (x .made) in

@@ -1,14 +1,13 @@
 -- Every record that is drawn is well formed, and read back from its bytes. Assumes nothing.
-use mathlib.Core.Bool.{Bool, true, false, cond, not, _&&_, true≢false, false≢true}
-use mathlib.Core.List.{List, [], _∷_, map}
+use mathlib.Core.Bool.{Bool, true, false, not, _&&_, true≢false, false≢true}
+use mathlib.Core.List.{map}
 use mathlib.Core.Logic.{_≢_}
 use mathlib.Core.Path.{_≡_, refl, sym, ap, _∙_}
 use Prim.Native.Nat.{ℕ, zero, suc, _+_, _-_, _*_, _/_, _%_, _^_, _<_, _≤_}
-use native.Mathlib.Nat.{not-suc-le-zero}
 use native.Mathlib.Omega.{arith}
-use lib.Dec.{T, eqb, leb}
-use lib.ListN.{length, drop}
-use borrow.Author.Tests.{le-leb, eq-eqb, ne-eqb, eqb-true, eqb-false}
+use lib.Dec.{eqb}
+use lib.ListN.{drop}
+use borrow.Author.Tests.{le-leb, ne-eqb, eqb-true, eqb-false}
 use Rattle.model.specs.Members.{isReplica}
 use Rattle.model.specs.State.{Outline}
 use Rattle.model.specs.Steps.{answerOf}
@@ -42,7 +41,8 @@ second a b l h =
     (λ u. let f = eqb-true b 8 (is-true (eqb b 8) u) in rw (ne-eqb a 1 (λ (g : a ≡ 1). omega arith)))
     (λ u. let f : (b ≡ 8) → ⊥ = eqb-false b 8 (is-false (eqb b 8) u) in
     rw (replica (b + 1) (omega arith) (omega (arith, f)), ne-eqb a (b + 1) (λ (g : a ≡ b + 1). omega arith))))
-    (λ t. let f : (b ≡ a) → ⊥ = eqb-false b a (is-false (eqb b a) t) in rw (replica b l h, ne-eqb a b (λ (g : a ≡ b). f (sym g))))
+    (λ t. let f : (b ≡ a) → ⊥ = eqb-false b a (is-false (eqb b a) t) in
+    rw (replica b l h, ne-eqb a b (λ (g : a ≡ b). f (sym g))))
 
 -- A record that was drawn: well formed, a step's, its value of 32 bits.
 abbrev Fine : Record → Type 0
@@ -54,7 +54,8 @@ module _ (n : ℕ) (low : 1 ≤ n) (high : n ≤ 15) where
   step = rw (ne-eqb n 0 (λ (e : n ≡ 0). omega arith))
 
   fine-none : boardless n ≡ true → Fine (bare n)
-  fine-none t = (rw (le-leb n 15 high, t, differs boardless n 9 t refl, differs boardless n 1 t refl), step, omega arith)
+  fine-none t =
+      (rw (le-leb n 15 high, t, differs boardless n 9 t refl, differs boardless n 1 t refl), step, omega arith)
 
   module _ (a : ℕ) (ra : isReplica a ≡ true) (f : boardless n ≡ false) where
     fine-both : (c : ℕ) → (isReplica c && not (eqb a c)) ≡ true → eqb n 9 ≡ true → Fine (ofBoth n a c)
@@ -84,7 +85,8 @@ fine s =
     by-cond FineDrawn (boardless n) (λ t. fine-none n low high (is-true (boardless n) t)) (λ t.
     let f = is-false (boardless n) t in
     by-cond FineDrawn (eqb n 9)
-    (λ u. fine-both n low high a (a-board s₂) f (another a b) (second a b (omega arith) (omega arith)) (is-true (eqb n 9) u))
+    (λ u. let o = second a b (omega arith) (omega arith) in
+    fine-both n low high a (a-board s₂) f (another a b) o (is-true (eqb n 9) u))
     (λ u. let g = is-false (eqb n 9) u in
     by-cond FineDrawn (eqb n 1)
     (λ w. fine-value n low high a (a-board s₂) f (draw s₃) (draw-small s₃) g (is-true (eqb n 1) w))
@@ -125,7 +127,8 @@ module _ (s k : ℕ) where
   unfolding seedRecords
   all-formed = rw (a-board (next s)) (every-later wellFormed (λ r f. f .0) k (next s))
 
-  rest : (p : Record → Bool) → ((r : Record) → Fine r → p r ≡ true) → every (map p (drop 1 (seedRecords s (suc k)))) ≡ true
+  rest : (p : Record → Bool) → ((r : Record) → Fine r → p r ≡ true)
+      → every (map p (drop 1 (seedRecords s (suc k)))) ≡ true
   unfolding seedRecords
   rest p f = every-later p f k (next s)
 

@@ -1,3 +1,4 @@
 pub mod Draws
 pub mod Seeded
 pub mod Made
+pub mod Trials

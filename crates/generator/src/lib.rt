@@ -1,16 +1,16 @@
-// Sheets from a seed: the draws, the records that are drawn, and the call behind the entry for the hub's firmware (crate
-// row) and the program `seedsheet`.
+// Sheets from a seed: the draws, the records that are drawn, and the call behind the entry for the hub's firmware
+// (crate row) and the program `seedsheet`.
 
 ghost use mathlib.Core.Path.{_≡_};
 ghost use Prim.Native.Nat.{_+_, _*_, _%_, _≤_};
 ghost use lib.ListN.{length};
 ghost use Rattle.model.specs.Records.{boardless};
-ghost use Rattle.records.specs.Record.{recordOf};
 ghost use Rattle.records.specs.Bytes.{sheetBytes};
 ghost use Rattle.text.specs.Text.{Wrote};
 ghost use Rattle.generator.specs.Draws.{next, draw, aStep, aBoard, another, drawn, drawRecord, later};
 ghost use Rattle.generator.specs.Made.{drawnOf};
 ghost use Rattle.generator.specs.Seeded.{result, left, SheetsWellMade};
+ghost use Rattle.generator.specs.Trials.{DrawsHold, StatesHold, BoardsHold, RecordsHold, CallHolds};
 use records::Record;
 
 // A record that was drawn, and the generator's state after it.
@@ -152,4 +152,9 @@ pub fn seed_sheet(seed: u32, count: usize, sheet: &mut [u8]) -> usize
 // What is claimed of every sheet that `seed_sheet` makes. By the definitions: nothing to run.
 pub fn claim()
     ensures { λ r. ⌜ SheetsWellMade ⌝ }
+{}
+
+// The definitions, tried: draws, states, boards, records and the call at its limits. Nothing to run.
+pub fn trials()
+    ensures { λ r. ⌜ DrawsHold × StatesHold × BoardsHold × RecordsHold × CallHolds ⌝ }
 {}

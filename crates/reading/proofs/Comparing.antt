@@ -13,12 +13,19 @@ use Rattle.reading.specs.Reading.{Same}
 pub differing : (a b : Text) → (a ≡ b → ⊥) → Same a b false
 differing a b h = record { alike = λ e. absurd (false≢true e); other = λ _. h }
 
-pub one-more : (a b : Text) (i : ℕ) → ((k : ℕ) → k < i → getD a k 0 ≡ getD b k 0) → getD a i 0 ≡ getD b i 0 → (k : ℕ) → k < i + 1 → getD a k 0 ≡ getD b k 0
+-- The first i bytes agree.
+abbrev pub Agree : Text → Text → ℕ → Type 0
+Agree a b i = (k : ℕ) → k < i → getD a k 0 ≡ getD b k 0
+
+pub one-more : (a b : Text) (i : ℕ) → Agree a b i → getD a i 0 ≡ getD b i 0 → Agree a b (i + 1)
 one-more a b i f e k h = go (eq-or-ne k i)
   where
     go : (k ≡ i) ⊎ (k ≡ i → ⊥) → getD a k 0 ≡ getD b k 0
     go (inl q) = subst (λ n. getD a n 0 ≡ getD b n 0) (sym q) e
     go (inr q) = f k (omega (arith, q))
 
-pub alike : (a b : Text) (i : ℕ) → length a ≡ length b → length a ≤ i → ((k : ℕ) → k < i → getD a k 0 ≡ getD b k 0) → Same a b true
-alike a b i l h f = record { alike = λ _. ext-getD 0 a b l (λ k q. f k (omega (arith, q))); other = λ e. absurd (true≢false e) }
+pub alike : (a b : Text) (i : ℕ) → length a ≡ length b → length a ≤ i → Agree a b i → Same a b true
+alike a b i l h f = record {
+  alike = λ _. ext-getD 0 a b l (λ k q. f k (omega (arith, q)));
+  other = λ e. absurd (true≢false e);
+}

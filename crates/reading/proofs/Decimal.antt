@@ -1,15 +1,15 @@
 -- The decimal digits of a number: what bytes they are, that they are read back, and that no two numbers have the same.
 -- Assumes nothing.
 use mathlib.Core.Bool.{Bool, true, false}
-use mathlib.Core.List.{[], _∷_, _++_, map, append-assoc}
+use mathlib.Core.List.{[], _∷_, _++_, map}
 use mathlib.Core.Path.{_≡_, refl, sym, ap, _∙_}
 use Prim.Native.Nat.{ℕ, zero, suc, _+_, _-_, _*_, _/_, _%_, _<_, _≤_}
 use native.Mathlib.Nat.{not-suc-le-zero}
 use native.Mathlib.Omega.{arith}
-use lib.Dec.{T, ltb, leb, leb→le, le→leb}
+use lib.Dec.{T, ltb, leb, le→leb}
 use borrow.Author.Tests.{ltb-true, ltb-false}
 use Rattle.model.specs.Ranges.{every}
-use Rattle.model.proofs.Tests.{split-and, join-and}
+use Rattle.model.proofs.Tests.{join-and}
 use Rattle.text.specs.Text.{Text, digits}
 use Rattle.text.proofs.Laws.{digits-one, digits-more}
 use Rattle.reading.specs.Reading.{isDigit, reads}

@@ -79,8 +79,8 @@ abbrev stop : Text
 stop = 10 ∷ []
 
 -- A number that stands at `from` and ends before a byte that is no digit is read back.
-pub number-in : {s : Text} {from v end : ℕ} (m : ℕ) (rest : Text) → T (stops isDigit rest) → drop from s ≡ digits m ++ rest
-    → NumberAt s from v end → (v ≡ m) × (end ≡ from + length (digits m))
+pub number-in : {s : Text} {from v end : ℕ} (m : ℕ) (rest : Text) → T (stops isDigit rest)
+    → drop from s ≡ digits m ++ rest → NumberAt s from v end → (v ≡ m) × (end ≡ from + length (digits m))
 number-in {s} {from} {v} {end} m rest t e q =
     let part = between s from end in
     let tail = drop (end - from) (drop from s) in
@@ -100,7 +100,8 @@ number-in {s} {from} {v} {end} m rest t e q =
     ends : (length s ≤ end) ⊎ (end < length s) → T (stops isDigit (drop end s ++ stop))
     ends (inl h) = subst (λ l. T (stops isDigit (l ++ stop))) (sym (drop-of-length-le s h)) tt
     ends (inr h) =
-        subst (λ l. T (stops isDigit (l ++ stop))) (sym (drop-cons s end 0 h)) (not-T (isDigit (getD s end 0)) (q .all h))
+        let t = not-T (isDigit (getD s end 0)) (q .all h) in
+        subst (λ l. T (stops isDigit (l ++ stop))) (sym (drop-cons s end 0 h)) t
 
     tail-stops : T (stops isDigit (drop (end - from) (drop from s) ++ stop))
     tail-stops = subst (λ l. T (stops isDigit (l ++ stop))) (sym tail-is) (ends (le-or-lt (length s) end))

@@ -84,8 +84,8 @@ prints-sheet {input} {d} {e} {r} {s} {n} a w = record {
 }
 
 -- and the refusal where there is none to read.
-pub prints-refusal : {input d e : Text} {r : ℕ} → ((s n : ℕ) → Asks input s n → ⊥) → Wrote d 0 (word "refused 2" ++ newline) e r
-    → Prints input d e r
+pub prints-refusal : {input d e : Text} {r : ℕ} → ((s n : ℕ) → Asks input s n → ⊥)
+    → Wrote d 0 (word "refused 2" ++ newline) e r → Prints input d e r
 prints-refusal f w = record { sheet = λ s n a. absurd (f s n a); refusal = λ _. w }
 
 -- What is printed stands in the slice.

@@ -1,6 +1,5 @@
 -- `generator::draw_record` meets its contract: a return for each form of a record. Assumes nothing.
-use mathlib.Core.Path.{_≡_, sym, _∙_}
-use native.Mathlib.Omega.{arith}
+use mathlib.Core.Path.{sym, _∙_}
 use borrow.Author.Needs.{needs}
 use borrow.Author.Tests.{eq-eqb, ne-eqb}
 use Rattle.generator.proofs.Drawing.{of-none, of-both, of-value, of-one}

@@ -47,7 +47,8 @@ abbrev start : tie.Else3 → tie.Start
 start c = c .before .before .before .before
 
 -- The opening was drawn.
-drawn : (c : tie.After-encode) → drawnOf (c .before .before .with-fields .result) ≡ opening (start (tested c) .args .seed)
+drawn : (c : tie.After-encode)
+    → drawnOf (c .before .before .with-fields .result) ≡ opening (start (tested c) .args .seed)
 drawn c =
     let w = c .before .before in
     w .with-fields .ensures
@@ -77,8 +78,8 @@ returns-4 c =
     let a = start t .args in
     let low = t .before .before .if1 .left in
     written (a .seed) (a .count) (now (a .sheet)) low (t .before .if2 .left) (t .if3 .left)
-    (all-written (a .seed) (a .count) (drawnOf (e .before .before .with-fields .result)) low (drawn e) (e .encode .ensures)
-    (c .before .before .put-later .ensures))
+    (all-written (a .seed) (a .count) (drawnOf (e .before .before .with-fields .result)) low (drawn e)
+    (e .encode .ensures) (c .before .before .put-later .ensures))
 
 pub seed-sheet-spec : {M : Type 1} → statement M
 seed-sheet-spec =

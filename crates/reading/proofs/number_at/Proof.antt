@@ -1,5 +1,5 @@
--- `reading::number_at` meets its contract. The loop's invariant: the bytes before i are digits, and v is the number that
--- they are. Assumes nothing.
+-- `reading::number_at` meets its contract. The loop's invariant: the bytes before i are digits, and v is the number
+-- that they are. Assumes nothing.
 use Prim.Native.Nat.{_-_, _^_, _<_}
 use native.Mathlib.Omega.{arith}
 use lib.ListN.{length}

@@ -1,17 +1,17 @@
 -- `reading::same` meets its contract. The loop's invariant: the first i bytes agree. Assumes nothing.
-use mathlib.Core.Path.{_≡_, ap}
-use Prim.Native.Nat.{ℕ, _-_, _<_, _≤_}
+use mathlib.Core.Path.{ap}
+use Prim.Native.Nat.{_-_, _≤_}
 use native.Mathlib.Nat.{not-suc-le-zero}
 use native.Mathlib.Omega.{arith}
 use lib.ListN.{length, getD}
 use denote.Ref.{now}
 use Rattle.text.specs.Text.{Text}
-use Rattle.reading.proofs.Comparing.{differing, one-more, alike}
+use Rattle.reading.proofs.Comparing.{Agree, differing, one-more, alike}
 use Rattle.reading.proofs.same.Statement.{statement}
 use Rattle.reading.proofs.same.Tie as tie
 
 abbrev Inv-loop : tie.InvT-loop
-Inv-loop a b i₀ i = (i ≤ length a) × ((k : ℕ) → k < i → getD a k 0 ≡ getD b k 0)
+Inv-loop a b i₀ i = (i ≤ length a) × Agree a b i
 
 abbrev μ-loop : tie.MeasureT-loop
 μ-loop a b i₀ i = length a - i
@@ -29,7 +29,9 @@ shared-slice-read-if2-2 : tie.Need-shared-slice-read-if2-2 Inv-loop μ-loop
 shared-slice-read-if2-2 c = omega arith
 
 returns-2 : tie.Need-returns-2 Inv-loop μ-loop
-returns-2 c = differing _ _ (λ e. c .if2 .taken (ap (λ (l : Text). getD l (c .before .before .before .before .loop .i) 0) e))
+returns-2 c =
+    let i = c .before .before .before .before .loop .i in
+    differing _ _ (λ e. c .if2 .taken (ap (λ (l : Text). getD l i 0) e))
 
 add-i : tie.Need-add-i Inv-loop μ-loop
 add-i c = omega arith
@@ -38,10 +40,14 @@ loop-less : tie.Need-loop-less Inv-loop μ-loop
 loop-less c = omega arith
 
 loop-again : tie.Need-loop-again Inv-loop μ-loop
-loop-again c = let l = c .before .before .before .before .loop in (omega arith, one-more (now (c .before .before .before .before .before .before .args .a)) (now (c .before .before .before .before .before .before .args .b)) (l .i) (l .inv .1) (c .if2 .left))
+loop-again c =
+    let l = c .before .before .before .before in
+    let a = l .before .before .args in
+    (omega arith, one-more (now (a .a)) (now (a .b)) (l .loop .i) (l .loop .inv .1) (c .if2 .left))
 
 returns-3 : tie.Need-returns-3 Inv-loop μ-loop
-returns-3 c = let l = c .before .loop in alike _ _ (l .i) (c .before .before .if1 .left) (c .loop-test .left) (l .inv .1)
+returns-3 c =
+    let l = c .before in alike _ _ (l .loop .i) (l .before .if1 .left) (c .loop-test .left) (l .loop .inv .1)
 
 pub same-spec : {M : Type 1} → statement M
 same-spec =

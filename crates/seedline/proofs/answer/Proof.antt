@@ -31,7 +31,8 @@ returns : tie.Need-returns
 returns c =
     let t = c .before .before .before .before .before in
     let r = t .before .before in
-    prints-refusal (subst (λ i. Read i (now (r .before .before .before .args .input))) (t .enum-told .given .1) (r .read .ensures))
+    let start = r .before .before .before in
+    prints-refusal (subst (λ i. Read i (now (start .args .input))) (t .enum-told .given .1) (r .read .ensures))
     (c .before .before .put-bytes .ensures)
 
 cast-seed-sheet : tie.Need-cast-seed-sheet
@@ -50,7 +51,8 @@ returns-2 c =
     let start = r .before .before .before in
     let a = subst (λ i. Read i (now (start .args .input))) (t .before .seed .given .1) (r .read .ensures) in
     prints-sheet a
-    (made _ _ (now (start .args .out)) (a .low) (a .high) (omega (arith, a .high, start .pre)) (c .before .before .seed-sheet .ensures))
+    (made _ _ (now (start .args .out)) (a .low) (a .high) (omega (arith, a .high, start .pre))
+    (c .before .before .seed-sheet .ensures))
 
 pub answer-spec : {M : Type 1} → statement M
 answer-spec =

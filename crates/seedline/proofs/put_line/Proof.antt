@@ -9,24 +9,48 @@ use Rattle.seedline.specs.Line.{seedLine}
 use Rattle.seedline.proofs.put_line.Statement.{statement}
 use Rattle.seedline.proofs.put_line.Tie as tie
 
+-- The ways back.
+abbrev start : tie.After-put-field → tie.Start
+start c = c .before .before .before
+
+abbrev field : tie.After-put-number → tie.After-put-field
+field c = c .before .before .before .before
+
+abbrev number : tie.After-put-byte → tie.After-put-number
+number c = c .before .before .before .before
+
 put-field-requires : tie.Need-put-field-requires
 unfolding seedLine
-put-field-requires c κs = let e = c .before .before in fits-both 0 (digits (e .args .seed)) space (digits (e .args .count) ++ newline) (e .pre)
+put-field-requires c κs =
+    let e = c .before .before in
+    fits-both 0 (digits (e .args .seed)) space (digits (e .args .count) ++ newline) (e .pre)
 
 -- The room after the seed and its space.
-room : (c : tie.After-put-field) → c .put-field .result + length (digits (c .before .before .before .args .count) ++ newline) ≤ length (c .put-field .last .0)
+room : (c : tie.After-put-field)
+    → c .put-field .result + length (digits (start c .args .count) ++ newline) ≤ length (c .put-field .last .0)
 unfolding seedLine
-room c = let e = c .before .before .before in rest-both (digits (e .args .seed)) space (digits (e .args .count) ++ newline) (c .put-field .ensures) (e .pre)
+room c =
+    let e = start c in
+    rest-both (digits (e .args .seed)) space (digits (e .args .count) ++ newline) (c .put-field .ensures) (e .pre)
 
 put-number-requires : tie.Need-put-number-requires
-put-number-requires c κs = fits _ (digits (c .before .before .before .before .before .before .args .count)) newline (room (c .before .before .before))
+put-number-requires c κs =
+    let f = c .before .before .before in fits _ (digits (start f .args .count)) newline (room f)
 
 put-byte-requires : tie.Need-put-byte-requires
-put-byte-requires c κs = byte _ (rest (digits (c .before .before .before .before .before .before .before .before .before .before .args .count)) newline (c .before .before .before .put-number .ensures) (room (c .before .before .before .before .before .before .before)))
+put-byte-requires c κs =
+    let n = c .before .before .before in
+    let f = field n in
+    byte _ (rest (digits (start f .args .count)) newline (n .put-number .ensures) (room f))
 
 returns : tie.Need-returns
 unfolding seedLine
-returns c = then-both (digits (c .before .before .before .before .before .before .before .before .before .before .before .before .before .args .seed)) space (c .before .before .before .before .before .before .before .before .before .before .put-field .ensures) (then (c .before .before .before .before .before .before .put-number .ensures) (c .before .before .put-byte .ensures))
+returns c =
+    let b = c .before .before in
+    let n = number b in
+    let f = field n in
+    then-both (digits (start f .args .seed)) space (f .put-field .ensures)
+    (then (n .put-number .ensures) (b .put-byte .ensures))
 
 same-length : tie.Need-same-length
 same-length c = wrote-length (returns c)

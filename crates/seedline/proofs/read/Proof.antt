@@ -1,14 +1,30 @@
 -- `seedline::read` meets its contract. Assumes nothing.
-use mathlib.Core.Path.{sym, _∙_}
-use Prim.Native.Nat.{_≤_}
+use mathlib.Core.Path.{_≡_, sym, _∙_}
+use Prim.Native.Nat.{_+_, _≤_}
 use native.Mathlib.Omega.{arith}
+use lib.ListN.{length, take}
 use lib.Seq.{length-take-le}
 use borrow.Author.Needs.{needs}
 use borrow.Author.Tests.{not-true, not-false}
 use Rattle.text.proofs.Laws.{wrote-length}
+use Rattle.seedline.specs.Line.{seedLine}
 use Rattle.seedline.proofs.Line.{line-most, line-short, first-number, second-number, read-back, line-back}
 use Rattle.seedline.proofs.read.Statement.{statement}
 use Rattle.seedline.proofs.read.Tie as tie
+
+-- From the tests back to the numbers that were read.
+abbrev first : tie.After-number-at2 → tie.After-number-at
+first c = c .before .before
+
+abbrev second : tie.Else5 → tie.After-number-at2
+second c = c .before .before .before
+
+-- From the comparison back to the line that was written.
+abbrev written : tie.After-same → tie.After-put-line
+written c = c .before .before .before
+
+abbrev tested : tie.After-put-line → tie.Else5
+tested c = c .before .before
 
 returns : tie.Need-returns
 returns c = λ m n a. omega (arith, line-short a, c .if1 .taken)
@@ -26,13 +42,20 @@ number-at-requires-2 : tie.Need-number-at-requires-2
 number-at-requires-2 c κs = search needs
 
 returns-3 : tie.Need-returns-3
-returns-3 c = λ m n a. omega (arith, first-number a (c .before .before .before .number-at .ensures) .0, a .seed, c .if3 .taken)
+returns-3 c =
+    λ m n a. omega (arith, first-number a (first (c .before) .number-at .ensures) .0, a .seed, c .if3 .taken)
 
 returns-4 : tie.Need-returns-4
-returns-4 c = λ m n a. omega (arith, second-number a (c .before .before .before .before .number-at .ensures) (c .before .before .number-at2 .ensures), a .low, c .if4 .taken)
+returns-4 c = λ m n a.
+    let r = c .before .before in
+    let e = second-number a (first r .number-at .ensures) (r .number-at2 .ensures) in
+    omega (arith, e, a .low, c .if4 .taken)
 
 returns-5 : tie.Need-returns-5
-returns-5 c = λ m n a. omega (arith, second-number a (c .before .before .before .before .before .number-at .ensures) (c .before .before .before .number-at2 .ensures), a .high, c .if5 .taken)
+returns-5 c = λ m n a.
+    let r = c .before .before .before in
+    let e = second-number a (first r .number-at .ensures) (r .number-at2 .ensures) in
+    omega (arith, e, a .high, c .if5 .taken)
 
 slice-aggregate-put-line : tie.Need-slice-aggregate-put-line
 slice-aggregate-put-line c = search needs
@@ -43,25 +66,44 @@ cast-put-line c = search needs
 cast-put-line-2 : tie.Need-cast-put-line-2
 cast-put-line-2 c = search needs
 
-put-line-requires : tie.Need-put-line-requires
-put-line-requires c κs = line-most (c .before .before .before .before .before .before .number-at .result .value) (c .before .before .before .before .number-at2 .result .value) (omega (arith, c .before .before .before .if3 .left)) (c .before .if5 .left)
+-- The line of what was read has room aside.
+most : (c : tie.Else5) → let r = second c in
+    0 + length (seedLine (first r .number-at .result .value) (r .number-at2 .result .value)) ≤ 16
+most c =
+    let r = second c in
+    line-most (first r .number-at .result .value) (r .number-at2 .result .value)
+    (omega (arith, c .before .before .if3 .left)) (c .if5 .left)
 
--- What was written aside fits there, and is the line of what was read.
+put-line-requires : tie.Need-put-line-requires
+put-line-requires c κs = most (c .before)
+
 short : (c : tie.After-put-line) → c .put-line .result ≤ 16
-short c = omega (arith, c .put-line .ensures .next, line-most (c .before .before .before .before .before .before .before .number-at .result .value) (c .before .before .before .before .before .number-at2 .result .value) (omega (arith, c .before .before .before .before .if3 .left)) (c .before .before .if5 .left))
+short c = omega (arith, c .put-line .ensures .next, most (tested c))
 
 array-share-prefix-line : tie.Need-array-share-prefix-line
-array-share-prefix-line c = omega (arith, short (c .before), wrote-length (c .before .put-line .ensures))
+array-share-prefix-line c =
+    let w = c .before in omega (arith, short w, wrote-length (w .put-line .ensures))
 
 slice-aggregate-same : tie.Need-slice-aggregate-same
-slice-aggregate-same c = sym (length-take-le _ _ (omega (arith, short (c .before .before), wrote-length (c .before .before .put-line .ensures))))
+slice-aggregate-same c =
+    let w = c .before .before in
+    sym (length-take-le _ _ (omega (arith, short w, wrote-length (w .put-line .ensures))))
 
 same-requires : tie.Need-same-requires
 same-requires c κs = search needs
 
+-- What stands aside is the line of what was read.
+aside : (c : tie.After-put-line) → let r = second (tested c) in
+    take (c .put-line .result) (c .put-line .last .0)
+    ≡ seedLine (first r .number-at .result .value) (r .number-at2 .result .value)
+aside c = read-back (c .put-line .ensures) (short c)
+
 returns-6 : tie.Need-returns-6
-returns-6 c =
-    λ m n a. c .before .same .ensures .other (not-true _ (c .if6 .taken)) (line-back a (c .before .before .before .before .before .before .before .before .before .before .before .number-at .ensures) (c .before .before .before .before .before .before .before .before .before .number-at2 .ensures) ∙ sym (read-back (c .before .before .before .before .put-line .ensures) (short (c .before .before .before .before))))
+returns-6 c = λ m n a.
+    let w = written (c .before) in
+    let r = second (tested w) in
+    let e = line-back a (first r .number-at .ensures) (r .number-at2 .ensures) in
+    c .before .same .ensures .other (not-true _ (c .if6 .taken)) (e ∙ sym (aside w))
 
 cast-t14 : tie.Need-cast-t14
 cast-t14 c = search needs
@@ -70,12 +112,15 @@ cast-t13 : tie.Need-cast-t13
 cast-t13 c = search needs
 
 returns-7 : tie.Need-returns-7
-returns-7 c = record {
-  line = c .before .same .ensures .alike (not-false _ (c .if6 .left)) ∙ read-back (c .before .before .before .before .put-line .ensures) (short (c .before .before .before .before));
-  seed = omega (arith, c .before .before .before .before .before .before .before .before .if3 .left);
-  low = c .before .before .before .before .before .before .before .if4 .left;
-  high = c .before .before .before .before .before .before .if5 .left;
-}
+returns-7 c =
+    let w = written (c .before) in
+    let t = tested w in
+    record {
+      line = c .before .same .ensures .alike (not-false _ (c .if6 .left)) ∙ aside w;
+      seed = omega (arith, t .before .before .if3 .left);
+      low = t .before .if4 .left;
+      high = t .if5 .left;
+    }
 
 pub read-spec : {M : Type 1} → statement M
 read-spec =
