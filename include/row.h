@@ -46,7 +46,7 @@ extern "C" {
 #define ROW_RECORD_LEN 8
 #define ROW_RECORDS_MAX 4095
 
-/* The length of a sheet of n records, 32,760 for the longest. It stands in #if too. */
+/* The bytes of a sheet of n records, 32,760 for the longest. It may be used in #if. */
 #define ROW_SHEET_LEN(n) (ROW_RECORD_LEN * (n))
 
 /* The steps, and the fields that each uses. */
@@ -150,29 +150,40 @@ enum row_answer {
 size_t run_sheet(const uint8_t *sheet, size_t sheet_len,
                  uint8_t *listing, size_t listing_len);
 
-/* The results of seed_sheet that are refusals. Every sheet has 8 bytes or more. */
+/*
+ * The results of seed_sheet that are refusals. Every sheet has ROW_RECORD_LEN
+ * bytes or more, so a smaller result is a refusal.
+ */
 #define ROW_BAD_COUNT 2   /* the count is not 1 to ROW_RECORDS_MAX */
-#define ROW_SHORT_SHEET 3 /* the sheet slice is shorter than the sheet */
+#define ROW_SHORT_SLICE 3 /* the sheet slice is shorter than the sheet */
 
 /*
- * Makes the sheet of a seed: the same bytes for the same seed and count, on every
- * machine. It is for benches: all its records are well formed, and which steps
- * come, and on which boards, is drawn, so many of them will be refused.
+ * Makes the sheet of a seed, for benches: the same bytes for the same seed and
+ * count on every machine, those that the program seedsheet writes. A smaller
+ * count gives the first records of the same sheet. docs/FORMATS.md has the rule.
  *
- *   seed       any 32 bits
- *   count      how many records, the opening included
- *   sheet      where the sheet goes
- *   sheet_len  the length of that slice in bytes
+ *   seed        any 32 bits
+ *   count       how many records, the opening included: 1 to ROW_RECORDS_MAX
+ *   sheet       where the sheet goes
+ *   sheet_room  the length of that slice in bytes
  *
  * Returns the sheet's length in bytes, which is ROW_SHEET_LEN(count), or
- * ROW_BAD_COUNT, or, for a count that is not refused so, ROW_SHORT_SHEET. run_sheet
- * never gives ROW_BAD_SHEET for a sheet made here.
+ * ROW_BAD_COUNT, or, for a count that is not refused so, ROW_SHORT_SLICE.
  *
- * Both refusals leave the slice untouched. Bytes of it past the end of a sheet keep
- * their values. The pointer may not be null, even where the length is 0.
+ * Both refusals leave the slice untouched. Bytes of it past the end of a sheet
+ * keep their values. The pointer may not be null, even where the length is 0.
+ *
+ *     uint8_t sheet[ROW_SHEET_LEN(100)];
+ *     size_t len = seed_sheet(7, 100, sheet, sizeof sheet);
+ *     if (len >= ROW_RECORD_LEN)
+ *         run_sheet(sheet, len, listing, sizeof listing);
+ *
+ * run_sheet never gives ROW_BAD_SHEET for such a sheet. Steps, boards and values
+ * are drawn, so in the listing most records are not ROW_ACCEPTED; none is
+ * ROW_REFUSED_FIELD. The draws are no source of secrets.
  */
 size_t seed_sheet(uint32_t seed, size_t count,
-                  uint8_t *sheet, size_t sheet_len);
+                  uint8_t *sheet, size_t sheet_room);
 
 #ifdef __cplusplus
 }

@@ -13,11 +13,11 @@ use Rattle.text.specs.Text.{Text, Wrote, over}
 use Rattle.text.proofs.Laws.{over-none, over-append}
 use Rattle.records.specs.Bytes.{recordBytes, sheetBytes}
 use Rattle.records.proofs.Encoding.{sheet-length}
-use Rattle.generator.specs.Draws.{next, folded, draw, aStep, aBoard, another, Drawn, drawn, drawRecord, later}
+use Rattle.generator.specs.Draws.{advance, draw, stepFrom, boardFrom, secondBoard, Drawn, drawn, drawRecord, later}
 
 -- Of what is shifted left the low 32 bits are kept before the exclusive-or, as well as after it.
-pub low-first : (s : ℕ) → s < 2 ^ 32 → bitXor (folded s) (folded s * 2 ^ 7 % 2 ^ 32) ≡ draw s
-unfolding draw folded
+pub low-first : (s : ℕ) → s < 2 ^ 32 → let t = bitXor s (s / 2 ^ 16) in bitXor t (t * 2 ^ 7 % 2 ^ 32) ≡ draw s
+unfolding draw
 low-first s h =
     let t = bitXor s (s / 2 ^ 16) in
     let l : t < 2 ^ 32 = xor-lt 32 s (s / 2 ^ 16) h (omega arith) in
@@ -29,18 +29,18 @@ draw-small s = omega arith
 
 -- The four forms of a record
 
-module _ (s : ℕ) {s₁ n : ℕ} (e₁ : s₁ ≡ next s) (en : n ≡ aStep s₁) where
+module _ (s : ℕ) {s₁ n : ℕ} (e₁ : s₁ ≡ advance s) (en : n ≡ stepFrom s₁) where
   pub of-none : boardless n ≡ true → drawn (bare n) s₁ ≡ drawRecord s
   unfolding drawRecord
   of-none t = sym (rw (sym e₁, sym en, t))
 
-  module _ {s₂ a : ℕ} (e₂ : s₂ ≡ next s₁) (ea : a ≡ aBoard s₂) (f : boardless n ≡ false) where
-    pub of-both : {s₃ b c : ℕ} → s₃ ≡ next s₂ → b ≡ aBoard s₃ → c ≡ another a b → eqb n 9 ≡ true
+  module _ {s₂ a : ℕ} (e₂ : s₂ ≡ advance s₁) (ea : a ≡ boardFrom s₂) (f : boardless n ≡ false) where
+    pub of-both : {s₃ b c : ℕ} → s₃ ≡ advance s₂ → b ≡ boardFrom s₃ → c ≡ secondBoard a b → eqb n 9 ≡ true
         → drawn (ofBoth n a c) s₃ ≡ drawRecord s
     unfolding drawRecord
     of-both e₃ eb ec t = sym (rw (sym e₁, sym en, f, t, sym e₂, sym ea, sym e₃, sym eb, sym ec))
 
-    pub of-value : {s₃ v : ℕ} → s₃ ≡ next s₂ → v ≡ draw s₃ → eqb n 9 ≡ false → eqb n 1 ≡ true
+    pub of-value : {s₃ v : ℕ} → s₃ ≡ advance s₂ → v ≡ draw s₃ → eqb n 9 ≡ false → eqb n 1 ≡ true
         → drawn (ofValue n a v) s₃ ≡ drawRecord s
     unfolding drawRecord
     of-value e₃ ev g t = sym (rw (sym e₁, sym en, f, g, t, sym e₂, sym ea, sym e₃, sym ev))

@@ -11,14 +11,14 @@ use Rattle.text.specs.Text.{Text, Wrote, over}
 use Rattle.text.proofs.Laws.{then}
 use Rattle.records.specs.Bytes.{recordBytes, sheetBytes}
 use Rattle.records.proofs.Encoding.{sheet-length}
-use Rattle.generator.specs.Draws.{next, aBoard, Drawn, drawn, later, seedRecords}
+use Rattle.generator.specs.Draws.{advance, boardFrom, Drawn, drawn, later, seedRecords}
 use Rattle.generator.specs.Seeded.{seedSheet, result, left}
 use Rattle.generator.proofs.Drawing.{later-length}
 
 pub seed-length : (s n : ℕ) → length (seedRecords s n) ≡ n
 unfolding seedRecords
 seed-length s zero = refl
-seed-length s (suc k) = omega (arith, later-length k (next s))
+seed-length s (suc k) = omega (arith, later-length k (advance s))
 
 pub sheet-bytes : (s n : ℕ) → length (seedSheet s n) ≡ 8 * n
 unfolding seedSheet
@@ -26,16 +26,16 @@ sheet-bytes s n = sheet-length (seedRecords s n) ∙ rw (seed-length s n)
 
 -- The opening's bytes, then those of the other records.
 pub opening-first : (s n : ℕ) → 1 ≤ n
-    → seedSheet s n ≡ recordBytes (of 0 (aBoard (next s))) ++ sheetBytes (later (n - 1) (next s))
+    → seedSheet s n ≡ recordBytes (of 0 (boardFrom (advance s))) ++ sheetBytes (later (n - 1) (advance s))
 unfolding seedSheet seedRecords sheetBytes
 opening-first s zero h = absurd (not-suc-le-zero h)
 opening-first s (suc k) h = let e : suc k - 1 ≡ k = omega arith in rw e
 
 -- The opening as it is drawn, and the state after it.
 abbrev pub opening : ℕ → Drawn
-opening s = drawn (of 0 (aBoard (next s))) (next s)
+opening s = drawn (of 0 (boardFrom (advance s))) (advance s)
 
-pub opening-drawn : (s : ℕ) {t b : ℕ} → t ≡ next s → b ≡ aBoard t → drawn (of 0 b) t ≡ opening s
+pub opening-drawn : (s : ℕ) {t b : ℕ} → t ≡ advance s → b ≡ boardFrom t → drawn (of 0 b) t ≡ opening s
 opening-drawn s e f = rw (f, e)
 
 -- The opening is written, then the other records.
@@ -70,7 +70,7 @@ module _ (s n : ℕ) (out : Text) where
 
       module _ (room : 8 * n ≤ length out) where
         -- The tests are passed.
-        passed : (result s n out ≡ 8 * n) × (left s n out ≡ over out 0 (seedSheet s n))
+        pub passed : (result s n out ≡ 8 * n) × (left s n out ≡ over out 0 (seedSheet s n))
         unfolding result left
         passed =
             let f = le-leb (8 * n) (length out) room in (

@@ -1,4 +1,4 @@
 pub mod Draws
 pub mod Seeded
-pub mod Made
+pub mod Drawn
 pub mod Trials

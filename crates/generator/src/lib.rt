@@ -7,21 +7,21 @@ ghost use lib.ListN.{length};
 ghost use Rattle.model.specs.Records.{boardless};
 ghost use Rattle.records.specs.Bytes.{sheetBytes};
 ghost use Rattle.text.specs.Text.{Wrote};
-ghost use Rattle.generator.specs.Draws.{next, draw, aStep, aBoard, another, drawn, drawRecord, later};
-ghost use Rattle.generator.specs.Made.{drawnOf};
+ghost use Rattle.generator.specs.Draws.{advance, draw, stepFrom, boardFrom, secondBoard, drawn, drawRecord, later};
+ghost use Rattle.generator.specs.Drawn.{drawnOf};
 ghost use Rattle.generator.specs.Seeded.{result, left, SheetsWellMade};
-ghost use Rattle.generator.specs.Trials.{DrawsHold, StatesHold, BoardsHold, RecordsHold, CallHolds};
+ghost use Rattle.generator.specs.Trials.{DrawsHold, StatesHold, BoardsHold, RecordsHold, CountsHold, LongestHolds, SlicesHold};
 use records::Record;
 
-// A record that was drawn, and the generator's state after it.
+// A record that was drawn, and the state of its last draw.
 pub struct Drawn {
     pub made: Record,
     pub state: u32,
 }
 
-// The state of the next draw.
-fn next(s: u32) -> u32
-    ensures { λ r. ⌜ r ≡ next s ⌝ }
+// The state of the draw after the one in s.
+fn advance(s: u32) -> u32
+    ensures { λ r. ⌜ r ≡ advance s ⌝ }
 {
     std::num::wrapping_add_u32(s, 2654435769)
 }
@@ -35,23 +35,23 @@ fn draw(s: u32) -> u32
 }
 
 // A step, drawn in the state s.
-fn a_step(s: u32) -> u8
-    ensures { λ r. ⌜ r ≡ aStep s ⌝ }
+fn step_from(s: u32) -> u8
+    ensures { λ r. ⌜ r ≡ stepFrom s ⌝ }
 {
     1 + (draw(s) % 15) as u8
 }
 
 // A board, drawn in the state s.
-fn a_board(s: u32) -> u8
-    ensures { λ r. ⌜ r ≡ aBoard s ⌝ }
+fn board_from(s: u32) -> u8
+    ensures { λ r. ⌜ r ≡ boardFrom s ⌝ }
 {
     1 + (draw(s) % 8) as u8
 }
 
 // The second board: b, or the next number where b is the first board a.
-fn another(a: u8, b: u8) -> u8
+fn second_board(a: u8, b: u8) -> u8
     requires { ⌜ b ≤ 8 ⌝ }
-    ensures { λ r. ⌜ r ≡ another a b ⌝ }
+    ensures { λ r. ⌜ r ≡ secondBoard a b ⌝ }
 {
     if b != a {
         return b;
@@ -69,7 +69,7 @@ fn boardless(n: u8) -> bool
     (n == 5) | (n == 10) | (n == 11) | (n == 13)
 }
 
-// A record with these fields, and the state after it.
+// A record with these fields, and the state of its last draw.
 fn with_fields(n: u8, a: u8, b: u8, v: u32, s: u32) -> Drawn
     ensures { λ r. ⌜ drawnOf r ≡ drawn (record { step = n; board = a; other = b; spare = 0; value = v }) s ⌝ }
 {
@@ -85,32 +85,33 @@ fn with_fields(n: u8, a: u8, b: u8, v: u32, s: u32) -> Drawn
     }
 }
 
-// Draws a record after the opening, in the state s. A field that the step does not use is 0 and takes no draw.
+// Draws a record after the opening; s is the state of the draw before it. A field that the step does not use is 0 and
+// takes no draw.
 fn draw_record(s: u32) -> Drawn
     ensures { λ r. ⌜ drawnOf r ≡ drawRecord s ⌝ }
 {
-    let s1 = next(s);
-    let n = a_step(s1);
+    let s1 = advance(s);
+    let n = step_from(s1);
     if boardless(n) {
         return with_fields(n, 0, 0, 0, s1);
     }
-    let s2 = next(s1);
-    let a = a_board(s2);
+    let s2 = advance(s1);
+    let a = board_from(s2);
     if n == 9 {
-        let s3 = next(s2);
-        let b = a_board(s3);
-        let c = another(a, b);
+        let s3 = advance(s2);
+        let b = board_from(s3);
+        let c = second_board(a, b);
         return with_fields(n, a, c, 0, s3);
     }
     if n == 1 {
-        let s3 = next(s2);
+        let s3 = advance(s2);
         let v = draw(s3);
         return with_fields(n, a, 0, v, s3);
     }
     with_fields(n, a, 0, 0, s2)
 }
 
-// Draws k records from the state s on and writes them from place at on. Inner layer: callers see to the room.
+// Draws k records, s being the state of the draw before them, and writes them from place at on.
 fn put_later(out: &mut [u8], at: usize, s: u32, k: usize) -> usize
     requires { ⌜ at + 8 * k ≤ length (now out) ⌝ }
     ensures { λ r. ⌜ Wrote (now (out .entry)) at (sheetBytes (later k s)) (now (out .exit)) r ⌝ }
@@ -127,8 +128,9 @@ fn put_later(out: &mut [u8], at: usize, s: u32, k: usize) -> usize
     p
 }
 
-// The sheet of a seed and a count of records, the opening included. It returns the sheet's length, 2 for a count
-// outside 1 to 4,095, then 3 for a slice that is shorter than the sheet.
+// Writes the sheet of a seed and a count of records, the opening included. It returns the sheet's length; 2 for a count
+// outside 1 to 4,095, then 3 for a slice that is shorter than the sheet: both leave the slice untouched. Bytes past the
+// sheet keep their values.
 pub fn seed_sheet(seed: u32, count: usize, sheet: &mut [u8]) -> usize
     ensures { λ r. ⌜ (r ≡ result seed count (now (sheet .entry)))
         × (now (sheet .exit) ≡ left seed count (now (sheet .entry))) ⌝ }
@@ -142,8 +144,8 @@ pub fn seed_sheet(seed: u32, count: usize, sheet: &mut [u8]) -> usize
     if sheet.len() < 8 * count {
         return 3;
     }
-    let s = next(seed);
-    let b = a_board(s);
+    let s = advance(seed);
+    let b = board_from(s);
     let d = with_fields(0, b, 0, 0, s);
     let at = records::encode(&mut *sheet, 0, d.made);
     put_later(&mut *sheet, at, d.state, count - 1)
@@ -154,7 +156,7 @@ pub fn claim()
     ensures { λ r. ⌜ SheetsWellMade ⌝ }
 {}
 
-// The definitions, tried: draws, states, boards, records and the call at its limits. Nothing to run.
+// The definitions, tried: draws, states, boards, records, and the call at its limits. Nothing to run.
 pub fn trials()
-    ensures { λ r. ⌜ DrawsHold × StatesHold × BoardsHold × RecordsHold × CallHolds ⌝ }
+    ensures { λ r. ⌜ DrawsHold × StatesHold × BoardsHold × RecordsHold × CountsHold × LongestHolds × SlicesHold ⌝ }
 {}

@@ -1,4 +1,2 @@
-pub mod Cut
 pub mod Decimal
 pub mod Reading
-pub mod Comparing

@@ -1,8 +1,11 @@
 // Reading a line: a number within a text, and whether two texts are the same.
 
-ghost use Prim.Native.Nat.{_≤_};
+ghost use mathlib.Core.Logic.{_↔_};
+ghost use mathlib.Core.Path.{_≡_};
+ghost use Prim.Native.Nat.{_+_, _≤_};
+ghost use lib.Dec.{T};
 ghost use lib.ListN.{length};
-ghost use Rattle.reading.specs.Reading.{NumberAt, Same};
+ghost use Rattle.reading.specs.Reading.{digitsAt, reads};
 
 // A number, and the place after its digits.
 pub struct Number {
@@ -10,14 +13,15 @@ pub struct Number {
     pub end: usize,
 }
 
-// The number whose digits stand from place `from` on, as far as there are digits; 0 where there are none. Inner layer:
-// callers see to it that the text is so short that its numbers fit.
-pub fn number_at(s: &[u8], from: usize) -> Number
-    requires { ⌜ (from ≤ length (now s)) × (length (now s) ≤ 16) ⌝ }
-    ensures { λ r. ⌜ NumberAt (now (s .entry)) from (r .value) (r .end) ⌝ }
+// The number whose digits stand from place `at` on; 0 where there are none. Inner layer: callers see to it that the
+// text is so short that its numbers fit.
+pub fn number_at(s: &[u8], at: usize) -> Number
+    requires { ⌜ (at ≤ length (now s)) × (length (now s) ≤ 16) ⌝ }
+    ensures { λ r. ⌜ (r .value ≡ reads 0 (digitsAt (now (s .entry)) at))
+        × (r .end ≡ at + length (digitsAt (now (s .entry)) at)) ⌝ }
 {
     let mut v: u64 = 0;
-    let mut i = from;
+    let mut i = at;
     while i < s.len() {
         let b = s[i];
         if b < 48 {
@@ -34,7 +38,7 @@ pub fn number_at(s: &[u8], from: usize) -> Number
 
 // Whether two texts are the same.
 pub fn same(a: &[u8], b: &[u8]) -> bool
-    ensures { λ r. ⌜ Same (now (a .entry)) (now (b .entry)) r ⌝ }
+    ensures { λ r. ⌜ T r ↔ (now (a .entry) ≡ now (b .entry)) ⌝ }
 {
     if a.len() != b.len() {
         return false;

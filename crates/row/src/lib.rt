@@ -2,21 +2,21 @@
 // crate alone. Each is one call of a proved function, with the same promise. include/row.h declares them.
 
 ghost use mathlib.Core.Path.{_≡_};
-ghost use Rattle.sheet.specs.Sheet.{result, left};
+ghost use Rattle.sheet.specs.Sheet as Sheet;
 ghost use Rattle.generator.specs.Seeded as Seeded;
 
 // Sheet in, listing out: the listing's length, 2 for a sheet of wrong length or without a valid opening, 3 for a slice
 // that is shorter than the listing.
 #[no_mangle]
 pub extern "C" fn run_sheet(sheet: &[u8], listing: &mut [u8]) -> usize
-    ensures { λ r. ⌜ (r ≡ result (now (sheet .entry)) (now (listing .entry)))
-        × (now (listing .exit) ≡ left (now (sheet .entry)) (now (listing .entry))) ⌝ }
+    ensures { λ r. ⌜ (r ≡ Sheet.result (now (sheet .entry)) (now (listing .entry)))
+        × (now (listing .exit) ≡ Sheet.left (now (sheet .entry)) (now (listing .entry))) ⌝ }
 {
     sheet::run_sheet(sheet, &mut *listing)
 }
 
-// The sheet of a seed and a count of records, the opening included: the sheet's length, 2 for a count outside 1 to
-// 4,095, then 3 for a slice that is shorter than the sheet.
+// Writes the sheet of a seed and a count of records, the opening included: the sheet's length, 2 for a count outside 1
+// to 4,095, then 3 for a slice that is shorter than the sheet; both leave the slice untouched.
 #[no_mangle]
 pub extern "C" fn seed_sheet(seed: u32, count: usize, sheet: &mut [u8]) -> usize
     ensures { λ r. ⌜ (r ≡ Seeded.result seed count (now (sheet .entry)))

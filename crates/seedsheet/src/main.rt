@@ -2,8 +2,8 @@
 use libc::STDIN_FILENO;
 use libc::STDOUT_FILENO;
 
-// The longest good line has 16 bytes (`seedline::claim`): of a longer input one byte more is read, so that it is seen
-// to be too long. The longest sheet has 32,760 bytes.
+// 17 bytes of the input show what it asks for (`LinesSeen`, seedline::claim): no good line is longer than 16, and one
+// byte more shows that an input is too long. The longest sheet has 32,760 bytes.
 fn main() {
     let mut line = [0u8; 17];
     let mut out = [0u8; 32760];

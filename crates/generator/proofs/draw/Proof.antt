@@ -1,12 +1,10 @@
 -- `generator::draw` meets its contract. Assumes nothing.
 use native.Mathlib.Omega.{arith}
-use Rattle.generator.specs.Draws.{folded}
 use Rattle.generator.proofs.Drawing.{low-first}
 use Rattle.generator.proofs.draw.Statement.{statement}
 use Rattle.generator.proofs.draw.Tie as tie
 
 returns : tie.Need-returns
-unfolding folded
 returns c = low-first (c .args .s) (omega arith)
 
 pub draw-spec : {M : Type 1} → statement M

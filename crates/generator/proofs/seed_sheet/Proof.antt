@@ -6,7 +6,7 @@ use borrow.Author.Needs.{needs}
 use Rattle.records.specs.Record.{recordOf}
 use Rattle.records.proofs.Encoding.{bytes-length}
 use Rattle.text.proofs.Laws.{wrote-length}
-use Rattle.generator.specs.Made.{drawnOf}
+use Rattle.generator.specs.Drawn.{drawnOf}
 use Rattle.generator.proofs.Sheets.{opening, opening-drawn, all-written, none, too-many, short, written}
 use Rattle.generator.proofs.seed_sheet.Statement.{statement}
 use Rattle.generator.proofs.seed_sheet.Tie as tie
@@ -27,11 +27,11 @@ returns-3 c =
     let a = c .before .before .before .before .args in
     short (a .seed) (a .count) (now (a .sheet)) (c .before .before .if1 .left) (c .before .if2 .left) (c .if3 .taken)
 
-next-requires : tie.Need-next-requires
-next-requires c κs = search needs
+advance-requires : tie.Need-advance-requires
+advance-requires c κs = search needs
 
-a-board-requires : tie.Need-a-board-requires
-a-board-requires c κs = search needs
+board-from-requires : tie.Need-board-from-requires
+board-from-requires c κs = search needs
 
 with-fields-requires : tie.Need-with-fields-requires
 with-fields-requires c κs = search needs
@@ -52,7 +52,8 @@ drawn : (c : tie.After-encode)
 drawn c =
     let w = c .before .before in
     w .with-fields .ensures
-    ∙ opening-drawn (start (tested c) .args .seed) (w .before .before .next .ensures) (w .before .a-board .ensures)
+    ∙ opening-drawn (start (tested c) .args .seed) (w .before .before .advance .ensures)
+    (w .before .board-from .ensures)
 
 put-later-requires : tie.Need-put-later-requires
 put-later-requires c κs =
@@ -89,8 +90,8 @@ seed-sheet-spec =
     returns-2
     mul-if3
     returns-3
-    next-requires
-    a-board-requires
+    advance-requires
+    board-from-requires
     with-fields-requires
     encode-requires
     put-later-requires

@@ -1,5 +1,5 @@
--- `reading::number_at` meets its contract. The loop's invariant: the bytes before i are digits, and v is the number
--- that they are. Assumes nothing.
+-- `reading::number_at` meets its contract. The loop's invariant: what was read, with the digits that are left, is the
+-- number (`Sofar`). Assumes nothing.
 use Prim.Native.Nat.{_-_, _^_, _<_}
 use native.Mathlib.Omega.{arith}
 use lib.ListN.{length}
@@ -8,10 +8,10 @@ use Rattle.reading.proofs.number_at.Statement.{statement}
 use Rattle.reading.proofs.number_at.Tie as tie
 
 abbrev Inv-loop : tie.InvT-loop
-Inv-loop s from v₀ i₀ v i = Sofar s from v i
+Inv-loop s at v₀ i₀ v i = Sofar s at v i
 
 abbrev μ-loop : tie.MeasureT-loop
-μ-loop s from v₀ i₀ v i = length s - i
+μ-loop s at v₀ i₀ v i = length s - i
 
 loop-holds : tie.Need-loop-holds Inv-loop μ-loop
 loop-holds c = begin _ _ (c .pre .0)

@@ -6,7 +6,7 @@ use native.Mathlib.Omega.{arith}
 use lib.ListN.{length, getD}
 use denote.Ref.{now}
 use Rattle.text.specs.Text.{Text}
-use Rattle.reading.proofs.Comparing.{Agree, differing, one-more, alike}
+use Rattle.reading.proofs.Reading.{Agree, one-more, all-agree}
 use Rattle.reading.proofs.same.Statement.{statement}
 use Rattle.reading.proofs.same.Tie as tie
 
@@ -17,7 +17,7 @@ abbrev μ-loop : tie.MeasureT-loop
 μ-loop a b i₀ i = length a - i
 
 returns : tie.Need-returns Inv-loop μ-loop
-returns c = differing _ _ (λ e. c .if1 .taken (ap length e))
+returns c = (λ t. absurd t, λ e. c .if1 .taken (ap length e))
 
 loop-holds : tie.Need-loop-holds Inv-loop μ-loop
 loop-holds c = (omega arith, λ k h. absurd (not-suc-le-zero h))
@@ -31,7 +31,7 @@ shared-slice-read-if2-2 c = omega arith
 returns-2 : tie.Need-returns-2 Inv-loop μ-loop
 returns-2 c =
     let i = c .before .before .before .before .loop .i in
-    differing _ _ (λ e. c .if2 .taken (ap (λ (l : Text). getD l i 0) e))
+    (λ t. absurd t, λ e. c .if2 .taken (ap (λ (l : Text). getD l i 0) e))
 
 add-i : tie.Need-add-i Inv-loop μ-loop
 add-i c = omega arith
@@ -47,7 +47,8 @@ loop-again c =
 
 returns-3 : tie.Need-returns-3 Inv-loop μ-loop
 returns-3 c =
-    let l = c .before in alike _ _ (l .loop .i) (l .before .if1 .left) (c .loop-test .left) (l .loop .inv .1)
+    let l = c .before in
+    (λ _. all-agree _ _ (l .loop .i) (l .before .if1 .left) (c .loop-test .left) (l .loop .inv .1), λ _. tt)
 
 pub same-spec : {M : Type 1} → statement M
 same-spec =

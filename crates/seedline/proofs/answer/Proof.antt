@@ -5,7 +5,7 @@ use denote.Ref.{now}
 use borrow.Author.Needs.{needs}
 use Rattle.generator.proofs.Sheets.{made}
 use Rattle.seedline.specs.Line.{Read}
-use Rattle.seedline.proofs.Line.{prints-sheet, prints-refusal}
+use Rattle.seedline.proofs.Line.{count-range, prints-sheet, prints-refusal}
 use Rattle.seedline.proofs.answer.Statement.{statement}
 use Rattle.seedline.proofs.answer.Tie as tie
 
@@ -50,8 +50,12 @@ returns-2 c =
     let r = t .before .before .before in
     let start = r .before .before .before in
     let a = subst (λ i. Read i (now (start .args .input))) (t .before .seed .given .1) (r .read .ensures) in
+    let v = t .before .seed .given .0 in
+    let s = v .0 in
+    let n = v .1 .0 in
+    let q = count-range n (a .count) in
     prints-sheet a
-    (made _ _ (now (start .args .out)) (a .low) (a .high) (omega (arith, a .high, start .pre))
+    (made s n (now (start .args .out)) (q .0) (q .1) (omega (arith, q .1, start .pre))
     (c .before .before .seed-sheet .ensures))
 
 pub answer-spec : {M : Type 1} → statement M

@@ -1,6 +1,7 @@
 -- `seedline::put_line` meets its contract. Assumes nothing.
 use mathlib.Core.List.{_++_}
 use Prim.Native.Nat.{_+_, _≤_}
+use native.Mathlib.Omega.{arith}
 use lib.ListN.{length}
 use Rattle.text.specs.Text.{digits}
 use Rattle.text.proofs.Laws.{fits, fits-both, byte, rest, rest-both, then, then-both, wrote-length}
@@ -23,7 +24,7 @@ put-field-requires : tie.Need-put-field-requires
 unfolding seedLine
 put-field-requires c κs =
     let e = c .before .before in
-    fits-both 0 (digits (e .args .seed)) space (digits (e .args .count) ++ newline) (e .pre)
+    fits-both 0 (digits (e .args .seed)) space (digits (e .args .count) ++ newline) (omega (arith, e .pre))
 
 -- The room after the seed and its space.
 room : (c : tie.After-put-field)
@@ -31,7 +32,8 @@ room : (c : tie.After-put-field)
 unfolding seedLine
 room c =
     let e = start c in
-    rest-both (digits (e .args .seed)) space (digits (e .args .count) ++ newline) (c .put-field .ensures) (e .pre)
+    rest-both (digits (e .args .seed)) space (digits (e .args .count) ++ newline) (c .put-field .ensures)
+    (omega (arith, e .pre))
 
 put-number-requires : tie.Need-put-number-requires
 put-number-requires c κs =

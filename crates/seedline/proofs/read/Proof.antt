@@ -1,20 +1,27 @@
 -- `seedline::read` meets its contract. Assumes nothing.
-use mathlib.Core.Path.{_≡_, sym, _∙_}
-use Prim.Native.Nat.{_+_, _≤_}
+use mathlib.Core.Path.{_≡_, sym, subst, _∙_}
+use Prim.Native.Nat.{ℕ, _≤_}
 use native.Mathlib.Omega.{arith}
+use lib.Dec.{T}
 use lib.ListN.{length, take}
 use lib.Seq.{length-take-le}
+use denote.Ref.{now}
 use borrow.Author.Needs.{needs}
 use borrow.Author.Tests.{not-true, not-false}
+use Rattle.model.proofs.Tests.{of-true}
 use Rattle.text.proofs.Laws.{wrote-length}
-use Rattle.seedline.specs.Line.{seedLine}
-use Rattle.seedline.proofs.Line.{line-most, line-short, first-number, second-number, read-back, line-back}
+use Rattle.reading.specs.Reading.{digitsAt}
+use Rattle.seedline.specs.Line.{seedLine, Asks}
+use Rattle.seedline.proofs.Line.{is-count, count-range, line-most, line-short, seed-within, seed-back, count-back, line-back, read-back}
 use Rattle.seedline.proofs.read.Statement.{statement}
 use Rattle.seedline.proofs.read.Tie as tie
 
 -- From the tests back to the numbers that were read.
 abbrev first : tie.After-number-at2 → tie.After-number-at
 first c = c .before .before
+
+abbrev start : tie.After-number-at → tie.Start
+start c = c .before .before .before
 
 abbrev second : tie.Else5 → tie.After-number-at2
 second c = c .before .before .before
@@ -32,8 +39,12 @@ returns c = λ m n a. omega (arith, line-short a, c .if1 .taken)
 number-at-requires : tie.Need-number-at-requires
 number-at-requires c κs = search needs
 
+-- Where the seed ends.
+end-of : (c : tie.After-number-at) → c .number-at .result .end ≡ length (digitsAt (now (start c .args .input)) 0)
+end-of c = omega (arith, c .number-at .ensures .1)
+
 returns-2 : tie.Need-returns-2
-returns-2 c = λ m n a. omega (arith, first-number a (c .before .number-at .ensures) .2, c .if2 .taken)
+returns-2 c = λ m n a. omega (arith, seed-within a _ (end-of (c .before)), c .if2 .taken)
 
 add-number-at : tie.Need-add-number-at
 add-number-at c = search needs
@@ -41,21 +52,26 @@ add-number-at c = search needs
 number-at-requires-2 : tie.Need-number-at-requires-2
 number-at-requires-2 c κs = search needs
 
+-- The numbers of an input that asks for a sheet.
+module _ (c : tie.After-number-at2) {m n : ℕ} (a : Asks (now (start (first c) .args .input)) m n) where
+  seed-is : first c .number-at .result .value ≡ m
+  seed-is = seed-back a _ (first c .number-at .ensures .0)
+
+  count-is : c .number-at2 .result .value ≡ n
+  count-is = count-back a _ _ (end-of (first c)) (c .number-at2 .ensures .0)
+
+  line-is :
+      now (start (first c) .args .input) ≡ seedLine (first c .number-at .result .value) (c .number-at2 .result .value)
+  line-is = line-back a _ _ seed-is count-is
+
 returns-3 : tie.Need-returns-3
-returns-3 c =
-    λ m n a. omega (arith, first-number a (first (c .before) .number-at .ensures) .0, a .seed, c .if3 .taken)
+returns-3 c = λ m n a. omega (arith, seed-is (c .before) a, a .seed, c .if3 .taken)
 
 returns-4 : tie.Need-returns-4
-returns-4 c = λ m n a.
-    let r = c .before .before in
-    let e = second-number a (first r .number-at .ensures) (r .number-at2 .ensures) in
-    omega (arith, e, a .low, c .if4 .taken)
+returns-4 c = λ m n a. omega (arith, count-is (c .before .before) a, count-range n (a .count), c .if4 .taken)
 
 returns-5 : tie.Need-returns-5
-returns-5 c = λ m n a.
-    let r = c .before .before .before in
-    let e = second-number a (first r .number-at .ensures) (r .number-at2 .ensures) in
-    omega (arith, e, a .high, c .if5 .taken)
+returns-5 c = λ m n a. omega (arith, count-is (c .before .before .before) a, count-range n (a .count), c .if5 .taken)
 
 slice-aggregate-put-line : tie.Need-slice-aggregate-put-line
 slice-aggregate-put-line c = search needs
@@ -68,7 +84,7 @@ cast-put-line-2 c = search needs
 
 -- The line of what was read has room aside.
 most : (c : tie.Else5) → let r = second c in
-    0 + length (seedLine (first r .number-at .result .value) (r .number-at2 .result .value)) ≤ 16
+    length (seedLine (first r .number-at .result .value) (r .number-at2 .result .value)) ≤ 16
 most c =
     let r = second c in
     line-most (first r .number-at .result .value) (r .number-at2 .result .value)
@@ -101,9 +117,8 @@ aside c = read-back (c .put-line .ensures) (short c)
 returns-6 : tie.Need-returns-6
 returns-6 c = λ m n a.
     let w = written (c .before) in
-    let r = second (tested w) in
-    let e = line-back a (first r .number-at .ensures) (r .number-at2 .ensures) in
-    c .before .same .ensures .other (not-true _ (c .if6 .taken)) (e ∙ sym (aside w))
+    let e = line-is (second (tested w)) a ∙ sym (aside w) in
+    subst T (not-true (c .before .same .result) (c .if6 .taken)) (c .before .same .ensures .1 e)
 
 cast-t14 : tie.Need-cast-t14
 cast-t14 c = search needs
@@ -116,10 +131,9 @@ returns-7 c =
     let w = written (c .before) in
     let t = tested w in
     record {
-      line = c .before .same .ensures .alike (not-false _ (c .if6 .left)) ∙ aside w;
+      line = c .before .same .ensures .0 (of-true {t = c .before .same .result} (not-false _ (c .if6 .left))) ∙ aside w;
       seed = omega (arith, t .before .before .if3 .left);
-      low = t .before .if4 .left;
-      high = t .if5 .left;
+      count = is-count (second t .number-at2 .result .value) (t .before .if4 .left) (t .if5 .left);
     }
 
 pub read-spec : {M : Type 1} → statement M

@@ -1,8 +1,8 @@
--- `generator::another` meets its contract. Assumes nothing.
+-- `generator::second_board` meets its contract. Assumes nothing.
 use borrow.Author.Tests.{eq-eqb, ne-eqb}
 use borrow.Author.Needs.{needs}
-use Rattle.generator.proofs.another.Statement.{statement}
-use Rattle.generator.proofs.another.Tie as tie
+use Rattle.generator.proofs.second_board.Statement.{statement}
+use Rattle.generator.proofs.second_board.Tie as tie
 
 returns : tie.Need-returns
 returns c = rw (ne-eqb _ _ (c .if1 .taken))
@@ -16,5 +16,5 @@ add-result c = search needs
 returns-3 : tie.Need-returns-3
 returns-3 c = rw (eq-eqb _ _ (c .before .if1 .left), ne-eqb _ _ (c .if2 .left))
 
-pub another-spec : {M : Type 1} → statement M
-another-spec = tie.close (tie.spec returns returns-2 add-result returns-3)
+pub second-board-spec : {M : Type 1} → statement M
+second-board-spec = tie.close (tie.spec returns returns-2 add-result returns-3)

@@ -1,0 +1,15 @@
+-- `generator::advance` meets its contract. Assumes nothing.
+use borrow.Author.Needs.{needs}
+use Rattle.generator.specs.Draws.{advance}
+use Rattle.generator.proofs.advance.Statement.{statement}
+use Rattle.generator.proofs.advance.Tie as tie
+
+wrapping-add-u32-requires : tie.Need-wrapping-add-u32-requires
+wrapping-add-u32-requires c κs = search needs
+
+returns : tie.Need-returns
+unfolding advance
+returns c = c .wrapping-add-u32 .ensures
+
+pub advance-spec : {M : Type 1} → statement M
+advance-spec = tie.close (tie.spec wrapping-add-u32-requires returns)
