@@ -1,5 +1,5 @@
--- The records of a sheet of document 01, byte for byte, and refusal 2. Cited by the contracts of records, listing and
--- sheet. Assumes nothing.
+-- The records of a sheet of document 01, byte for byte, and refusal 2. Cited by the contracts of records, listing,
+-- sheet and generator. Assumes nothing.
 use mathlib.Core.Bool.{Bool, _&&_}
 use mathlib.Core.List.{List, [], _∷_, _++_}
 use Prim.Native.Nat.{ℕ, zero, suc, _+_, _*_, _/_, _%_}

@@ -1,4 +1,4 @@
--- Texts and how they are stored in a slice. Cited by the contracts of text, and by what speaks of a listing.
+-- Texts and how they are stored in a slice. Cited by the contracts of text, and by all that speaks of bytes.
 -- Assumes nothing.
 -- io's `digits` is not used: it takes the number of places, which no definition there gives for n, and io's writer
 -- fills an array of 20 from its start.
