@@ -1,5 +1,6 @@
 /*
- * stack SHEET...: how deep run_sheet goes into the stack, for each sheet.
+ * stack SHEET...: how deep run_sheet goes into the stack, for each sheet, and
+ * seed_sheet, for the longest sheet of a seed.
  *
  * The call is made on a stack of its own, painted before; the first byte from
  * the far end that lost its paint is the high-water mark. It is counted from
@@ -18,36 +19,48 @@
 
 enum { STACK_LEN = 1 << 20 };
 
-typedef size_t (*program)(const uint8_t *, size_t, uint8_t *, size_t);
+typedef size_t (*runner)(const uint8_t *, size_t, uint8_t *, size_t);
+typedef size_t (*maker)(uint32_t, size_t, uint8_t *, size_t);
 
 static uint8_t stack[STACK_LEN];
-static uint8_t sheet[ROW_RECORDS_MAX * ROW_RECORD_LEN + 1];
+static uint8_t sheet[ROW_SHEET_LEN(ROW_RECORDS_MAX) + 1];
 static size_t sheet_len;
 static uint8_t listing[ROW_LISTING_LEN(ROW_RECORDS_MAX)];
 
 static ucontext_t here, there;
-static program called;
+static runner run;
+static maker make;
 static size_t result;
 
-static void call(void)
+static void call_run(void)
 {
-    result = called(sheet, sheet_len, listing, sizeof listing);
+    result = run(sheet, sheet_len, listing, sizeof listing);
 }
 
-/* A call that takes nothing but its return address. */
-static size_t nothing(const uint8_t *in, size_t in_len, uint8_t *out, size_t out_len)
+static void call_make(void)
+{
+    result = make(1, ROW_RECORDS_MAX, sheet, sizeof sheet);
+}
+
+/* Calls that take nothing but their return address. */
+static size_t run_nothing(const uint8_t *in, size_t in_len, uint8_t *out, size_t out_len)
 {
     (void)in, (void)in_len, (void)out, (void)out_len;
     return 0;
 }
 
+static size_t make_nothing(uint32_t seed, size_t count, uint8_t *out, size_t out_len)
+{
+    (void)seed, (void)count, (void)out, (void)out_len;
+    return 0;
+}
+
 /* How many bytes at the stack's near end lose this paint. */
-static size_t depth(program p, int paint)
+static size_t depth(void (*call)(void), int paint)
 {
     size_t kept = 0;
 
     memset(stack, paint, sizeof stack);
-    called = p;
     if (getcontext(&there) != 0) {
         perror("stack");
         exit(2);
@@ -65,21 +78,33 @@ static size_t depth(program p, int paint)
     return sizeof stack - kept;
 }
 
-static size_t deepest(program p)
+static size_t deepest(void (*call)(void))
 {
-    size_t a = depth(p, 0xa5), b = depth(p, 0x5a);
+    size_t a = depth(call, 0xa5), b = depth(call, 0x5a);
 
     return a > b ? a : b;
 }
 
+static size_t run_depth(runner r)
+{
+    run = r;
+    return deepest(call_run);
+}
+
+static size_t make_depth(maker m)
+{
+    make = m;
+    return deepest(call_make);
+}
+
 int main(int argc, char **argv)
 {
-    size_t before = deepest(nothing) - sizeof(void (*)(void)), most = 0;
+    const size_t address = sizeof(void (*)(void));
+    size_t before = run_depth(run_nothing) - address, most = 0, mark;
     int n;
 
     for (n = 1; n < argc; n++) {
         FILE *file = fopen(argv[n], "rb");
-        size_t mark;
 
         if (file == NULL) {
             perror(argv[n]);
@@ -87,12 +112,15 @@ int main(int argc, char **argv)
         }
         sheet_len = fread(sheet, 1, sizeof sheet, file);
         fclose(file);
-        mark = deepest(run_sheet) - before;
+        mark = run_depth(run_sheet) - before;
         if (mark > most)
             most = mark;
         printf("%8zu  %s (%zu records, result %zu)\n", mark, argv[n],
                sheet_len / ROW_RECORD_LEN, result);
     }
     printf("%8zu  the most\n", most);
+    before = make_depth(make_nothing) - address;
+    mark = make_depth(seed_sheet) - before;
+    printf("%8zu  seed_sheet (%d records, result %zu)\n", mark, ROW_RECORDS_MAX, result);
     return 0;
 }

@@ -1,17 +1,25 @@
 /*
- * The header by itself, as C99, C11 and C++: its numbers are document 01's, its
- * lengths stand in #if, and the call links. Exits with 0 if all is right.
+ * The header by itself, as C99, C11 and C++: its numbers are the papers', its
+ * lengths stand in #if, and the calls link. Exits with 0 if all is right.
  */
 #include "row.h"
+
+#include <string.h>
 
 #if ROW_LISTING_LEN(100) > 6000 && ROW_LISTING_LEN(ROW_RECORDS_MAX) == 55230
 enum { LISTING_LEN = ROW_LISTING_LEN(4) };
 #endif
-#if ROW_RECORD_LEN * ROW_RECORDS_MAX != 32760
+#if ROW_RECORD_LEN * ROW_RECORDS_MAX != 32760 || ROW_SHEET_LEN(ROW_RECORDS_MAX) != 32760
 #error "the longest sheet has 32,760 bytes"
+#endif
+#if ROW_SHEET_LEN(1) == 8 && ROW_SHEET_LEN(1 + 2) == 24
+enum { SEEDED_LEN = ROW_SHEET_LEN(1 + 2) };
 #endif
 #if ROW_BAD_SHEET != 2 || ROW_SHORT_LISTING != 3
 #error "the refusals of a sheet are 2 and 3"
+#endif
+#if ROW_BAD_COUNT != 2 || ROW_SHORT_SHEET != 3
+#error "the refusals of a seed are 2 and 3"
 #endif
 
 /* C99 has no static assertion: an array of a negative length does not compile. */
@@ -53,7 +61,8 @@ SAME(ROW_REFUSED_EPOCHS_DIFFER, 16);
 /* The sample's listing in document 01 has so many bytes. */
 enum { SAMPLE_LISTING = 285 };
 
-int main(void)
+/* Returns 0, or the number of the call that is wrong. */
+static int run_sample(void)
 {
     static const uint8_t sheet[4 * ROW_RECORD_LEN] = {
         ROW_STEP_OPENING, 1, 0, 0, 0, 0, 0, 0,
@@ -76,4 +85,44 @@ int main(void)
     if (run_sheet(sheet, sizeof sheet, listing, SAMPLE_LISTING) != SAMPLE_LISTING)
         return 5;
     return listing[SAMPLE_LISTING - 1] == '\n' ? 0 : 6;
+}
+
+/* The first three records of seed 0 are made and run. Returns as above. */
+static int run_seeded(void)
+{
+    /* Document 02, Paper 2: the draws by hand are in tests/peer/tests/seed.rs. */
+    static const uint8_t made[SEEDED_LEN] = {
+        ROW_STEP_OPENING, 7, 0, 0, 0, 0, 0, 0,
+        ROW_STEP_COUNT, 6, 2, 0, 0, 0, 0, 0,
+        ROW_STEP_RECEIPT, 3, 0, 0, 0, 0, 0, 0,
+    };
+    /* Neither board 6 nor board 3 is leader: refusal 8, document 01. */
+    static const char answers[] = "1 0 0\n2 9 8\n3 2 8\nregistry 1 1 7 7 normal\n";
+    static uint8_t sheet[SEEDED_LEN + 1], listing[ROW_LISTING_LEN(3)];
+    const size_t n = 3;
+
+    if (ROW_SHEET_LEN(n) != sizeof made)
+        return 11;
+    if (seed_sheet(0, 0, sheet, sizeof sheet) != ROW_BAD_COUNT)
+        return 12;
+    if (seed_sheet(0, ROW_RECORDS_MAX + 1, sheet, 0) != ROW_BAD_COUNT)
+        return 13;
+    if (seed_sheet(0, n, sheet, sizeof made - 1) != ROW_SHORT_SHEET)
+        return 14;
+    if (sheet[1] != 0)
+        return 15;
+    if (seed_sheet(0, n, sheet, sizeof sheet) != sizeof made)
+        return 16;
+    if (memcmp(sheet, made, sizeof made) != 0 || sheet[sizeof made] != 0)
+        return 17;
+    if (run_sheet(sheet, sizeof made, listing, sizeof listing) <= sizeof answers)
+        return 18;
+    return memcmp(listing, answers, sizeof answers - 1) == 0 ? 0 : 19;
+}
+
+int main(void)
+{
+    int wrong = run_sample();
+
+    return wrong != 0 ? wrong : run_seeded();
 }

@@ -1,4 +1,4 @@
-"""Proves and builds the program, with one line of progress where somebody looks on."""
+"""Proves and builds programs, with one line of progress where somebody looks on."""
 
 import os
 import re
@@ -6,16 +6,15 @@ import subprocess
 import sys
 import time
 
-PROGRAM = "runsheet"
 TICK = 0.5
 
 
 class BuildError(Exception):
-    """The program is not there."""
+    """A program is not there."""
 
 
-def order(root):
-    """The crates that the program needs and the program itself, as rt takes them: by their depth."""
+def order(root, programs):
+    """The crates that the programs need and the programs themselves, as rt takes them: by their depth."""
     needs = {}
     for line in (root / "crates.txt").read_text().splitlines():
         name, colon, others = line.split("#")[0].partition(":")
@@ -28,7 +27,8 @@ def order(root):
             depths[name] = 1 + max([depth(other) for other in needs.get(name, []) if other in needs], default=0)
         return depths[name]
 
-    depth(PROGRAM)
+    for name in programs:
+        depth(name)
     return sorted(depths, key=depths.get)
 
 
@@ -46,10 +46,11 @@ def purpose(root, crate):
 class Progress:
     """What standard error shows while crates are proved: nothing before there is one to prove."""
 
-    def __init__(self, root, first):
+    def __init__(self, root, programs):
         self.root = root
-        self.first = first
-        self.crates = order(root)
+        self.what = "the program" if len(programs) == 1 else "the programs"
+        self.first = not any(path(root, name).exists() for name in programs)
+        self.crates = order(root, programs)
         self.began = time.monotonic()
         self.shown = False
         self.terminal = sys.stderr.isatty()
@@ -67,7 +68,7 @@ class Progress:
         if not self.shown:
             self.shown = True
             time_needed = "; about four minutes the first time" if self.first else ""
-            print(f"run-sheet: proving and building the program{time_needed}", file=sys.stderr)
+            print(f"run-sheet: proving and building {self.what}{time_needed}", file=sys.stderr)
         if self.terminal and left:
             k, n, seconds = len(ended) + 1, len(self.crates), time.monotonic() - self.began
             crate = (proving or left)[0]
@@ -82,12 +83,17 @@ class Progress:
             print("\r\033[K", end="", file=sys.stderr, flush=True)
 
 
-def check(root, log):
+def path(root, program):
+    """Where rt leaves a program."""
+    return root / "target" / "bin" / program
+
+
+def check(root, programs, log):
     """Runs rt. Returns whether all was proved; what it says is in the log."""
-    progress = Progress(root, not (root / "target" / "bin" / PROGRAM).exists())
+    progress = Progress(root, programs)
     with log.open("wb") as out:
         process = subprocess.Popen(
-            ["rt", "check", PROGRAM], cwd=root, stdin=subprocess.DEVNULL, stdout=out, stderr=subprocess.STDOUT
+            ["rt", "check", *programs], cwd=root, stdin=subprocess.DEVNULL, stdout=out, stderr=subprocess.STDOUT
         )
         try:
             while True:
@@ -101,22 +107,21 @@ def check(root, log):
                 process.terminate()
 
 
-def build(root):
-    """The path of the proved program."""
+def build(root, programs):
+    """The paths of the proved programs of these names."""
     log = root / "target" / "log" / "run-sheet.log"
     try:
         log.parent.mkdir(parents=True, exist_ok=True)
-        proved = check(root, log)
+        proved = check(root, programs, log)
     except FileNotFoundError as error:
         if error.filename != "rt":
             raise BuildError(f"{error.filename}: {error.strerror}") from None
-        raise BuildError(
-            "rt, the toolchain, is not on the PATH (RUNSHEET may name a program that is built)"
-        ) from None
+        names = " and ".join(name.upper() for name in programs)
+        raise BuildError(f"rt, the toolchain, is not on the PATH ({names} may name what was built)") from None
     except OSError as error:
         raise BuildError(f"{error.filename}: {error.strerror}") from None
     if not proved:
         said = [line for line in log.read_text(errors="replace").splitlines() if not line.endswith(": proved")]
         last = "".join(f"\n  {line}" for line in said[-12:])
         raise BuildError(f"the program is not proved; {log.relative_to(root)} ends with{last}")
-    return root / "target" / "bin" / PROGRAM
+    return [path(root, name) for name in programs]

@@ -1,36 +1,62 @@
 //! The sheets that are timed, from a seed.
 
+use crate::programs::Input;
 use generate::{guided, record, Rng};
 use peer::row::{Row, LOG_MAX};
 use peer::RECORDS_MAX;
 
-/// Sheets of one kind, all of the same number of records.
+/// How many sheets of a seed, and of how many records: those of seeds 1, 2 and so on.
+const SEEDED: [(u32, usize); 2] = [(64, 100), (8, RECORDS_MAX)];
+
+/// Inputs of one kind, all of the same number of records.
 pub struct Set {
     pub name: String,
     pub records: usize,
-    pub sheets: Vec<Vec<u8>>,
+    pub inputs: Vec<Input>,
 }
 
-/// Enough sheets of each size that no program knows their steps by heart.
+/// Sheets to run: enough of each size that no program knows their steps by heart.
 pub fn all(seed: u64) -> Vec<Set> {
     let guided = [(64, 100), (16, 1000), (8, RECORDS_MAX)].map(|(number, records)| {
         let mut seeds = Rng::new(seed);
         let sheets = (0..number).map(|_| guided(Rng::new(seeds.draw()), records));
         set(&format!("guided-{records}"), sheets.collect())
     });
+    let seeded = seeds().into_iter().map(|seeds| {
+        let sheets = seeds.inputs.iter().map(made);
+        set(&format!("seeded-{}", seeds.records), sheets.collect())
+    });
     let limits = [
         set("full-logs", vec![full_logs()]),
         set("full-joins", vec![full_joins()]),
         set("longest", vec![longest()]),
     ];
-    guided.into_iter().chain(limits).collect()
+    guided.into_iter().chain(seeded).chain(limits).collect()
+}
+
+/// Seeds to make sheets of.
+pub fn seeds() -> Vec<Set> {
+    let sets = SEEDED.map(|(last, records)| Set {
+        name: format!("1 to {last}"),
+        records,
+        inputs: (1..=last).map(|seed| Input::Seed(seed, records)).collect(),
+    });
+    sets.into()
+}
+
+/// The sheet that the library makes.
+fn made(seed: &Input) -> Vec<u8> {
+    let mut sheet = vec![0; 8 * RECORDS_MAX];
+    let length = seed.call(0, &mut sheet);
+    sheet.truncate(length);
+    sheet
 }
 
 fn set(name: &str, sheets: Vec<Vec<u8>>) -> Set {
     Set {
         name: name.into(),
         records: sheets[0].len() / 8,
-        sheets,
+        inputs: sheets.into_iter().map(Input::Sheet).collect(),
     }
 }
 

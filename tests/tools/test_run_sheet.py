@@ -1,8 +1,8 @@
 #!/usr/bin/env python3
-"""Tests of tools/run-sheet, with the program that RUNSHEET names.
+"""Tests of tools/run-sheet, with the programs that RUNSHEET and SEEDSHEET name.
 
 What a row answers is taken from document 01, its sample, its trials, its rules,
-and a board's mark from document 02.
+a board's mark and the records of a seed from document 02.
 """
 
 import os
@@ -18,6 +18,7 @@ from pathlib import Path
 ROOT = Path(__file__).resolve().parents[2]
 TOOL = ROOT / "tools" / "run-sheet"
 PROGRAM = os.environ.get("RUNSHEET") or str(ROOT / "target" / "bin" / "runsheet")
+MAKER = os.environ.get("SEEDSHEET") or str(ROOT / "target" / "bin" / "seedsheet")
 sys.dont_write_bytecode = True
 sys.path.insert(0, str(TOOL.parent))
 
@@ -45,6 +46,27 @@ board 7 1 1 1 1 1 0 late
 board 8 1 1 1 1 1 0 late
 receipts 1 41
 """
+# The first records of seed 0: tests/peer/tests/seed.rs says how they were worked out. Board
+# 7 opens the row, so that neither board 6, 3 nor 1 is leader, and board 4 has all news.
+SEED_0 = ["open 7", "count 6 2", "receipt 3", "news 4", "receipt 1"]
+SEED_0_LISTING = b"""\
+1 0 0
+2 9 8
+3 2 8
+4 6 12
+5 2 8
+registry 1 1 7 7 normal
+control 1 1 7 7 idle
+board 1 1 1 7 7 1 0 current
+board 2 1 1 7 7 1 0 current
+board 3 1 1 7 7 1 0 current
+board 4 1 1 7 7 1 0 current
+board 5 1 1 7 7 1 0 current
+board 6 1 1 7 7 1 0 current
+board 7 1 1 7 7 1 0 current
+board 8 1 1 7 7 1 0 current
+receipts 0
+"""
 # The refusals in each step's text, in its order.
 CHECKS = {
     1: [8, 13],
@@ -65,9 +87,9 @@ CHECKS = {
 }
 
 
-def run(*words, given=b"", tool=TOOL, program=PROGRAM, **more):
+def run(*words, given=b"", tool=TOOL, program=PROGRAM, maker=MAKER, **more):
     """Runs the tool. What it wrote is there as bytes on standard output and as text on standard error."""
-    env = os.environ | {"RUNSHEET": str(program)}
+    env = os.environ | {"RUNSHEET": str(program), "SEEDSHEET": str(maker)}
     more = {"stdout": subprocess.PIPE, "stderr": subprocess.PIPE, "env": env} | more
     done = subprocess.run([tool, *words], input=given, check=False, **more)
     if done.stderr is not None:
@@ -154,11 +176,11 @@ class Sheets(InFolder):
             done = run(*words)
             self.assertEqual((done.returncode, done.stderr), (0, ""))
             text = done.stdout.decode()
-            for said in ["docs/FORMATS.md", "Exit status", "--words", "--ask", "four minutes"]:
+            for said in ["docs/FORMATS.md", "Exit status", "--words", "--ask", "--seed SEED COUNT", "four minutes"]:
                 self.assertIn(said, text)
             for form in sheet.FORMS:
                 self.assertIn("  " + " ".join(form), text)
-        for words in [["--list"], ["one", "two"], ["--words", "--ask"], ["--ask", "-"]]:
+        for words in [["--list"], ["one", "two"], ["--words", "--ask"], ["--ask", "-"], ["--seed"], ["--seed", "1"]]:
             self.not_run(run(*words))
 
     def test_a_link_to_the_tool(self):
@@ -196,6 +218,70 @@ class Refused(InFolder):
         self.listed(done, answers + LISTING[LISTING.index(b"registry") :])
 
 
+class Seeded(InFolder):
+    def refused(self, seed, count, *words):
+        done = run(*words, "--seed", seed, count)
+        self.assertEqual((done.stdout, done.returncode), (b"refused 2\n", REFUSED), (seed, count))
+        self.assertIn("run-sheet: refused 2: there is no sheet of seed '", done.stderr)
+        what = "run-sheet: a seed is a number from 0 to 4294967295, a count of records one from 1 to 4095"
+        self.assertIn(what, done.stderr)
+
+    def test_the_listing(self):
+        self.listed(run("--seed", "0", "5"), SEED_0_LISTING)
+
+    def test_in_words(self):
+        done = run("--words", "--seed", "0", "5")
+        self.assertEqual((done.returncode, done.stderr), (LISTED, ""))
+        rows = [re.split(r"  +", line.strip()) for line in done.stdout.decode().split("\n\n")[0].splitlines()]
+        self.assertEqual(rows[0], ["record", "step", "answer"])
+        self.assertEqual([row[:2] for row in rows[1:]], [[str(n), words] for n, words in enumerate(SEED_0, 1)])
+        answers = [re.match(r"accepted|refused \d+(?=: .)", row[2])[0] for row in rows[1:]]
+        self.assertEqual(answers, ["accepted", "refused 8", "refused 8", "refused 12", "refused 8"])
+
+    def test_a_prompt_after_it(self):
+        story = self.folder / "story"
+        done = run("--ask", "--seed", "0", "5", given=f"add 7\nundo\nsave {story}\n".encode())
+        self.assertEqual((done.returncode, done.stderr), (LISTED, ""))
+        said = done.stdout.decode().splitlines()
+        self.assertEqual(said[1:3], ["refused 5: the board is a member already", "taken back: add 7"])
+        self.assertEqual(story.read_text().splitlines(), SEED_0)
+
+    def test_the_longest_has_words_for_every_record(self):
+        made = subprocess.run([MAKER], input=b"4294967295 4095\n", stdout=subprocess.PIPE, check=True).stdout
+        words = sheet.decode(made)
+        self.assertEqual((len(words.splitlines()), words.count("raw")), (4095, 0))
+        self.assertEqual(sheet.encode(words), made)
+        done = run("--seed", "4294967295", "4095")
+        self.listed(done, run("-", given=made).stdout)
+        # All are well formed, so none is answered 1.
+        self.assertIsNone(re.search(rb"^\d+ \d+ 1$", done.stdout, re.M))
+
+    def test_no_seed_or_no_count(self):
+        seeds = ["4294967296", "10000000000000000000000", "00", "01", "-1", "+1", "", " 1", "1 1", "1\n", "x", "é"]
+        counts = ["0", "4096", "65537", "4294967297", "05", "-5", "+5", "", "5 ", "5 5", "5\n", "x", "\udcff"]
+        for seed, count in [*((seed, "5") for seed in seeds), *(("0", count) for count in counts)]:
+            self.refused(seed, count)
+        for way in ["--words", "--ask"]:
+            self.refused("0", "0", way)
+
+    def test_no_sheet_beside_it(self):
+        for name in ["-", "none", str(self.file("story", WORDS))]:
+            for words in [["--seed", "0", "5", name], [name, "--seed", "0", "5"], ["--ask", "--seed", "0", "5", name]]:
+                self.not_run(run(*words), "--seed makes the sheet: it takes no SHEET")
+
+    def test_programs_that_fail(self):
+        name = self.folder / "none"
+        for maker, said in [
+            (name, f"{name} does not run: No such file"),
+            (self.script("ends", "exit 7"), "ends ended with status 7"),
+            (self.script("mute", "exit 0"), "mute printed is no sheet"),
+            (self.script("other", "echo hello"), "other printed is no sheet"),
+        ]:
+            done = run("--seed", "0", "5", maker=maker)
+            self.assertEqual((done.stdout, done.returncode), (b"", FAILED))
+            self.assertIn(said, done.stderr)
+
+
 class Errors(InFolder):
     def test_all_errors_with_their_lines(self):
         text = b"open 1\n\nOpen 1\nread the leader\nadd 9 # who\nreceipt 1\njion 2\n"
@@ -221,6 +307,7 @@ class Errors(InFolder):
 
 class Writing(InFolder):
     WAYS = [([], b""), (["--words"], b""), (["--ask"], b"open 1\n"), (["-"], b"")]
+    WAYS += [(["--seed", "0", "5"], b""), (["--seed", "0", "0"], b"")]
 
     def failed(self, done, said):
         self.assertEqual(done.returncode, FAILED)
@@ -483,8 +570,9 @@ class Asking(InFolder):
 # Proves what is not stamped, one crate after the other, as slowly as is needed to be seen.
 PROVER = """
 echo "$*" >>called
+shift
 mkdir -p target/stamp target/bin
-for crate in rules runsheet; do
+for crate in rules "$@"; do
     if [ -f target/stamp/$crate ]; then
         echo "rt: $crate proved (unchanged since it was last proved)"
     elif [ -f refuse ]; then
@@ -498,7 +586,9 @@ for crate in rules runsheet; do
         touch target/stamp/$crate
     fi
 done
-cp "$PROVED" target/bin/runsheet
+for program in "$@"; do
+    cp "$PROVED/$program" target/bin
+done
 """
 
 
@@ -510,12 +600,17 @@ class Building(InFolder):
         self.root = self.folder / "a row"
         shutil.copytree(TOOL.parent, self.root / "tools")
         shutil.copytree(ROOT / "examples", self.root / "examples")
-        self.file("a row/crates.txt", b"# NAME: DEPENDENCIES\nrunsheet: rules io libc\nother: rules\nrules:\n")
+        crates = b"runsheet: rules io libc\nseedsheet: rules io libc\nother: rules\nrules:\n"
+        self.file("a row/crates.txt", b"# NAME: DEPENDENCIES\n" + crates)
         self.file("a row/crates/rules/src/lib.rt", b"// The rules of a row. And more.\n")
         self.file("a row/crates/runsheet/src/main.rt", b"use libc;\n")
         self.script("bin/rt", PROVER)
-        self.env = {name: value for name, value in os.environ.items() if name != "RUNSHEET"}
-        self.env |= {"PATH": f"{self.folder}/bin:{self.env['PATH']}", "PROVED": PROGRAM}
+        proved = self.folder / "proved"
+        proved.mkdir()
+        (proved / "runsheet").symlink_to(PROGRAM)
+        (proved / "seedsheet").symlink_to(MAKER)
+        self.env = {name: value for name, value in os.environ.items() if name not in ("RUNSHEET", "SEEDSHEET")}
+        self.env |= {"PATH": f"{self.folder}/bin:{self.env['PATH']}", "PROVED": str(proved)}
 
     def run_copy(self, *words, **more):
         return run(*words, tool=self.root / "tools" / "run-sheet", **({"env": self.env} | more))
@@ -536,6 +631,18 @@ class Building(InFolder):
         (self.root / "target" / "stamp" / "runsheet").unlink()
         done = self.run_copy()
         self.assertEqual((done.stdout, done.stderr), (LISTING, "run-sheet: proving and building the program\n"))
+
+    def test_a_seed_needs_both_programs(self):
+        """The environment may name either."""
+        seed = ["--seed", "0", "5"]
+        self.run_copy()
+        done = self.run_copy(*seed)
+        told = "run-sheet: proving and building the programs\n"
+        self.assertEqual((done.stdout, done.stderr), (SEED_0_LISTING, told))
+        for named in [{}, {"RUNSHEET": PROGRAM}, {"SEEDSHEET": MAKER}, {"RUNSHEET": PROGRAM, "SEEDSHEET": MAKER}]:
+            self.listed(self.run_copy(*seed, env=self.env | named), SEED_0_LISTING)
+        both = "check runsheet seedsheet"
+        self.assertEqual(self.called(), ["check runsheet", both, both, "check seedsheet", "check runsheet"])
 
     def test_one_line_of_progress_at_a_terminal(self):
         leader, follower = pty.openpty()
@@ -562,6 +669,7 @@ class Building(InFolder):
         self.not_run(self.run_copy(self.folder))
         self.not_run(self.run_copy("-", given=b"opne 1\n"))
         self.not_run(self.run_copy("--list"))
+        self.not_run(self.run_copy("--seed", "0", "5", self.folder / "none"))
         self.assertEqual(self.called(), [])
 
     def failed(self, done, *said):

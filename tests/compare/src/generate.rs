@@ -29,7 +29,7 @@ impl Rng {
         self.below(n) == 0
     }
 
-    fn one_of<T: Copy>(&mut self, these: &[T]) -> T {
+    pub fn one_of<T: Copy>(&mut self, these: &[T]) -> T {
         these[self.below(these.len())]
     }
 }
@@ -49,6 +49,11 @@ pub enum Kind {
     Epochs,
     /// A sheet to be refused with 2.
     Broken,
+    /// The sheet of a seed (document 02, Paper 2): any steps on any boards, all well
+    /// formed.
+    Seeded { seed: u32, count: usize },
+    /// A sheet at the limits of the paper.
+    Edge,
 }
 
 pub fn record(step: u8, a: u8, b: u8, value: u32) -> [u8; 8] {
@@ -58,29 +63,55 @@ pub fn record(step: u8, a: u8, b: u8, value: u32) -> [u8; 8] {
 
 /// A random sheet and its kind.
 pub fn random(mut rng: Rng) -> (Kind, Vec<u8>) {
-    let kind = match rng.below(100) {
-        0..=19 => Kind::Uniform,
-        20..=39 => Kind::Malformed,
-        40..=74 => Kind::Guided,
-        75..=82 => Kind::Logs,
-        83..=94 => Kind::Epochs,
-        _ => Kind::Broken,
+    let some = |rng: &mut Rng| 1 + rng.below(800);
+    match rng.below(100) {
+        0..=19 => {
+            let records = some(&mut rng);
+            (Kind::Uniform, uniform(&mut rng, records))
+        }
+        20..=39 => {
+            let records = some(&mut rng);
+            (Kind::Malformed, Guide::new(rng, records).finish(Some(6)))
+        }
+        40..=74 => {
+            let longest = rng.one_in(10);
+            let records = if longest { RECORDS_MAX } else { some(&mut rng) };
+            (Kind::Guided, guided(rng, records))
+        }
+        75..=82 => {
+            let records = 1000 + rng.below(RECORDS_MAX - 999);
+            (Kind::Logs, Guide::new(rng, records).fill_log().finish(None))
+        }
+        83..=94 => {
+            let records = RECORDS_MAX - rng.below(20);
+            (
+                Kind::Epochs,
+                Guide::new(rng, records).use_epochs().finish(None),
+            )
+        }
+        _ => {
+            let records = some(&mut rng);
+            (Kind::Broken, broken(&mut rng, records))
+        }
+    }
+}
+
+/// The sheet of a random seed, mostly a short one, and its kind.
+pub fn random_seeded(mut rng: Rng) -> (Kind, Vec<u8>) {
+    let seed = rng.draw() as u32;
+    let count = match rng.below(100) {
+        0 => RECORDS_MAX,
+        1..=5 => 1 + rng.below(RECORDS_MAX),
+        _ => 1 + rng.below(40),
     };
-    let records = match kind {
-        Kind::Logs => 1000 + rng.below(RECORDS_MAX - 999),
-        Kind::Epochs => RECORDS_MAX - rng.below(20),
-        Kind::Guided if rng.one_in(10) => RECORDS_MAX,
-        _ => 1 + rng.below(800),
-    };
-    let sheet = match kind {
-        Kind::Uniform => uniform(&mut rng, records),
-        Kind::Broken => broken(&mut rng, records),
-        Kind::Malformed => Guide::new(rng, records).finish(Some(6)),
-        Kind::Guided => guided(rng, records),
-        Kind::Logs => Guide::new(rng, records).fill_log().finish(None),
-        Kind::Epochs => Guide::new(rng, records).use_epochs().finish(None),
-    };
-    (kind, sheet)
+    seeded(seed, count)
+}
+
+/// The sheet of a seed as the second program makes it, and its kind.
+pub fn seeded(seed: u32, count: usize) -> (Kind, Vec<u8>) {
+    let mut sheet = vec![0; 8 * count];
+    peer::seed::make(seed, count, &mut sheet);
+    (Kind::Seeded { seed, count }, sheet)
 }
 
 /// A guided sheet of so many records.

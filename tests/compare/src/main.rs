@@ -1,24 +1,32 @@
 //! compare [SHEETS [SEED]]
 //! compare --edges DIR
+//! compare --lines DIR
 //!
-//! Holds the proved program to the second one: each sheet goes through the C
+//! Holds the proved programs to the second one: each sheet goes through the C
 //! entry `run_sheet` in several slices, and the edge sheets and every fourth
-//! random one through the program that RUNSHEET names, over standard input.
+//! random one through the program that RUNSHEET names, over standard input. As
+//! many random seeds go through the C entry `seed_sheet` and the program that
+//! SEEDSHEET names in the same way, and their sheets are then sheets like the
+//! others. That program is also given inputs that it must refuse.
 //! With --edges it compares nothing: it writes edge sheet N to DIR/N.sheet, and
-//! what the second program prints of it to DIR/N.printed.
+//! what the second program prints of it to DIR/N.printed. With --lines it writes
+//! the inputs of the other program so, N to DIR/N.line.
 //!
-//! Exit status: 0 all agree; 1 a sheet differs; 2 bad usage, or the program does
-//! not run; 3 all agree, but something that a run can meet was not met (as may be
-//! with fewer than 1,000 sheets).
+//! Exit status: 0 all agree; 1 a sheet or a line differs; 2 bad usage, or a
+//! program does not run; 3 all agree, but something that a run can meet was not
+//! met (as may be with fewer than 1,000 sheets).
 
+mod both;
 mod coverage;
+mod seeds;
+mod sheets;
 
+use both::{differs, Fault};
 use coverage::Coverage;
-use generate::Rng;
-use std::io::{self, ErrorKind, Write};
-use std::path::Path;
-use std::process::{Command, ExitCode, Stdio};
-use std::{env, fs, iter};
+use generate::{Kind, Rng};
+use std::path::{Path, PathBuf};
+use std::process::ExitCode;
+use std::{env, fs, io};
 
 const SHEETS: u64 = 3000;
 const SEED: u64 = 1;
@@ -27,34 +35,15 @@ const SHEETS_ENOUGH: u64 = 1000;
 /// A process takes longer to start than a sheet to run.
 const PROGRAM_EVERY: u64 = 4;
 
-extern "C" {
-    fn run_sheet(sheet: *const u8, sheet_len: usize, listing: *mut u8, listing_len: usize)
-        -> usize;
-}
-
 fn main() -> ExitCode {
     let args: Vec<String> = env::args().skip(1).collect();
-    if let [edges, dir] = &args[..] {
-        if edges == "--edges" {
-            return match write_edges(Path::new(dir)) {
-                Ok(()) => ExitCode::SUCCESS,
-                Err(error) => {
-                    eprintln!("compare: {error}");
-                    ExitCode::from(2)
-                }
-            };
-        }
-    }
-    let number = |n: usize, default| args.get(n).map_or(Ok(default), |arg| arg.parse::<u64>());
-    let (Ok(sheets), Ok(seed), 0..=2) = (number(0, SHEETS), number(1, SEED), args.len()) else {
-        eprintln!("usage: compare [SHEETS [SEED]] | --edges DIR");
-        return ExitCode::from(2);
+    let words: Vec<&str> = args.iter().map(String::as_str).collect();
+    let done = match words[..] {
+        ["--edges", dir] => write(dir, "sheet", &generate::edges(), sheets::printed),
+        ["--lines", dir] => write(dir, "line", &seeds::lines(), peer::seed::print),
+        _ => compare_with(&words),
     };
-    let Some(program) = env::var_os("RUNSHEET") else {
-        eprintln!("compare: RUNSHEET does not name the program");
-        return ExitCode::from(2);
-    };
-    match compare(sheets, seed, Path::new(&program)) {
+    match done {
         Ok(status) => status.into(),
         Err(error) => {
             eprintln!("compare: {error}");
@@ -63,148 +52,148 @@ fn main() -> ExitCode {
     }
 }
 
-/// Compares all sheets up to the first that differs. Returns the exit status.
-fn compare(sheets: u64, seed: u64, program: &Path) -> io::Result<u8> {
-    let mut rng = Rng::new(seed);
+/// Writes inputs of a program, each with what the second program prints.
+fn write(
+    dir: &str,
+    end: &str,
+    inputs: &[Vec<u8>],
+    printed: fn(&[u8]) -> Vec<u8>,
+) -> io::Result<u8> {
+    let dir = Path::new(dir);
+    fs::create_dir_all(dir)?;
+    for (n, input) in inputs.iter().enumerate() {
+        fs::write(dir.join(format!("{n}.{end}")), input)?;
+        fs::write(dir.join(format!("{n}.printed")), printed(input))?;
+    }
+    Ok(0)
+}
+
+/// Compares as many sheets as the words say, and tells what differs. Returns the exit
+/// status.
+fn compare_with(words: &[&str]) -> io::Result<u8> {
+    let number = |n: usize, default| words.get(n).map_or(Ok(default), |word| word.parse());
+    let (Ok(sheets), Ok(seed), 0..=2) = (number(0, SHEETS), number(1, SEED), words.len()) else {
+        eprintln!("usage: compare [SHEETS [SEED]] | --edges DIR | --lines DIR");
+        return Ok(2);
+    };
+    let named = |name: &str| match env::var_os(name) {
+        Some(path) => Ok(path.into()),
+        None => Err(io::Error::other(format!(
+            "{name} does not name the program"
+        ))),
+    };
+    let mut comparison = Comparison {
+        runsheet: named("RUNSHEET")?,
+        seedsheet: named("SEEDSHEET")?,
+        rng: Rng::new(seed),
+        coverage: Coverage::default(),
+        sheets: 0,
+        printed: 0,
+    };
     let edges = generate::edges();
     println!(
-        "{sheets} random sheets from seed {seed}, {} edge sheets",
-        edges.len()
+        "{sheets} random sheets and {sheets} seeds from seed {seed}, {} edge sheets, {} lines",
+        edges.len(),
+        seeds::lines().len()
     );
-    let edges = edges.into_iter().map(|sheet| ("edge".into(), sheet, true));
-    let mut seeds = Rng::new(rng.draw());
-    let random = (0..sheets).map(|n| {
-        let (kind, sheet) = generate::random(Rng::new(seeds.draw()));
-        (format!("{kind:?}"), sheet, n % PROGRAM_EVERY == 0)
-    });
-    let mut coverage = Coverage::default();
-    let mut printed = 0;
-    for (n, (kind, sheet, print)) in edges.chain(random).enumerate() {
-        let mut verdict = call(&sheet, &mut rng);
-        if print && verdict.is_ok() {
-            verdict = printed_by(program, &sheet)?;
-            printed += 1;
+    match comparison.run(&edges, sheets) {
+        Ok(()) => Ok(comparison.tell(sheets)),
+        Err(Fault::Differs(said)) => {
+            println!("{said}");
+            Ok(1)
         }
-        if let Err(fault) = verdict {
-            let kept = env::current_exe()?.with_file_name("differs.sheet");
-            fs::write(&kept, &sheet)?;
-            println!("sheet {n} ({kind}) differs: {fault}");
-            println!("the sheet is kept as {}", kept.display());
-            return Ok(1);
+        Err(Fault::Fails(error)) => Err(error),
+    }
+}
+
+struct Comparison {
+    runsheet: PathBuf,
+    seedsheet: PathBuf,
+    /// What the slices hold.
+    rng: Rng,
+    coverage: Coverage,
+    /// How many sheets were compared, and how many of them were printed too.
+    sheets: usize,
+    printed: usize,
+}
+
+impl Comparison {
+    /// Compares all, up to what differs.
+    fn run(&mut self, edges: &[Vec<u8>], sheets: u64) -> Result<(), Fault> {
+        let mut of_sheets = Rng::new(self.rng.draw());
+        let mut of_seeds = Rng::new(self.rng.draw());
+        for (seed, count) in seeds::edges() {
+            self.take(generate::seeded(seed, count), true)?;
         }
-        if peer::list(&sheet).is_ok() {
-            coverage.play(&sheet);
+        seeds::call_wrongly(&mut self.rng)?;
+        seeds::print_edges(&self.seedsheet)?;
+        for sheet in edges {
+            self.take((Kind::Edge, sheet.clone()), true)?;
         }
-    }
-    println!("all agree; {printed} of them were also printed by the program");
-    println!("{coverage}");
-    let faults = coverage.faults();
-    for fault in &faults {
-        println!("{fault}");
-    }
-    if !faults.is_empty() && sheets < SHEETS_ENOUGH {
-        println!(
-            "too few sheets: {sheets} random ones, and with {SHEETS_ENOUGH} all should be met"
-        );
-    }
-    Ok(if faults.is_empty() { 0 } else { 3 })
-}
-
-/// Writes the edge sheets, each with what the second program prints.
-fn write_edges(dir: &Path) -> io::Result<()> {
-    fs::create_dir_all(dir)?;
-    for (n, sheet) in generate::edges().iter().enumerate() {
-        fs::write(dir.join(format!("{n}.sheet")), sheet)?;
-        fs::write(dir.join(format!("{n}.printed")), printed_by_peer(sheet))?;
-    }
-    Ok(())
-}
-
-/// What the second program prints.
-fn printed_by_peer(sheet: &[u8]) -> String {
-    peer::list(sheet).unwrap_or_else(|refusal| format!("refused {refusal}\n"))
-}
-
-/// The C entry on two slices.
-fn run(sheet: &[u8], listing: &mut [u8]) -> usize {
-    // SAFETY: each pointer goes with its slice's length, and the two do not overlap.
-    unsafe {
-        run_sheet(
-            sheet.as_ptr(),
-            sheet.len(),
-            listing.as_mut_ptr(),
-            listing.len(),
-        )
-    }
-}
-
-/// Calls both programs on slices of random bytes: as long as the listing, one
-/// byte shorter, longer, and empty.
-fn call(sheet: &[u8], rng: &mut Rng) -> Result<(), String> {
-    let exact = peer::list(sheet).map_or(300, |listing| listing.len());
-    for length in [exact, exact - 1, exact + 1 + rng.below(100), 0] {
-        // Bytes around the slice show a write outside it.
-        let before = 32 + rng.below(32);
-        let slice = before..before + length;
-        let bytes = iter::repeat_with(|| rng.draw().to_le_bytes()).flatten();
-        let place: Vec<u8> = bytes.take(slice.end + 32).collect();
-        let (mut ours, mut theirs, given) = (place.clone(), place, sheet.to_vec());
-        let result = run(&given, &mut ours[slice.clone()]);
-        let expected = peer::run(sheet, &mut theirs[slice]);
-        let fault = if result != expected {
-            format!("run_sheet gives {result}, the second program {expected}")
-        } else if ours != theirs {
-            let same = iter::zip(&ours, &theirs).take_while(|(a, b)| a == b);
-            let at = same.count() as isize - before as isize;
-            format!("run_sheet gives {result}, byte {at} of the slice differs")
-        } else if given != sheet {
-            "the sheet was changed".into()
-        } else {
-            continue;
-        };
-        let mut whole = vec![0; 60_000];
-        let end = run(sheet, &mut whole).min(whole.len());
-        let lines = match peer::list(sheet) {
-            Ok(listing) if end > 3 => lines(&whole[..end], listing.as_bytes()),
-            _ => String::new(),
-        };
-        return Err(format!("in a slice of {length} bytes {fault}{lines}"));
-    }
-    Ok(())
-}
-
-/// Runs the program on a sheet and compares what it prints.
-fn printed_by(program: &Path, sheet: &[u8]) -> io::Result<Result<(), String>> {
-    let mut child = Command::new(program)
-        .stdin(Stdio::piped())
-        .stdout(Stdio::piped())
-        .spawn()?;
-    // It need not read a sheet that is too long to its end.
-    match child.stdin.take().map(|mut pipe| pipe.write_all(sheet)) {
-        Some(Err(error)) if error.kind() != ErrorKind::BrokenPipe => return Err(error),
-        _ => {}
-    }
-    let output = child.wait_with_output()?;
-    let expected = printed_by_peer(sheet);
-    Ok(if output.status.code().is_none() {
-        Err(format!("the program ended by {}", output.status))
-    } else if output.stdout != expected.as_bytes() {
-        let lines = lines(&output.stdout, expected.as_bytes());
-        Err(format!("the program prints something else{lines}"))
-    } else {
+        for n in 0..sheets {
+            let print = n % PROGRAM_EVERY == 0;
+            self.take(generate::random(Rng::new(of_sheets.draw())), print)?;
+            self.take(generate::random_seeded(Rng::new(of_seeds.draw())), print)?;
+        }
         Ok(())
-    })
-}
+    }
 
-/// The first lines that differ.
-fn lines(ours: &[u8], theirs: &[u8]) -> String {
-    let split = |text: &[u8]| -> Vec<String> {
-        let lines = text.split(|&byte| byte == b'\n');
-        lines.map(|line| line.escape_ascii().to_string()).collect()
-    };
-    let (ours, theirs) = (split(ours), split(theirs));
-    let differ = iter::zip(&ours, &theirs).find(|(a, b)| a != b);
-    differ.map_or(String::new(), |(a, b)| {
-        format!("\n  it: {a}\n  second program: {b}")
-    })
+    /// Compares one sheet; one that differs is kept.
+    fn take(&mut self, (kind, sheet): (Kind, Vec<u8>), print: bool) -> Result<(), Fault> {
+        match self.agree(kind, &sheet, print) {
+            Err(Fault::Differs(said)) => {
+                let kept = env::current_exe()?.with_file_name("differs.sheet");
+                fs::write(&kept, &sheet)?;
+                let (n, kept) = (self.sheets, kept.display());
+                let said = format!("sheet {n} ({kind:?}) differs: {said}");
+                return differs(format!("{said}\nthe sheet is kept as {kept}"));
+            }
+            other => other?,
+        }
+        self.sheets += 1;
+        self.printed += usize::from(print);
+        if peer::list(&sheet).is_ok() {
+            self.coverage.play(&sheet);
+        }
+        Ok(())
+    }
+
+    /// The C entry does the same as the second program; so does the program if it prints.
+    /// Of a seeded sheet they first make the sheet.
+    fn agree(&mut self, kind: Kind, sheet: &[u8], print: bool) -> Result<(), Fault> {
+        if let Kind::Seeded { seed, count } = kind {
+            seeds::call(seed, count, &mut self.rng)?;
+            seeds::well_formed(sheet)?;
+            if print {
+                let line = seeds::line(seed, count);
+                seeds::print(&self.seedsheet, &line)?;
+                seeds::print(&self.seedsheet, &seeds::edited(line, &mut self.rng))?;
+            }
+        }
+        sheets::call(sheet, &mut self.rng)?;
+        if print {
+            sheets::print(&self.runsheet, sheet)?;
+        }
+        Ok(())
+    }
+
+    /// Tells what was met. Returns the exit status.
+    fn tell(&self, sheets: u64) -> u8 {
+        let (all, printed) = (self.sheets, self.printed);
+        println!("all agree; {printed} of {all} sheets were also printed by the program");
+        println!("{}", self.coverage);
+        let faults = self.coverage.faults();
+        for fault in &faults {
+            println!("{fault}");
+        }
+        if faults.is_empty() {
+            return 0;
+        }
+        if sheets < SHEETS_ENOUGH {
+            println!(
+                "too few sheets: {sheets} random ones, and with {SHEETS_ENOUGH} all should be met"
+            );
+        }
+        3
+    }
 }
