@@ -18,7 +18,7 @@ enum { SEEDED_LEN = ROW_SHEET_LEN(1 + 2) };
 #if ROW_BAD_SHEET != 2 || ROW_SHORT_LISTING != 3
 #error "the refusals of a sheet are 2 and 3"
 #endif
-#if ROW_BAD_COUNT != 2 || ROW_SHORT_SHEET != 3
+#if ROW_BAD_COUNT != 2 || ROW_SHORT_SLICE != 3
 #error "the refusals of a seed are 2 and 3"
 #endif
 
@@ -107,7 +107,7 @@ static int run_seeded(void)
         return 12;
     if (seed_sheet(0, ROW_RECORDS_MAX + 1, sheet, 0) != ROW_BAD_COUNT)
         return 13;
-    if (seed_sheet(0, n, sheet, sizeof made - 1) != ROW_SHORT_SHEET)
+    if (seed_sheet(0, n, sheet, sizeof made - 1) != ROW_SHORT_SLICE)
         return 14;
     if (sheet[1] != 0)
         return 15;
