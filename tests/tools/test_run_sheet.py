@@ -428,6 +428,12 @@ class Formats(unittest.TestCase):
             if number > 1 and number != 7:
                 self.assertEqual(rows[number][1].replace(",", ""), phrase.replace(",", ""))
 
+    def test_the_refusals_of_a_seed(self):
+        told = re.findall(r"(\d)\s\(`(ROW_\w+)`\)", self.page)
+        self.assertEqual([number for number, _ in told], ["2", "3"])
+        for number, name in told:
+            self.assertRegex(self.header, rf"#define {name} {number}\b")
+
     def test_the_steps_of_the_header(self):
         steps = re.findall(r"ROW_STEP_(\w+) = (\d+),? +/\* ([\w, ]+?)  ", self.header)
         self.assertEqual([int(number) for _, number, _ in steps], list(range(16)))
