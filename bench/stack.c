@@ -121,6 +121,6 @@ int main(int argc, char **argv)
     printf("%8zu  the most\n", most);
     before = make_depth(make_nothing) - address;
     mark = make_depth(seed_sheet) - before;
-    printf("%8zu  seed_sheet (%d records, result %zu)\n", mark, ROW_RECORDS_MAX, result);
+    printf("%8zu  seed_sheet (seed 1, %d records, result %zu)\n", mark, ROW_RECORDS_MAX, result);
     return 0;
 }

@@ -6,17 +6,18 @@
  * every line, what each step asks and does, and who causes each refusal.
  *
  * Platform. The archive is for x86-64 with the System V calling convention:
- * ELF, position-independent, some 9 KiB of code and constants, no data that is
+ * ELF, position-independent, some 10 KiB of code and constants, no data that is
  * written. It asks for no instruction set beyond SSE2, which every x86-64 has.
  * (A tzcnt in it runs as bsf on older processors, and both agree wherever the
  * result is used.) It allocates nothing, makes no system call, and calls two
  * functions of the C library: memcpy and memset. There are no unwind tables,
  * and nothing in it throws or jumps out.
  *
- * Stack. On every sheet that was tried a call took at most 29,360 bytes, with
- * memcpy and memset bound beforehand (link with -z now; bound at their first
- * call, that call took 32,488). No proof bounds it. The pages are touched in
- * order, so a guard page is met before anything below it.
+ * Stack. On every sheet that was tried a call of run_sheet took at most 29,360
+ * bytes, with memcpy and memset bound beforehand (link with -z now; bound at
+ * their first call, that call took 32,488). No proof bounds it. The pages are
+ * touched in order, so a guard page is met before anything below it. A call of
+ * seed_sheet took 32 bytes.
  *
  * Reentrant. Nothing is kept between calls: calls may run in several threads,
  * or one inside a handler that interrupts another, each with its own slices.
@@ -165,7 +166,7 @@ size_t run_sheet(const uint8_t *sheet, size_t sheet_len,
  *   seed        any 32 bits
  *   count       how many records, the opening included: 1 to ROW_RECORDS_MAX
  *   sheet       where the sheet goes
- *   sheet_room  the length of that slice in bytes
+ *   sheet_room  the length of that slice in bytes; the sheet may be shorter
  *
  * Returns the sheet's length in bytes, which is ROW_SHEET_LEN(count), or
  * ROW_BAD_COUNT, or, for a count that is not refused so, ROW_SHORT_SLICE.
@@ -173,7 +174,7 @@ size_t run_sheet(const uint8_t *sheet, size_t sheet_len,
  * Both refusals leave the slice untouched. Bytes of it past the end of a sheet
  * keep their values. The pointer may not be null, even where the length is 0.
  *
- *     uint8_t sheet[ROW_SHEET_LEN(100)];
+ *     uint8_t sheet[ROW_SHEET_LEN(100)], listing[ROW_LISTING_LEN(100)];
  *     size_t len = seed_sheet(7, 100, sheet, sizeof sheet);
  *     if (len >= ROW_RECORD_LEN)
  *         run_sheet(sheet, len, listing, sizeof listing);

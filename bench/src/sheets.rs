@@ -1,4 +1,4 @@
-//! The sheets that are timed, from a seed.
+//! The sheets that are run, and the seeds that sheets are made from.
 
 use crate::programs::Input;
 use generate::{guided, record, Rng};

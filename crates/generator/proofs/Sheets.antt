@@ -1,18 +1,21 @@
 -- The sheet of a seed: its length, and what the call returns and leaves. Assumes nothing.
+use mathlib.Core.Bool.{true}
 use mathlib.Core.List.{_++_}
 use mathlib.Core.Path.{_≡_, refl, sym, subst, _∙_}
 use Prim.Native.Nat.{ℕ, zero, suc, _-_, _*_, _<_, _≤_}
 use native.Mathlib.Nat.{not-suc-le-zero}
 use native.Mathlib.Omega.{arith}
+use lib.Dec.{leb, leb→le}
 use lib.ListN.{length}
 use borrow.Author.Tests.{le-leb, lt-leb}
+use Rattle.model.proofs.Tests.{split-and, of-true}
 use Rattle.model.specs.Records.{of}
 use Rattle.text.specs.Text.{Text, Wrote, over}
 use Rattle.text.proofs.Laws.{then}
 use Rattle.records.specs.Bytes.{recordBytes, sheetBytes}
 use Rattle.records.proofs.Encoding.{sheet-length}
 use Rattle.generator.specs.Draws.{advance, boardFrom, Drawn, drawn, later, seedRecords}
-use Rattle.generator.specs.Seeded.{seedSheet, result, left}
+use Rattle.generator.specs.Seeded.{seedSheet, isCount, result, left}
 use Rattle.generator.proofs.Drawing.{later-length}
 
 pub seed-length : (s n : ℕ) → length (seedRecords s n) ≡ n
@@ -23,6 +26,13 @@ seed-length s (suc k) = omega (arith, later-length k (advance s))
 pub sheet-bytes : (s n : ℕ) → length (seedSheet s n) ≡ 8 * n
 unfolding seedSheet
 sheet-bytes s n = sheet-length (seedRecords s n) ∙ rw (seed-length s n)
+
+pub is-count : (n : ℕ) → 1 ≤ n → n ≤ 4095 → isCount n ≡ true
+is-count n l h = rw (le-leb 1 n l, le-leb n 4095 h)
+
+pub count-range : (n : ℕ) → isCount n ≡ true → (1 ≤ n) × (n ≤ 4095)
+count-range n e =
+    let t = split-and (leb 1 n) (leb n 4095) (of-true e) in (leb→le 1 n (t .0), leb→le n 4095 (t .1))
 
 -- The opening's bytes, then those of the other records.
 pub opening-first : (s n : ℕ) → 1 ≤ n

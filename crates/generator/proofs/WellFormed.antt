@@ -18,6 +18,7 @@ use Rattle.model.specs.Records.{Record, bare, of, ofBoth, ofValue, boardless, i
 use Rattle.model.specs.Ranges.{every}
 use Rattle.model.proofs.Tests.{of-true, is-true, is-false, by-cond, ne-fact}
 use Rattle.model.proofs.Forms.{forms}
+use Rattle.members.proofs.Laws.{replica}
 use Rattle.records.specs.Bytes.{recordAt, sheetBytes, wholeRecords, isSheet}
 use Rattle.records.proofs.Encoding.{Words, record-back, records-back}
 use Rattle.generator.specs.Draws.{advance, draw, stepFrom, boardFrom, secondBoard, Drawn, drawRecord, later, seedRecords}
@@ -29,10 +30,7 @@ use Rattle.generator.proofs.Sheets.{seed-length, sheet-bytes, opening-f
 differs : (p : ℕ → Bool) (n k : ℕ) → p n ≡ true → p k ≡ false → eqb n k ≡ false
 differs p n k h f = ne-eqb n k (λ (e : n ≡ k). true≢false (sym h ∙ ap p e ∙ f))
 
--- Boards are 1 to 8, a second one is secondBoard.
-replica : (b : ℕ) → 1 ≤ b → b ≤ 8 → isReplica b ≡ true
-replica b l h = rw (le-leb 1 b l, le-leb b 8 h)
-
+-- Boards that are drawn are 1 to 8, and a second board is another one.
 board-from : (s : ℕ) → isReplica (boardFrom s) ≡ true
 board-from s = replica (boardFrom s) (omega arith) (omega arith)
 
@@ -97,7 +95,7 @@ fine s =
 
 -- All records of a sheet
 
--- A test that such records pass,
+-- What every such record passes, all of them pass.
 every-later : (p : Record → Bool) → ((r : Record) → Fine r → p r ≡ true) → (k s : ℕ)
     → every (map p (later k s)) ≡ true
 unfolding later

@@ -27,8 +27,8 @@ BoardsHold =
     (secondBoard 3 3 ≡ 4) × (secondBoard 8 8 ≡ 1) × (secondBoard 3 8 ≡ 8) × (secondBoard 8 3 ≡ 3)
 
 -- The first records of seed 0: 2,244,223,118 is 6 modulo 8; 185,155,868 is 8 modulo 15; then 2,315,088,141 and
--- 370,311,865 are 5 and 1 modulo 8; and so on. Those of two other seeds; a sheet with every step, step 5 twice, and a
--- value of 32 bits; sheets whose second record has an equal second board.
+-- 370,311,865 are 5 and 1 modulo 8; and so on. Those of two other seeds; a sheet with every step and a value of 32
+-- bits; sheets whose second record has an equal second board.
 abbrev pub RecordsHold : Type 0
 RecordsHold =
     (seedRecords 0 12 ≡ of 0 7 ∷ ofBoth 9 6 2 ∷ of 2 3 ∷ of 6 4 ∷ of 2 1 ∷ of 6 6 ∷ of 2 7 ∷ ofBoth 9 8 7 ∷ bare 10

@@ -14,9 +14,9 @@ ghost use Rattle.generator.specs.Trials.{DrawsHold, StatesHold, BoardsHo
 use records::Record;
 
 // A record that was drawn, and the state of its last draw.
-pub struct Drawn {
-    pub made: Record,
-    pub state: u32,
+struct Drawn {
+    made: Record,
+    state: u32,
 }
 
 // The state of the draw after the one in s.

@@ -23,7 +23,7 @@ module _ (P : ℕ → Text → Type 0) (one : (n : ℕ) → n < 10 → P n ((48 
       by-size true e f = let l = ltb-true n 10 e in rw (digits-one n l) (one n l)
       by-size false e f = let l = ltb-false n 10 e in rw (digits-more n l) (more n (digits (n / 10)) l (f l))
 
-  pub by-digits : (n : ℕ) → P n (digits n)
+  by-digits : (n : ℕ) → P n (digits n)
   by-digits n = within (suc n) n (omega arith)
 
 reads-append : (v : ℕ) (xs ys : Text) → reads v (xs ++ ys) ≡ reads (reads v xs) ys

@@ -5,26 +5,19 @@ use mathlib.Core.Logic.{_⊎_, inl, inr, _↔_}
 use mathlib.Core.Path.{_≡_, refl, sym, ap, subst, _∙_}
 use Prim.Native.Nat.{ℕ, _+_, _^_, _<_, _≤_}
 use native.Mathlib.Omega.{arith}
-use lib.Dec.{eqb, ltb, leb, leb→le, lit≤}
+use lib.Dec.{eqb, ltb, lit≤}
 use lib.ListN.{length, take, drop, length-append, length-take}
 use lib.Seq.{drop-drop, drop-at, take-all}
-use borrow.Author.Tests.{lt-ltb, le-leb}
-use Rattle.model.proofs.Tests.{split-and, of-true, eqb-same, le-or-lt}
+use borrow.Author.Tests.{lt-ltb}
+use Rattle.model.proofs.Tests.{eqb-same, le-or-lt}
 use Rattle.text.specs.Text.{Text, Wrote, digitsWithin, digits}
-use Rattle.text.proofs.Laws.{digits-most-4, digits-most-10, over-holds, wrote-length}
+use Rattle.text.proofs.Laws.{digits-most-4, digits-most-10, wrote-length}
 use Rattle.lines.specs.Lines.{word, space, newline}
 use Rattle.reading.specs.Reading.{isDigit, leading, digitsAt, reads}
 use Rattle.reading.proofs.Decimal.{digits-back, number-lead, cut-number}
 use Rattle.generator.specs.Seeded.{seedSheet, isCount}
-use Rattle.generator.proofs.Sheets.{sheet-bytes}
+use Rattle.generator.proofs.Sheets.{count-range, sheet-bytes}
 use Rattle.seedline.specs.Line.{seedLine, Asks, IsOther, Prints, bytesRead, LinesDiffer, LinesSeen, LinesLook, OthersRefused}
-
-pub is-count : (n : ℕ) → 1 ≤ n → n ≤ 4095 → isCount n ≡ true
-is-count n l h = rw (le-leb 1 n l, le-leb n 4095 h)
-
-pub count-range : (n : ℕ) → isCount n ≡ true → (1 ≤ n) × (n ≤ 4095)
-count-range n e =
-    let t = split-and (leb 1 n) (leb n 4095) (of-true e) in (leb→le 1 n (t .0), leb→le n 4095 (t .1))
 
 -- No line that asks for a sheet has more than 16 bytes.
 pub line-most : (m n : ℕ) → m < 2 ^ 32 → n ≤ 4095 → length (seedLine m n) ≤ 16
@@ -73,12 +66,6 @@ module _ {input : Text} {m n : ℕ} (a : Asks input m n) where
   seed-within k e =
       let rest = space ++ (digits n ++ newline) in
       omega (arith, e ∙ ap length first-digits, ap length (a .line), length-append (digits m) rest)
-
--- What was written aside, read back.
-pub read-back : {d xs e : Text} {r : ℕ} → Wrote d 0 xs e r → r ≤ length d → take r e ≡ xs
-read-back {d} {xs} {e} {r} w h =
-    let n : r ≡ length xs = omega (arith, w .next) in
-    rw (n, w .text) (over-holds d 0 xs (omega (arith, h, n)))
 
 -- A line is that of one seed and one count.
 pub lines-differ : LinesDiffer

@@ -27,8 +27,8 @@ pub record Asks (input : Text) (s n : ℕ) : Type 0 where
 abbrev pub IsOther : Text → Type 0
 IsOther input = (s n : ℕ) → Asks input s n → ⊥
 
--- What was read: the seed and the count that the input asks for, or that it asks for none. It asks for one pair at
--- most (`LinesDiffer`), so this settles what is read, and what is printed.
+-- What was read: the seed and the count that the input asks for, or that it asks for none, which is refusal 2
+-- (`Prints`). It asks for one pair at most (`LinesDiffer`), so this settles what is read, and what is printed.
 abbrev pub Read : Input → Text → Type 0
 Read (Asked s n) input = Asks input s n
 Read Other input = IsOther input

@@ -2,7 +2,7 @@
 use mathlib.Core.Bool.{Bool, true, false, cond, _&&_}
 use mathlib.Core.List.{List, [], _∷_, _++_, append-assoc}
 use mathlib.Core.Path.{_≡_, refl, sym, ap, ap₂, _∙_}
-use Prim.Native.Nat.{ℕ, suc, _+_, _-_, _/_, _<_, _≤_}
+use Prim.Native.Nat.{ℕ, suc, _-_, _/_, _<_, _≤_}
 use native.Mathlib.Omega.{arith}
 use lib.Dec.{leb}
 use lib.ListN.{length, take, length-append}
@@ -16,8 +16,8 @@ use Rattle.model.proofs.Theorem.{safe}
 use Rattle.cluster.specs.declared.Cluster.{Cluster}
 use Rattle.cluster.specs.Layout.{outlineOf}
 use Rattle.refinement.specs.Refinement.{Places}
-use Rattle.text.specs.Text.{Text, over, Wrote}
-use Rattle.text.proofs.Laws.{over-holds, over-length, digits-one-length}
+use Rattle.text.specs.Text.{Text, over}
+use Rattle.text.proofs.Laws.{over-length, digits-one-length}
 use Rattle.records.specs.Bytes.{recordAt, records, wholeRecords, isSheet}
 use Rattle.lines.specs.Lines.{answerLine}
 use Rattle.listing.specs.Listing.{answerLines, lines, ending, Delivered}
@@ -37,12 +37,6 @@ lines-are s k row p ns e h =
     ap (answerLines 1 (recordAt s ∷ following s k)) (h .answered)
     ∙ ap (λ n. answerLine 1 n 0 ++ answerLines 2 (following s k)
     (answers entries (opened (openingOf (recordAt s))) (stepsOf (following s k)))) (sheet-step s e)
-
--- What was written aside, read back.
-pub read-back : {d xs e : Text} {r : ℕ} → Wrote d 0 xs e r → r ≤ length d → take r e ≡ xs
-read-back {d} {xs} {e} {r} w h =
-    let n : r ≡ length xs = omega (arith, w .next) in
-    ap₂ take n (w .text) ∙ over-holds d 0 xs (omega (arith, h, n))
 
 -- Whatever stands after it, a text is no shorter: so the listing's first line is enough to know that it is long.
 longer : (n : ℕ) (xs ys : Text) → n ≤ length xs → n ≤ length (xs ++ ys)

@@ -104,6 +104,12 @@ then-both {d} {e} {f} {at} {p} {q} xs ys {zs} w v = subst (λ t. Wrote d at t f 
 pub wrote-length : {d e xs : Text} {at r : ℕ} → Wrote d at xs e r → length e ≡ length d
 wrote-length {d} {e} {xs} {at} w = ap length (w .text) ∙ over-length d at xs
 
+-- What was written at the start of a slice is read back from there.
+pub read-back : {d xs e : Text} {r : ℕ} → Wrote d 0 xs e r → r ≤ length d → take r e ≡ xs
+read-back {d} {xs} {e} {r} w h =
+    let n : r ≡ length xs = omega (arith, w .next) in
+    rw (n, w .text) (over-holds d 0 xs (omega (arith, h, n)))
+
 -- Digits
 
 -- What stands before the last digit matters from 10 on only.

@@ -1,4 +1,4 @@
-//! Sheets from a seed.
+//! Random sheets of each kind, edge sheets, and sheets from a seed.
 
 use peer::row::{Row, Status, EPOCH_MAX, LOG_MAX};
 use peer::RECORDS_MAX;
@@ -49,8 +49,7 @@ pub enum Kind {
     Epochs,
     /// A sheet to be refused with 2.
     Broken,
-    /// The sheet of a seed (document 02, Paper 2): any steps on any boards, all well
-    /// formed.
+    /// The sheet of a seed (document 02, Paper 2): as it is drawn, all well formed.
     Seeded { seed: u32, count: usize },
     /// A sheet at the limits of the paper.
     Edge,

@@ -633,7 +633,7 @@ fn one_byte_changed_taken_out_or_put_in() {
 }
 
 /// An input that is read is the line of the numbers read from it, and they are in
-/// their ranges; so two inputs never ask for the same sheet.
+/// their ranges; so two inputs never ask for the same seed and count.
 #[track_caller]
 fn same_line(input: Vec<u8>) {
     if let Some((seed, count)) = read(&input) {

@@ -3,9 +3,9 @@ use mathlib.Core.Path.{subst}
 use native.Mathlib.Omega.{arith}
 use denote.Ref.{now}
 use borrow.Author.Needs.{needs}
-use Rattle.generator.proofs.Sheets.{made}
+use Rattle.generator.proofs.Sheets.{count-range, made}
 use Rattle.seedline.specs.Line.{Read}
-use Rattle.seedline.proofs.Line.{count-range, prints-sheet, prints-refusal}
+use Rattle.seedline.proofs.Line.{prints-sheet, prints-refusal}
 use Rattle.seedline.proofs.answer.Statement.{statement}
 use Rattle.seedline.proofs.answer.Tie as tie
 

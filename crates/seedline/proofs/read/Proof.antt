@@ -9,10 +9,11 @@ use denote.Ref.{now}
 use borrow.Author.Needs.{needs}
 use borrow.Author.Tests.{not-true, not-false}
 use Rattle.model.proofs.Tests.{of-true}
-use Rattle.text.proofs.Laws.{wrote-length}
+use Rattle.text.proofs.Laws.{read-back, wrote-length}
 use Rattle.reading.specs.Reading.{digitsAt}
+use Rattle.generator.proofs.Sheets.{is-count, count-range}
 use Rattle.seedline.specs.Line.{seedLine, Asks}
-use Rattle.seedline.proofs.Line.{is-count, count-range, line-most, line-short, seed-within, seed-back, count-back, line-back, read-back}
+use Rattle.seedline.proofs.Line.{line-most, line-short, seed-within, seed-back, count-back, line-back}
 use Rattle.seedline.proofs.read.Statement.{statement}
 use Rattle.seedline.proofs.read.Tie as tie
 

@@ -9,9 +9,9 @@ use denote.Ref.{now}
 use borrow.Author.Tests.{not-true, not-false}
 use Rattle.records.specs.Bytes.{isSheet}
 use Rattle.text.specs.Text.{Text}
-use Rattle.text.proofs.Laws.{wrote-length}
+use Rattle.text.proofs.Laws.{wrote-length, read-back}
 use Rattle.sheet.proofs.Playing.{sheet-most, ran-fits, ran-issued, ran-small}
-use Rattle.sheet.proofs.Listings.{read-back, no-sheet, delivered}
+use Rattle.sheet.proofs.Listings.{no-sheet, delivered}
 use borrow.Author.Needs.{needs}
 use Rattle.sheet.proofs.run_sheet.Statement.{statement}
 use Rattle.sheet.proofs.run_sheet.Tie as tie
