@@ -179,9 +179,9 @@ size_t run_sheet(const uint8_t *sheet, size_t sheet_len,
  *     if (len >= ROW_RECORD_LEN)
  *         run_sheet(sheet, len, listing, sizeof listing);
  *
- * run_sheet never gives ROW_BAD_SHEET for such a sheet. Steps, boards and values
- * are drawn, so in the listing most records are not ROW_ACCEPTED; none is
- * ROW_REFUSED_FIELD. The draws are no source of secrets.
+ * run_sheet never gives ROW_BAD_SHEET for such a sheet, and no record of it is
+ * ROW_REFUSED_FIELD. Steps, boards and values are drawn, so in the listing of a
+ * long sheet most records are not ROW_ACCEPTED. The draws are no source of secrets.
  */
 size_t seed_sheet(uint32_t seed, size_t count,
                   uint8_t *sheet, size_t sheet_room);
