@@ -186,6 +186,17 @@ size_t run_sheet(const uint8_t *sheet, size_t sheet_len,
 size_t seed_sheet(uint32_t seed, size_t count,
                   uint8_t *sheet, size_t sheet_room);
 
+/*
+ * How many boards make a majority of a set: half of them rounded down, plus 1.
+ * The number is looked up; docs/MAJORITY.md prints the table for the manual.
+ *
+ *   set  a bit a board: 1 for board 1, 2 for board 2, up to 128 for board 8
+ *
+ * Every set has an answer, 1 to 5. That of the empty set is 1, so it has no
+ * majority: a step that needs one is ROW_REFUSED_NO_MAJORITY then.
+ */
+uint8_t majority_size(uint8_t set);
+
 #ifdef __cplusplus
 }
 #endif

@@ -120,9 +120,26 @@ static int run_seeded(void)
     return memcmp(listing, answers, sizeof answers - 1) == 0 ? 0 : 19;
 }
 
+/* Document 01's majority, half the boards rounded down plus 1, of every set. Returns as above. */
+static int look_up(void)
+{
+    int set, left, boards;
+
+    for (set = 0; set < 256; set++) {
+        boards = 0;
+        for (left = set; left > 0; left /= 2)
+            boards += left % 2;
+        if (majority_size((uint8_t)set) != boards / 2 + 1)
+            return 21;
+    }
+    return 0;
+}
+
 int main(void)
 {
     int wrong = run_sample();
 
-    return wrong != 0 ? wrong : run_seeded();
+    if (wrong == 0)
+        wrong = run_seeded();
+    return wrong != 0 ? wrong : look_up();
 }

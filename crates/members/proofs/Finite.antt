@@ -1,10 +1,12 @@
 -- A fact of every number below a bound, and of every replica, by one test that antt computes. Assumes nothing.
 use mathlib.Core.Bool.{Bool, true, false, _&&_, and-eq-true-iff, Bool·beq}
-use mathlib.Core.Path.{_≡_, refl, sym, subst}
-use Prim.Native.Nat.{ℕ, zero, suc, _-_, _<_, _≤_}
-use native.Mathlib.Nat.{not-suc-le-zero}
+use mathlib.Core.List.{List, [], _∷_}
+use mathlib.Core.Path.{_≡_, refl, sym, subst, ap, _∙_}
+use Prim.Native.Nat.{ℕ, zero, suc, _+_, _-_, _<_, _≤_}
+use native.Mathlib.Nat.{add-zero, zero-add, add-suc, suc-add, le-of-suc-le-suc, not-suc-le-zero}
 use native.Mathlib.Omega.{arith}
 use lib.Dec.{eqb}
+use lib.ListN.{getD}
 use borrow.Author.Tests.{eqb-true, eqb-false}
 
 -- The test passes at every number below n.
@@ -21,6 +23,25 @@ below f zero t k h = absurd (not-suc-le-zero h)
 below f (suc n) t k h =
     let both = and-eq-true-iff (f n) (all f n) .0 t in
     last f n k (eqb k n) refl h (both .0) (λ l. below f n (both .1) k l)
+
+-- The rule's numbers at i, i + 1 and so on, n of them.
+abbrev pub tableFrom : (ℕ → ℕ) → ℕ → ℕ → List ℕ
+tableFrom rule i zero = []
+tableFrom rule i (suc n) = rule i ∷ tableFrom rule (suc i) n
+
+-- The table of a rule: its numbers at 0 to n - 1. That an array is the table of a rule is one test over the whole array,
+-- which antt makes by computing the rule at each place.
+abbrev pub table : (ℕ → ℕ) → ℕ → List ℕ
+table rule n = tableFrom rule 0 n
+
+from : (rule : ℕ → ℕ) (i n k : ℕ) → k < n → getD (tableFrom rule i n) k 0 ≡ rule (i + k)
+from rule i zero k h = absurd (not-suc-le-zero h)
+from rule i (suc n) zero h = ap rule (sym (add-zero i))
+from rule i (suc n) (suc k) h = from rule (suc i) n k (le-of-suc-le-suc h) ∙ ap rule (suc-add i k ∙ sym (add-suc i k))
+
+-- Each entry of the table is the rule's number at its place.
+pub entry : (rule : ℕ → ℕ) (n k : ℕ) → k < n → getD (table rule n) k 0 ≡ rule k
+entry rule n k h = from rule 0 n k h ∙ ap rule (zero-add k)
 
 -- The test passes at every replica.
 abbrev pub each : (ℕ → Bool) → Bool

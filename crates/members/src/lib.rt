@@ -55,11 +55,34 @@ pub fn size(m: u8) -> u8
     u8::count_ones(m) as u8
 }
 
+// The majority size of each set, by its mask: 16 rows of 16, each row after the mask that it begins with. Document 02,
+// Paper 3: "a table of 256 numbers, one for each set of boards, board 1 as the lowest bit"; docs/MAJORITY.md prints it.
+// A number takes two bytes because a lookup is shorter so: the array is laid out anew for each (docs/MEASURES.md).
+#[rattlefmt::skip]
+const MAJORITY: [u16; 256] = [
+    1, 1, 1, 2, 1, 2, 2, 2, 1, 2, 2, 2, 2, 2, 2, 3, // 00
+    1, 2, 2, 2, 2, 2, 2, 3, 2, 2, 2, 3, 2, 3, 3, 3, // 10
+    1, 2, 2, 2, 2, 2, 2, 3, 2, 2, 2, 3, 2, 3, 3, 3, // 20
+    2, 2, 2, 3, 2, 3, 3, 3, 2, 3, 3, 3, 3, 3, 3, 4, // 30
+    1, 2, 2, 2, 2, 2, 2, 3, 2, 2, 2, 3, 2, 3, 3, 3, // 40
+    2, 2, 2, 3, 2, 3, 3, 3, 2, 3, 3, 3, 3, 3, 3, 4, // 50
+    2, 2, 2, 3, 2, 3, 3, 3, 2, 3, 3, 3, 3, 3, 3, 4, // 60
+    2, 3, 3, 3, 3, 3, 3, 4, 3, 3, 3, 4, 3, 4, 4, 4, // 70
+    1, 2, 2, 2, 2, 2, 2, 3, 2, 2, 2, 3, 2, 3, 3, 3, // 80
+    2, 2, 2, 3, 2, 3, 3, 3, 2, 3, 3, 3, 3, 3, 3, 4, // 90
+    2, 2, 2, 3, 2, 3, 3, 3, 2, 3, 3, 3, 3, 3, 3, 4, // A0
+    2, 3, 3, 3, 3, 3, 3, 4, 3, 3, 3, 4, 3, 4, 4, 4, // B0
+    2, 2, 2, 3, 2, 3, 3, 3, 2, 3, 3, 3, 3, 3, 3, 4, // C0
+    2, 3, 3, 3, 3, 3, 3, 4, 3, 3, 3, 4, 3, 4, 4, 4, // D0
+    2, 3, 3, 3, 3, 3, 3, 4, 3, 3, 3, 4, 3, 4, 4, 4, // E0
+    3, 3, 3, 4, 3, 4, 4, 4, 3, 4, 4, 4, 4, 4, 4, 5, // F0
+];
+
 // How many make a majority of the set.
 pub fn majority(m: u8) -> u8
     ensures { λ r. ⌜ r ≡ Q.quorum (Q.size (bits m)) ⌝ }
 {
-    size(m) / 2 + 1
+    MAJORITY[m as usize] as u8
 }
 
 // The replicas in both sets.

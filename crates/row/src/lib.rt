@@ -4,6 +4,8 @@
 ghost use mathlib.Core.Path.{_≡_};
 ghost use Rattle.sheet.specs.Sheet as Sheet;
 ghost use Rattle.generator.specs.Seeded as Seeded;
+ghost use Rattle.model.specs.Members as Members;
+ghost use Rattle.members.specs.Mask.{bits};
 
 // Sheet in, listing out: the listing's length, 2 for a sheet of wrong length or without a valid opening, 3 for a slice
 // that is shorter than the listing.
@@ -23,4 +25,13 @@ pub extern "C" fn seed_sheet(seed: u32, count: usize, sheet: &mut [u8]) -> usize
         × (now (sheet .exit) ≡ Seeded.left seed count (now (sheet .entry))) ⌝ }
 {
     generator::seed_sheet(seed, count, &mut *sheet)
+}
+
+// How many boards make a majority of a set, by its mask, board 1 the lowest bit: the number that docs/MAJORITY.md prints
+// there, 1 for the empty set.
+#[no_mangle]
+pub extern "C" fn majority_size(set: u8) -> u8
+    ensures { λ r. ⌜ r ≡ Members.quorum (Members.size (bits set)) ⌝ }
+{
+    members::majority(set)
 }

@@ -7,18 +7,20 @@
 //! random one through the program that RUNSHEET names, over standard input. As
 //! many random seeds go through the C entry `seed_sheet` and the program that
 //! SEEDSHEET names in the same way, and their sheets are then sheets like the
-//! others. That program is also given inputs that it must refuse.
+//! others. That program is also given inputs that it must refuse. At last the C
+//! entry `majority_size` is asked of every set of boards.
 //! With --edges it compares nothing: it writes edge sheet N to DIR/N.sheet, and
 //! what the second program prints of it to DIR/N.printed. With --lines it writes
 //! the inputs of the other program so, N to DIR/N.line.
 //!
-//! Exit status: 0 all agree; 1 a sheet or a line differs; 2 bad usage, or a
+//! Exit status: 0 all agree; 1 a sheet, a line or a set differs; 2 bad usage, or a
 //! program does not run; 3 all agree, but something that a run can meet was not
 //! met (as may be with fewer than 1,000 sheets).
 
 mod both;
 mod coverage;
 mod seeds;
+mod sets;
 mod sheets;
 
 use both::{differs, Fault};
@@ -135,7 +137,8 @@ impl Comparison {
             self.take(generate::random(Rng::new(of_sheets.draw())), print)?;
             self.take(generate::random_seeded(Rng::new(of_seeds.draw())), print)?;
         }
-        Ok(())
+        // Last: a wrong table is to be found by sheets, if they can.
+        sets::agree()
     }
 
     /// Compares one sheet; one that differs is kept.

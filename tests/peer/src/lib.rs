@@ -1,4 +1,4 @@
-//! A second program for document 01 and Papers 1 and 2 of document 02: it turns a
+//! A second program for document 01 and Papers 1 to 3 of document 02: it turns a
 //! sheet into its listing, or into the number of the refusal, and a seed and a
 //! count of records into a bench sheet.
 //!

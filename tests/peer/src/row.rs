@@ -77,8 +77,28 @@ pub struct Row {
 }
 
 /// A majority of n boards is n/2 rounded down, plus 1.
-pub fn majority(n: u32) -> u32 {
+pub const fn majority(n: u32) -> u32 {
     n / 2 + 1
+}
+
+/// Majority sizes from a table, one for each set of boards, board 1 as the lowest
+/// bit, as in `View::members`: document 02, Paper 3.
+pub static MAJORITY_SIZES: [u8; 256] = majority_sizes();
+
+const fn majority_sizes() -> [u8; 256] {
+    let mut sizes = [0; 256];
+    let mut set: usize = 0;
+    while set < 256 {
+        // 1 for the empty set needs no case of its own: it is half of 0, plus 1.
+        sizes[set] = majority(set.count_ones()) as u8;
+        set += 1;
+    }
+    sizes
+}
+
+/// The majority size of a set of boards, looked up.
+pub fn majority_size(set: u8) -> u8 {
+    MAJORITY_SIZES[usize::from(set)]
 }
 
 /// Where board b, 1 to 8, stands in an array of eight.
@@ -144,7 +164,7 @@ impl View {
     /// Does `holds` hold for a majority of the members?
     fn majority_of(&self, holds: impl Fn(u8) -> bool) -> bool {
         let number = (1..=8).filter(|&b| self.has(b) && holds(b)).count();
-        number as u32 >= majority(self.size())
+        number >= usize::from(majority_size(self.members))
     }
 }
 
