@@ -1,6 +1,6 @@
 /*
- * stack SHEET...: how deep run_sheet goes into the stack, for each sheet, and
- * seed_sheet, for the longest sheet of a seed.
+ * stack SHEET...: how deep run_sheet goes into the stack, for each sheet,
+ * seed_sheet, for the longest sheet of a seed, and look_up_majority, for every set.
  *
  * The call is made on a stack of its own, painted before; the first byte from
  * the far end that lost its paint is the high-water mark. It is counted from
@@ -21,6 +21,7 @@ enum { STACK_LEN = 1 << 20 };
 
 typedef size_t (*runner)(const uint8_t *, size_t, uint8_t *, size_t);
 typedef size_t (*maker)(uint32_t, size_t, uint8_t *, size_t);
+typedef uint8_t (*looker)(uint8_t);
 
 static uint8_t stack[STACK_LEN];
 static uint8_t sheet[ROW_SHEET_LEN(ROW_RECORDS_MAX) + 1];
@@ -30,6 +31,7 @@ static uint8_t listing[ROW_LISTING_LEN(ROW_RECORDS_MAX)];
 static ucontext_t here, there;
 static runner run;
 static maker make;
+static looker look;
 static size_t result;
 
 static void call_run(void)
@@ -42,6 +44,14 @@ static void call_make(void)
     result = make(1, ROW_RECORDS_MAX, sheet, sizeof sheet);
 }
 
+static void call_look(void)
+{
+    int set;
+
+    for (set = 0; set <= UINT8_MAX; set++)
+        result = look((uint8_t)set);
+}
+
 /* Calls that take nothing but their return address. */
 static size_t run_nothing(const uint8_t *in, size_t in_len, uint8_t *out, size_t out_len)
 {
@@ -52,6 +62,12 @@ static size_t run_nothing(const uint8_t *in, size_t in_len, uint8_t *out, size_t
 static size_t make_nothing(uint32_t seed, size_t count, uint8_t *out, size_t out_len)
 {
     (void)seed, (void)count, (void)out, (void)out_len;
+    return 0;
+}
+
+static uint8_t look_nothing(uint8_t set)
+{
+    (void)set;
     return 0;
 }
 
@@ -97,6 +113,12 @@ static size_t make_depth(maker m)
     return deepest(call_make);
 }
 
+static size_t look_depth(looker l)
+{
+    look = l;
+    return deepest(call_look);
+}
+
 int main(int argc, char **argv)
 {
     const size_t address = sizeof(void (*)(void));
@@ -122,5 +144,8 @@ int main(int argc, char **argv)
     before = make_depth(make_nothing) - address;
     mark = make_depth(seed_sheet) - before;
     printf("%8zu  seed_sheet (seed 1, %d records, result %zu)\n", mark, ROW_RECORDS_MAX, result);
+    before = look_depth(look_nothing) - address;
+    mark = look_depth(look_up_majority) - before;
+    printf("%8zu  look_up_majority (every set, the last result %zu)\n", mark, result);
     return 0;
 }

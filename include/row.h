@@ -1,6 +1,6 @@
 /*
- * A row of telemetry boards: runs a sheet of steps and writes its listing, and
- * makes sheets from a seed.
+ * A row of telemetry boards: runs a sheet of steps and writes its listing, makes
+ * sheets from a seed, and looks up how many boards make a majority.
  *
  * Link with librow.a. docs/FORMATS.md has the same formats with an example of
  * every line, what each step asks and does, and who causes each refusal.
@@ -195,7 +195,7 @@ size_t seed_sheet(uint32_t seed, size_t count,
  * Every set has an answer, 1 to 5. That of the empty set is 1, so it has no
  * majority: a step that needs one is ROW_REFUSED_NO_MAJORITY then.
  */
-uint8_t majority_size(uint8_t set);
+uint8_t look_up_majority(uint8_t set);
 
 #ifdef __cplusplus
 }

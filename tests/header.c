@@ -129,7 +129,7 @@ static int look_up(void)
         boards = 0;
         for (left = set; left > 0; left /= 2)
             boards += left % 2;
-        if (majority_size((uint8_t)set) != boards / 2 + 1)
+        if (look_up_majority((uint8_t)set) != boards / 2 + 1)
             return 21;
     }
     return 0;

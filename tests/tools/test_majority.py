@@ -92,7 +92,7 @@ class Majority(unittest.TestCase):
             self.assertEqual(self.low[place], f"+{low}")
             self.assertEqual(int(high, 16) + int(low, 16), int(whole, 16))
             self.assertEqual(row[2 + place], number)
-        ((called, given),) = re.findall(r"`majority_size\(0x(\w\w)\)` gives (\d)", text)
+        ((called, given),) = re.findall(r"`look_up_majority\(0x(\w\w)\)` gives (\d)", text)
         self.assertEqual(self.rows[int(called[0], 16)][2 + int(called[1], 16)], given)
 
 

@@ -30,7 +30,7 @@ pub extern "C" fn seed_sheet(seed: u32, count: usize, sheet: &mut [u8]) -> usize
 // How many boards make a majority of a set, by its mask, board 1 the lowest bit: the number that docs/MAJORITY.md prints
 // there, 1 for the empty set.
 #[no_mangle]
-pub extern "C" fn majority_size(set: u8) -> u8
+pub extern "C" fn look_up_majority(set: u8) -> u8
     ensures { λ r. ⌜ r ≡ Members.quorum (Members.size (bits set)) ⌝ }
 {
     members::majority(set)

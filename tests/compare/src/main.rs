@@ -8,7 +8,7 @@
 //! many random seeds go through the C entry `seed_sheet` and the program that
 //! SEEDSHEET names in the same way, and their sheets are then sheets like the
 //! others. That program is also given inputs that it must refuse. At last the C
-//! entry `majority_size` is asked of every set of boards.
+//! entry `look_up_majority` is asked of every set of boards.
 //! With --edges it compares nothing: it writes edge sheet N to DIR/N.sheet, and
 //! what the second program prints of it to DIR/N.printed. With --lines it writes
 //! the inputs of the other program so, N to DIR/N.line.
