@@ -11,13 +11,15 @@
  * (A tzcnt in it runs as bsf on older processors, and both agree wherever the
  * result is used.) It allocates nothing, makes no system call, and calls two
  * functions of the C library: memcpy and memset. There are no unwind tables,
- * and nothing in it throws or jumps out.
+ * and nothing in it throws or jumps out. It uses the 128 bytes below the stack
+ * pointer that the convention gives a function (the red zone): a handler that
+ * runs on the same stack must leave them alone.
  *
- * Stack. On every sheet that was tried a call of run_sheet took at most 29,360
+ * Stack. On every sheet that was tried a call of run_sheet took at most 29,904
  * bytes, with memcpy and memset bound beforehand (link with -z now; bound at
- * their first call, that call took 32,488). No proof bounds it. The pages are
+ * their first call, that call took 32,552). No proof bounds it. The pages are
  * touched in order, so a guard page is met before anything below it. A call of
- * seed_sheet took 32 bytes.
+ * seed_sheet took 32 bytes, one of look_up_majority 528.
  *
  * Reentrant. Nothing is kept between calls: calls may run in several threads,
  * or one inside a handler that interrupts another, each with its own slices.
@@ -192,8 +194,8 @@ size_t seed_sheet(uint32_t seed, size_t count,
  *
  *   set  a bit a board: 1 for board 1, 2 for board 2, up to 128 for board 8
  *
- * Every set has an answer, 1 to 5. That of the empty set is 1, so it has no
- * majority: a step that needs one is ROW_REFUSED_NO_MAJORITY then.
+ * Every set has an answer, 1 to 5. The empty set has 1, more boards than it has:
+ * it has no majority.
  */
 uint8_t look_up_majority(uint8_t set);
 

@@ -1,4 +1,5 @@
--- A fact of every number below a bound, and of every replica, by one test that antt computes. Assumes nothing.
+-- A fact of every number below a bound, of every replica, and of every place of a table, by one test that antt
+-- computes. Assumes nothing.
 use mathlib.Core.Bool.{Bool, true, false, _&&_, and-eq-true-iff, Bool·beq}
 use mathlib.Core.List.{List, [], _∷_}
 use mathlib.Core.Path.{_≡_, refl, sym, subst, ap, _∙_}
@@ -29,19 +30,20 @@ abbrev pub tableFrom : (ℕ → ℕ) → ℕ → ℕ → List ℕ
 tableFrom rule i zero = []
 tableFrom rule i (suc n) = rule i ∷ tableFrom rule (suc i) n
 
--- The table of a rule: its numbers at 0 to n - 1. That an array is the table of a rule is one test over the whole array,
--- which antt makes by computing the rule at each place.
+-- The table of a rule: its numbers at 0 to n - 1. Where an array stands in a goal and this table in what is offered for
+-- it, antt computes the rule at all n places and compares: the test that the array is the rule's.
 abbrev pub table : (ℕ → ℕ) → ℕ → List ℕ
 table rule n = tableFrom rule 0 n
 
+-- The number at place k of what begins at i.
 from : (rule : ℕ → ℕ) (i n k : ℕ) → k < n → getD (tableFrom rule i n) k 0 ≡ rule (i + k)
 from rule i zero k h = absurd (not-suc-le-zero h)
 from rule i (suc n) zero h = ap rule (sym (add-zero i))
 from rule i (suc n) (suc k) h = from rule (suc i) n k (le-of-suc-le-suc h) ∙ ap rule (suc-add i k ∙ sym (add-suc i k))
 
--- Each entry of the table is the rule's number at its place.
-pub entry : (rule : ℕ → ℕ) (n k : ℕ) → k < n → getD (table rule n) k 0 ≡ rule k
-entry rule n k h = from rule 0 n k h ∙ ap rule (zero-add k)
+-- The table's number at a place is the rule's there.
+pub table-at : (rule : ℕ → ℕ) (n k : ℕ) → k < n → getD (table rule n) k 0 ≡ rule k
+table-at rule n k h = from rule 0 n k h ∙ ap rule (zero-add k)
 
 -- The test passes at every replica.
 abbrev pub each : (ℕ → Bool) → Bool

@@ -55,9 +55,9 @@ pub fn size(m: u8) -> u8
     u8::count_ones(m) as u8
 }
 
-// The majority size of each set, by its mask: 16 rows of 16, each row after the mask that it begins with. Document 02,
+// The majority size of each set, by its mask: 16 rows of 16, behind each row the mask of its first set. Document 02,
 // Paper 3: "a table of 256 numbers, one for each set of boards, board 1 as the lowest bit"; docs/MAJORITY.md prints it.
-// A number takes two bytes because a lookup is shorter so: the array is laid out anew for each (docs/MEASURES.md).
+// The array is laid out anew for each lookup, and numbers of two bytes are laid out faster (docs/DECISIONS.md).
 #[rattlefmt::skip]
 const MAJORITY: [u16; 256] = [
     1, 1, 1, 2, 1, 2, 2, 2, 1, 2, 2, 2, 2, 2, 2, 3, // 00

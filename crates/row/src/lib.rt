@@ -27,8 +27,8 @@ pub extern "C" fn seed_sheet(seed: u32, count: usize, sheet: &mut [u8]) -> usize
     generator::seed_sheet(seed, count, &mut *sheet)
 }
 
-// How many boards make a majority of a set, by its mask, board 1 the lowest bit: the number that docs/MAJORITY.md prints
-// there, 1 for the empty set.
+// How many boards make a majority of a set, by its mask, board 1 the lowest bit: the number that docs/MAJORITY.md
+// prints for the set, 1 for the empty one.
 #[no_mangle]
 pub extern "C" fn look_up_majority(set: u8) -> u8
     ensures { λ r. ⌜ r ≡ Members.quorum (Members.size (bits set)) ⌝ }

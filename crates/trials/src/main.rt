@@ -1,5 +1,5 @@
 // The trials of document 01 on the calls: after each trial's name, the answers in order. P1 is about majorities, which
-// have no call of their own: `model` proves it.
+// no step answers: `model` proves it.
 use cluster::Cluster;
 use records::Record;
 

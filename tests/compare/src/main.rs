@@ -1,17 +1,18 @@
 //! compare [SHEETS [SEED]]
 //! compare --edges DIR
 //! compare --lines DIR
+//! compare --sets
 //!
 //! Holds the proved programs to the second one: each sheet goes through the C
 //! entry `run_sheet` in several slices, and the edge sheets and every fourth
 //! random one through the program that RUNSHEET names, over standard input. As
 //! many random seeds go through the C entry `seed_sheet` and the program that
 //! SEEDSHEET names in the same way, and their sheets are then sheets like the
-//! others. That program is also given inputs that it must refuse. At last the C
-//! entry `look_up_majority` is asked of every set of boards.
+//! others. That program is also given inputs that it must refuse.
 //! With --edges it compares nothing: it writes edge sheet N to DIR/N.sheet, and
 //! what the second program prints of it to DIR/N.printed. With --lines it writes
-//! the inputs of the other program so, N to DIR/N.line.
+//! the inputs of the other program so, N to DIR/N.line. With --sets it asks the C
+//! entry `look_up_majority` and the second program of every set of boards alone.
 //!
 //! Exit status: 0 all agree; 1 a sheet, a line or a set differs; 2 bad usage, or a
 //! program does not run; 3 all agree, but something that a run can meet was not
@@ -43,6 +44,7 @@ fn main() -> ExitCode {
     let done = match words[..] {
         ["--edges", dir] => write(dir, "sheet", &generate::edges(), sheets::printed),
         ["--lines", dir] => write(dir, "line", &seeds::lines(), peer::seed::print),
+        ["--sets"] => told(sets::compare()),
         _ => compare_with(&words),
     };
     match done {
@@ -75,7 +77,7 @@ fn write(
 fn compare_with(words: &[&str]) -> io::Result<u8> {
     let number = |n: usize, default| words.get(n).map_or(Ok(default), |word| word.parse());
     let (Ok(sheets), Ok(seed), 0..=2) = (number(0, SHEETS), number(1, SEED), words.len()) else {
-        eprintln!("usage: compare [SHEETS [SEED]] | --edges DIR | --lines DIR");
+        eprintln!("usage: compare [SHEETS [SEED]] | --edges DIR | --lines DIR | --sets");
         return Ok(2);
     };
     let named = |name: &str| match env::var_os(name) {
@@ -98,8 +100,14 @@ fn compare_with(words: &[&str]) -> io::Result<u8> {
         edges.len(),
         seeds::lines().len()
     );
-    match comparison.run(&edges, sheets) {
-        Ok(()) => Ok(comparison.tell(sheets)),
+    let compared = comparison.run(&edges, sheets);
+    told(compared.map(|()| comparison.tell(sheets)))
+}
+
+/// The exit status, once what differs is told.
+fn told(compared: Result<u8, Fault>) -> io::Result<u8> {
+    match compared {
+        Ok(status) => Ok(status),
         Err(Fault::Differs(said)) => {
             println!("{said}");
             Ok(1)
@@ -137,8 +145,7 @@ impl Comparison {
             self.take(generate::random(Rng::new(of_sheets.draw())), print)?;
             self.take(generate::random_seeded(Rng::new(of_seeds.draw())), print)?;
         }
-        // Last: a wrong table is to be found by sheets, if they can.
-        sets::agree()
+        Ok(())
     }
 
     /// Compares one sheet; one that differs is kept.
