@@ -55,7 +55,7 @@ extern "C" {
 /* The steps, and the fields that each uses. */
 enum row_step {
     ROW_STEP_OPENING = 0,          /* board          opens the row, as its leader and only member */
-    ROW_STEP_APPEND = 1,           /* board, value   the value is added to the board's log */
+    ROW_STEP_APPEND = 1,           /* board, value   the value is added to its log, with its leader epoch */
     ROW_STEP_RECEIPT = 2,          /* board          the next entry of its log joins the receipts */
     ROW_STEP_ADD = 3,              /* board          the board joins the members */
     ROW_STEP_REMOVE = 4,           /* board          the board leaves the members */
@@ -112,7 +112,12 @@ enum row_answer {
  *   control EPOCH LEADER-EPOCH LEADER MEMBERS idle|leader|boards|choosing
  *   board B EPOCH LEADER-EPOCH LEADER MEMBERS JOINED LENGTH late|current
  *                                8 lines, boards 1 to 8
- *   receipts N VALUE ... VALUE   how many, then their values
+ *   receipts N VALUE@EPOCH ...   how many, then the value and the epoch of each,
+ *                                as in 41@1
+ *
+ * The EPOCH of an entry is the LEADER-EPOCH of the board that appended it, when it
+ * did. The entry keeps it in the logs of boards that receive it, and in its receipt.
+ * Two entries are the same only if VALUE and EPOCH both are: a join cuts by that.
  *
  * A board is late if its EPOCH is below the registry's or its JOINED differs
  * from the registry's LEADER-EPOCH, else current. The log of one that is current
@@ -125,13 +130,13 @@ enum row_answer {
  *       39  the registry's line:   9 + 5 + 5 + 2 + 9 + 9
  *       38  the controller's line: 8 + 5 + 5 + 2 + 9 + 9
  *      368  8 board lines of at most 8 + 5 + 5 + 2 + 9 + 5 + 3 + 9 = 46
- *     5645  the receipts' line: 13, and 512 times a space and 10 digits
+ *     8205  the receipts' line: 13, and 512 times a space, 10 digits, @ and 4 digits
  *
- * That is 12 n + 6090, and 55,230 for the longest sheet: an int of 32 bits
+ * That is 12 n + 8650, and 57,790 for the longest sheet: an int of 32 bits
  * holds it for every n up to ROW_RECORDS_MAX. There is no cast, so that it
  * stands in #if too.
  */
-#define ROW_LISTING_LEN(n) (12 * (n) + 6090)
+#define ROW_LISTING_LEN(n) (12 * (n) + 8650)
 
 /*
  * Runs a sheet from its opening and writes the listing.

@@ -6,7 +6,7 @@
 
 #include <string.h>
 
-#if ROW_LISTING_LEN(100) > 6000 && ROW_LISTING_LEN(ROW_RECORDS_MAX) == 55230
+#if ROW_LISTING_LEN(100) > 6000 && ROW_LISTING_LEN(ROW_RECORDS_MAX) == 57790
 enum { LISTING_LEN = ROW_LISTING_LEN(4) };
 #endif
 #if ROW_RECORD_LEN * ROW_RECORDS_MAX != 32760 || ROW_SHEET_LEN(ROW_RECORDS_MAX) != 32760
@@ -58,8 +58,8 @@ SAME(ROW_REFUSED_NO_MAJORITY, 14);
 SAME(ROW_REFUSED_STAGE, 15);
 SAME(ROW_REFUSED_EPOCHS_DIFFER, 16);
 
-/* The sample's listing in document 01 has so many bytes. */
-enum { SAMPLE_LISTING = 285 };
+/* The sample's listing has so many bytes: document 01's 285, and @1 after the receipt's value. */
+enum { SAMPLE_LISTING = 287 };
 
 /* Returns 0, or the number of the call that is wrong. */
 static int run_sample(void)
@@ -70,8 +70,10 @@ static int run_sample(void)
         ROW_STEP_RECEIPT, 1, 0, 0, 0, 0, 0, 0,
         ROW_STEP_ADD, 2, 0, 0, 0, 0, 0, 0,
     };
+    /* Document 02, Paper 4. */
+    static const char receipts[] = "\nreceipts 1 41@1\n";
     static uint8_t listing[LISTING_LEN];
-    size_t n = 4;
+    size_t n = 4, receipts_len = sizeof receipts - 1;
 
     /* A length of another type is as good. */
     if (ROW_LISTING_LEN(n) != sizeof listing)
@@ -84,7 +86,7 @@ static int run_sample(void)
         return 4;
     if (run_sheet(sheet, sizeof sheet, listing, SAMPLE_LISTING) != SAMPLE_LISTING)
         return 5;
-    return listing[SAMPLE_LISTING - 1] == '\n' ? 0 : 6;
+    return memcmp(listing + SAMPLE_LISTING - receipts_len, receipts, receipts_len) == 0 ? 0 : 6;
 }
 
 /* The first three records of seed 0 are made and run. Returns as above. */

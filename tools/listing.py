@@ -12,7 +12,7 @@ BOARD = ["board", *VIEW, "joined", "length", "mark"]
 
 
 class Listing(NamedTuple):
-    """The answers, and the other lines as fields by name."""
+    """The answers, and the other lines as fields by name; a receipt as it stands there, value@epoch."""
 
     answers: list
     registry: dict
@@ -65,7 +65,7 @@ def in_words(steps, listing):
     boards = [BOARD, *(list(board.values()) for board in listing.boards)]
     receipts = f"receipts: {len(listing.receipts)}"
     if listing.receipts:
-        receipts += ", of " + " ".join(listing.receipts)
+        receipts += ", as value@epoch: " + " ".join(listing.receipts)
     parts = [*table(rows), "", *table(views), "", *table(boards), "", receipts]
     return "".join(part + "\n" for part in parts)
 
@@ -95,5 +95,5 @@ def changes(before, after):
         lines.append(f"board{'s' * (len(boards) > 1)} {' '.join(boards)}: {change}")
     old, new = before.receipts, after.receipts
     if old != new:
-        lines.append(f"receipts: {len(old)} -> {len(new)}" + "".join(f", {value}" for value in new[len(old) :]))
+        lines.append(f"receipts: {len(old)} -> {len(new)}" + "".join(f", {receipt}" for receipt in new[len(old) :]))
     return lines

@@ -23,7 +23,7 @@ use std::{env, fs};
 const SEED: u64 = 1;
 const ROUNDS: usize = 301;
 /// Room for any listing, and for any sheet.
-const ROOM: usize = 55_230;
+const ROOM: usize = 57_790;
 
 fn main() -> ExitCode {
     let args: Vec<String> = env::args().skip(1).collect();

@@ -2,7 +2,7 @@
 """Tests of tools/run-sheet, with the programs that RUNSHEET and SEEDSHEET name.
 
 What a row answers is taken from document 01, its sample, its trials, its rules,
-a board's mark and the records of a seed from document 02.
+a board's mark, the records of a seed and the epochs of entries from document 02.
 """
 
 import os
@@ -28,7 +28,7 @@ import sheet  # noqa: E402
 LISTED, REFUSED, NOT_RUN, FAILED = range(4)
 WORDS = b"open 1\nappend 1 41\nreceipt 1\nadd 2\n"
 RECORDS = bytes([0, 1, 0, 0, 0, 0, 0, 0, 1, 1, 0, 0, 41, 0, 0, 0, 2, 1, 0, 0, 0, 0, 0, 0, 3, 2, 0, 0, 0, 0, 0, 0])
-# The sample's listing in document 01.
+# The sample's listing in document 01, its receipt with the epoch of document 02, Paper 4.
 LISTING = b"""\
 1 0 0
 2 1 0
@@ -44,7 +44,7 @@ board 5 1 1 1 1 1 0 late
 board 6 1 1 1 1 1 0 late
 board 7 1 1 1 1 1 0 late
 board 8 1 1 1 1 1 0 late
-receipts 1 41
+receipts 1 41@1
 """
 # The first records of seed 0: tests/peer/tests/seed.rs says how they were worked out. Board
 # 7 opens the row, so that neither board 6, 3 nor 1 is leader, and board 4 has all news.
@@ -347,7 +347,12 @@ class InWords(InFolder):
         self.assertEqual(boards[0], ["board", *view, "joined", "length", "mark"])
         self.assertEqual(boards[1], ["1", "1", "1", "1", "1", "1", "1", "late"])
         self.assertEqual(boards[2:], [[str(b), "1", "1", "1", "1", "1", "0", "late"] for b in range(2, 9)])
-        self.assertEqual(receipts, [["receipts: 1, of 41"]])
+        self.assertEqual(receipts, [["receipts: 1, as value@epoch: 41@1"]])
+
+    def test_receipts_of_two_leader_epochs(self):
+        """Board 1 appended 40 under leader epoch 1, board 2 appended 41 under 6."""
+        done = run("--words", ROOT / "examples" / "two-sales.txt")
+        self.assertEqual(done.stdout.decode().splitlines()[-1], "receipts: 2, as value@epoch: 40@1 41@6")
 
     def test_columns_stand_below_their_names(self):
         lines = run("--words").stdout.decode().splitlines()
@@ -379,7 +384,7 @@ class InWords(InFolder):
                     told += refusal is not None
                     expected = rf"refused {refusal[1]}: .+" if refusal else "accepted"
                     self.assertRegex(shown[number], f"^{expected}$")
-        self.assertEqual(told, 5)
+        self.assertEqual(told, 7)
 
 
 class Phrases(unittest.TestCase):
@@ -480,7 +485,7 @@ class Asking(InFolder):
                 "accepted",
                 "  board 1: length 0 -> 1",
                 "accepted",
-                "  receipts: 0 -> 1, 41",
+                "  receipts: 0 -> 1, 41@1",
                 "accepted",
                 "  registry: epoch 1 -> 2, members 1 -> 1 2, status normal -> waiting",
                 "  boards 1 2 3 4 5 6 7 8: mark current -> late",
@@ -502,6 +507,22 @@ class Asking(InFolder):
                 f"  board 4: {joined}",
                 "accepted",
                 f"  board 1: {joined}",
+            ],
+        )
+
+    def test_two_sales(self):
+        """Document 02, Paper 4: a join cuts an entry that has its leader's value and another epoch."""
+        story = str(ROOT / "examples" / "two-sales.txt")
+        self.assertEqual(
+            self.ask(["undo", "join 1", "receive 1", "receive 1"], story),
+            [
+                "taken back: join 1",
+                "  board 1: joined 6 -> 1, length 1 -> 2, mark current -> late",
+                "accepted",
+                "  board 1: joined 1 -> 6, length 2 -> 1, mark late -> current",
+                "accepted",
+                "  board 1: length 1 -> 2",
+                "refused 12: its log is not shorter than its leader's",
             ],
         )
 

@@ -33,15 +33,18 @@ pub fn send(
     acked: &mut [u16],
     len: &mut [u16],
     store: &mut [u32],
+    store2: &mut [u16],
     list: &mut [u32],
+    list2: &mut [u16],
     r: Record,
 ) -> Sent
     requires { ⌜ Ready (rowOf g c views (now joined) (now acked) (now len) issued)
-        × Full (lent (now store) (now list)) ⌝ }
+        × Full (lent (now store) (now store2) (now list) (now list2)) ⌝ }
     ensures { λ x. ⌜ Sends (R.stepOf (recordOf r))
         g c views issued (now (joined .entry)) (now (acked .entry)) (now (len .entry))
-        (lent (now (store .entry)) (now (list .entry)))
-        x (now (joined .exit)) (now (acked .exit)) (now (len .exit)) (lent (now (store .exit)) (now (list .exit))) ⌝ }
+        (lent (now (store .entry)) (now (store2 .entry)) (now (list .entry)) (now (list2 .entry)))
+        x (now (joined .exit)) (now (acked .exit)) (now (len .exit))
+        (lent (now (store .exit)) (now (store2 .exit)) (now (list .exit)) (now (list2 .exit))) ⌝ }
 {
     // What is no step: answer 1, and all as it was.
     let mut s = Settled {
@@ -57,12 +60,30 @@ pub fn send(
         0 => {}
         1 => {
             let b = board(r.board, r.other, r.spare, 0);
-            s.answer = steps_leader::append(views, &mut *acked, &mut *len, &mut *store, b, r.value);
+            s.answer = steps_leader::append(
+                views,
+                &mut *acked,
+                &mut *len,
+                &mut *store,
+                &mut *store2,
+                b,
+                r.value,
+            );
         }
         2..=4 => {
             let b = board(r.board, r.other, r.spare, r.value);
             if step == 2 {
-                let x = steps_leader::commit(views, issued, &*acked, &*len, &*store, &mut *list, b);
+                let x = steps_leader::commit(
+                    views,
+                    issued,
+                    &*acked,
+                    &*len,
+                    &*store,
+                    &*store2,
+                    &mut *list,
+                    &mut *list2,
+                    b,
+                );
                 s.answer = x.answer;
                 n = x.issued;
             } else if step == 3 {
@@ -85,9 +106,23 @@ pub fn send(
                 i = x.place;
                 v = x.view;
             } else if step == 7 {
-                s.answer = steps_follower::join(views, &mut *joined, &mut *len, &*store, b);
+                s.answer = steps_follower::join(
+                    views,
+                    &mut *joined,
+                    &mut *len,
+                    &*store,
+                    &*store2,
+                    b,
+                );
             } else {
-                s.answer = steps_follower::receive(views, &*joined, &mut *len, &mut *store, b);
+                s.answer = steps_follower::receive(
+                    views,
+                    &*joined,
+                    &mut *len,
+                    &mut *store,
+                    &mut *store2,
+                    b,
+                );
             }
         }
         9 => {

@@ -5,7 +5,7 @@ use mathlib.Core.List.{[]}
 use mathlib.Core.Path.{_≡_, refl, sym, ap, _∙_}
 use Prim.Native.Nat.{ℕ}
 use lib.ListN.{replicate, length-replicate}
-use Rattle.model.specs.State.{RowState, Entry, openingWith, opened, zeros}
+use Rattle.model.specs.State.{RowState, Entry, entry, openingWith, opened, zeros}
 use Rattle.model.specs.Steps.{Step, withRegistry}
 use Rattle.cluster.specs.declared.Controller.{Controller}
 use Rattle.cluster.specs.Layout.{registryOf}
@@ -24,10 +24,10 @@ somewhere x = (
     view = λ _. record { epoch = x .epoch; term = 1; leader = 0; members = λ _. true };
     joined = λ _. x .joined;
     acked = λ _. zeros;
-    log = λ _. replicate (x .len) 0;
+    log = λ _. replicate (x .len) (entry 0 0);
     committed = [];
   },
-  record { epoch = refl; joined = refl; len = length-replicate (x .len) 0 },
+  record { epoch = refl; joined = refl; len = length-replicate (x .len) (entry 0 0) },
 )
 
 fixed : (fits : Bool) (Known : RowState → Type 0) (st : Step) (c : Controller) (n m : ℕ) (c′ d : Controller)

@@ -17,8 +17,8 @@ use Rattle.model.proofs.Range.{AllTrue, of-every, to-every, of-eight, to-eight}
 use Rattle.cluster.specs.declared.Controller.{Controller}
 use Rattle.cluster.specs.declared.Cluster.{Cluster}
 use Rattle.cluster.specs.Layout.{stageOf, at, outlineOf}
-use Rattle.refinement.specs.Refinement.{Places, abs, Shape, Ready, written}
-use Rattle.refinement.proofs.Turning.{log-len, outline-abs}
+use Rattle.refinement.specs.Refinement.{Places, logged, abs, Shape, Ready, written}
+use Rattle.refinement.proofs.Turning.{logged-full, log-len, outline-abs}
 use Rattle.steps.specs.Call.{valid}
 use Rattle.steps.proofs.Calling.{ready, valid-full, valid-range}
 use Rattle.hub.specs.Lent.{registryFits, controllerFits, reportRanges, reportFits, leaderFits, Reported, Lends}
@@ -85,7 +85,7 @@ module _ (row : Cluster) (p : Places) (shape : Shape row) (v : valid row p ≡ t
   reported b = record {
     epoch = refl;
     joined = refl;
-    len = log-len (p .store) (valid-full row p v .store) (row .len) (is-ready .short) b;
+    len = log-len (logged p) (logged-full p (valid-full row p v)) (row .len) (is-ready .short) b;
   }
 
   -- A lent call that answered and left what the model's step does is a call of the whole row.

@@ -34,7 +34,14 @@ fn record(n: u32) -> Record {
 
 // One record: the controller's own steps over its record, all others by value. For well-formed records alone: no field
 // of the controller's is looked at here.
-fn turn(row: Cluster, store: &mut [u32], list: &mut [u32], r: Record) -> Outcome {
+fn turn(
+    row: Cluster,
+    store: &mut [u32],
+    store2: &mut [u16],
+    list: &mut [u32],
+    list2: &mut [u16],
+    r: Record,
+) -> Outcome {
     let k = r.step;
     let b = cluster::seat(r.board);
     match k {
@@ -42,18 +49,32 @@ fn turn(row: Cluster, store: &mut [u32], list: &mut [u32], r: Record) -> Outcome
         11 => whole::read_leader(row),
         12 => whole::read(row, b),
         14 => whole::hear(row, b),
-        _ => steps::step(row, &mut *store, &mut *list, r),
+        _ => steps::step(row, &mut *store, &mut *store2, &mut *list, &mut *list2, r),
     }
 }
 
 // The records of a trial. The row goes on, and each answer is shown.
-fn play(row: Cluster, store: &mut [u32], list: &mut [u32], sheet: &[u32]) -> Cluster {
+fn play(
+    row: Cluster,
+    store: &mut [u32],
+    store2: &mut [u16],
+    list: &mut [u32],
+    list2: &mut [u16],
+    sheet: &[u32],
+) -> Cluster {
     let mut now = row;
     let mut i: usize = 0;
     while i < sheet.len() {
         let n = sheet[i];
         i += 1;
-        let x = turn(now, &mut *store, &mut *list, record(n));
+        let x = turn(
+            now,
+            &mut *store,
+            &mut *store2,
+            &mut *list,
+            &mut *list2,
+            record(n),
+        );
         show(x.answer);
         let next = x.row;
         now = next;
@@ -88,7 +109,9 @@ fn main() {
 // P7, and P8 that goes on from it.
 fn longer() {
     let mut store = [7u32; 4096];
+    let mut store2 = [65535u16; 4096];
     let mut list = [7u32; 512];
+    let mut list2 = [65535u16; 512];
     io::write_all(1, b"P7 ");
     let p7 = [
         3_2_0_00u32,
@@ -99,17 +122,26 @@ fn longer() {
         6_1_0_00,
         11_0_0_00,
     ];
-    let a = play(opened(), &mut store, &mut list, &p7);
+    let a = play(
+        opened(),
+        &mut store,
+        &mut store2,
+        &mut list,
+        &mut list2,
+        &p7,
+    );
     io::write_all(1, b"\nP8 ");
     let p8 = [13_0_0_00u32, 12_2_0_00, 13_0_0_00];
-    let b = play(a, &mut store, &mut list, &p8);
+    let b = play(a, &mut store, &mut store2, &mut list, &mut list2, &p8);
     epoch(b);
 }
 
 // The last case: four boards.
 fn four() {
     let mut store = [7u32; 4096];
+    let mut store2 = [65535u16; 4096];
     let mut list = [7u32; 512];
+    let mut list2 = [65535u16; 512];
     io::write_all(1, b"\nfour ");
     let ready = [
         3_2_0_00u32,
@@ -126,7 +158,14 @@ fn four() {
         6_3_0_00,
         6_4_0_00,
     ];
-    let a = play(opened(), &mut store, &mut list, &ready);
+    let a = play(
+        opened(),
+        &mut store,
+        &mut store2,
+        &mut list,
+        &mut list2,
+        &ready,
+    );
     let rest = [
         1_1_0_41u32,
         8_4_0_00,
@@ -143,7 +182,7 @@ fn four() {
         9_2_4_00,
         7_4_0_00,
     ];
-    let b = play(a, &mut store, &mut list, &rest);
+    let b = play(a, &mut store, &mut store2, &mut list, &mut list2, &rest);
     length(b);
     io::write_all(1, b"\n");
 }

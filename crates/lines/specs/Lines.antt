@@ -1,5 +1,6 @@
--- Single lines of a listing of document 01, byte for byte; of a board's mark only its two words. Cited by the
--- promises of the writers of lines and, through `listing`, of `run_sheet`; its words also by seedline. Assumes nothing.
+-- Single lines of a listing of document 01, byte for byte; of a board's mark only its two words, of the receipts' line a
+-- single receipt. Cited by the promises of the writers of lines and, through `listing`, of `run_sheet`; its words also
+-- by seedline. Assumes nothing.
 use mathlib.Core.Bool.{Bool, cond}
 use mathlib.Core.List.{[], _∷_, _++_}
 use Prim.Native.Nat.{ℕ, _+_}
@@ -8,7 +9,7 @@ use Prim.Native.String as String
 use Prim.Native.String.{String}
 use Rattle.model.specs.Members.{Members}
 use Rattle.model.specs.State as M
-use Rattle.model.specs.State.{View}
+use Rattle.model.specs.State.{Entry, View}
 use Rattle.text.specs.Text.{Text, digits}
 
 -- Texts
@@ -84,3 +85,8 @@ boardText b v joined len late =
     ++ (digits joined ++ (space
     ++ (digits len ++ (space
     ++ (lateWord late ++ newline)))))))))
+
+-- A receipt: "value, `@`, epoch, as in `41@1`" (document 02, Paper 4).
+unfoldable pub receiptText : Entry → Text
+unfolding digits
+receiptText x = digits (x .value) ++ (word "@" ++ digits (x .term))

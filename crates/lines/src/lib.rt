@@ -3,10 +3,11 @@
 ghost use mathlib.Core.List.{_++_};
 ghost use Prim.Native.Nat.{_+_, _≤_};
 ghost use lib.ListN.{length};
+ghost use Rattle.model.specs.State.{entry};
 ghost use Rattle.members.specs.Mask.{bits};
 ghost use Rattle.cluster.specs.Layout.{statusOf, stageOf, viewOf, registryOf, controllerOf};
 ghost use Rattle.text.specs.Text.{Wrote};
-ghost use Rattle.lines.specs.Lines.{space, newline, memberText, membersText, viewText, statusWord, stageWord, lateWord, answerLine, registryLine, controlLine, boardText};
+ghost use Rattle.lines.specs.Lines.{space, newline, memberText, membersText, viewText, statusWord, stageWord, lateWord, answerLine, registryLine, controlLine, boardText, receiptText};
 use cluster::Controller;
 use cluster::Registry;
 use cluster::Stage;
@@ -155,4 +156,14 @@ pub fn put_board(
     let p3 = text::put_field(&mut *out, p2, joined as u32);
     let p4 = text::put_field(&mut *out, p3, len as u32);
     put_late(&mut *out, p4, late)
+}
+
+// Writes a receipt: its value, `@`, its term. Inner layer: callers see to the room.
+pub fn put_receipt(out: &mut [u8], at: usize, value: u32, term: u16) -> usize
+    requires { ⌜ at + length (receiptText (entry value term)) ≤ length (now out) ⌝ }
+    ensures { λ r. ⌜ Wrote (now (out .entry)) at (receiptText (entry value term)) (now (out .exit)) r ⌝ }
+{
+    let a = text::put_number(&mut *out, at, value);
+    let b = text::put_byte(&mut *out, a, 64);
+    text::put_number(&mut *out, b, term as u32)
 }

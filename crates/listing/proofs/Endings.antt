@@ -10,19 +10,21 @@ use lib.ListN.{length, getD, take, drop, length-append, length-take}
 use lib.Seq.{take-suc, take-take, getD-take, length-take-le, split-at}
 use Rattle.model.specs.Members.{isReplica}
 use Rattle.model.specs.State as M
-use Rattle.model.specs.Ranges.{inRange}
-use Rattle.model.proofs.Tests.{of-true}
+use Rattle.model.specs.State.{Entry, entry}
+use Rattle.model.specs.Ranges.{every, isEpoch, inRange, termsInRange}
+use Rattle.model.proofs.Tests.{of-true, split-and}
 use Rattle.model.proofs.Quorum.{replica-range}
-use Rattle.model.proofs.Range.{InRange, to-ranges}
+use Rattle.model.proofs.Range.{InRange, epoch-of, to-ranges}
+use Rattle.logstore.specs.Log.{pairs}
 use Rattle.cluster.specs.declared.View.{View}
 use Rattle.cluster.specs.Layout.{viewOf, at, noView}
 use Rattle.cluster.proofs.Laws.{at-index}
 use Rattle.text.specs.Text.{Text, Wrote, digits}
-use Rattle.text.proofs.Laws.{rest, digits-most-10}
-use Rattle.lines.specs.Lines.{word, space, newline, boardText}
+use Rattle.text.proofs.Laws.{rest, digits-most-4, digits-most-10}
+use Rattle.lines.specs.Lines.{word, space, newline, boardText, receiptText}
 use Rattle.lines.proofs.Lengths.{three-digits, eight-most, registry-most, control-most, board-most}
 use Rattle.mark.specs.Mark.{late, lateIn}
-use Rattle.listing.specs.Listing.{boardLine, boardLines, valuesText, receiptsLine, ending}
+use Rattle.listing.specs.Listing.{boardLine, boardLines, receiptsText, receiptsLine, ending}
 
 -- The line of the replica b, from the row's parts and the registry's view.
 abbrev pub replica : List View → List ℕ → List ℕ → View → ℕ → Text
@@ -38,65 +40,78 @@ pub replica-is :
     (late (viewOf (getD views (b - 1) noView)) (getD joined (b - 1) 0) (viewOf r))
 replica-is views joined len r b h = rw (at-index noView views b h, at-index 0 joined b h, at-index 0 len b h)
 
--- Values, one after the other
+-- Receipts, one after the other
 
-values-append : (xs ys : List ℕ) → valuesText (xs ++ ys) ≡ valuesText xs ++ valuesText ys
-unfolding valuesText
-values-append [] ys = refl
-values-append (x ∷ xs) ys = rw (values-append xs ys, append-assoc (digits x) (valuesText xs) (valuesText ys))
+receipts-append : (xs ys : List Entry) → receiptsText (xs ++ ys) ≡ receiptsText xs ++ receiptsText ys
+unfolding receiptsText
+receipts-append [] ys = refl
+receipts-append (x ∷ xs) ys = rw (receipts-append xs ys, append-assoc (receiptText x) (receiptsText xs) (receiptsText ys))
 
--- The first i values and then the next are the first i + 1.
-pub values-next : (s : List ℕ) (i : ℕ) → i < length s
-    → valuesText (take (i + 1) s) ≡ valuesText (take i s) ++ (space ++ digits (getD s i 0))
-unfolding valuesText
-values-next s i h =
-    rw (add-one i, take-suc s i 0 h, values-append (take i s) (getD s i 0 ∷ []), append-nil (digits (getD s i 0)))
+-- The first i receipts and then the next are the first i + 1.
+pub receipts-next : (s : List Entry) (i : ℕ) → i < length s
+    → receiptsText (take (i + 1) s) ≡ receiptsText (take i s) ++ (space ++ receiptText (getD s i (entry 0 0)))
+unfolding receiptsText
+receipts-next s i h =
+    let x = getD s i (entry 0 0) in
+    rw (add-one i, take-suc s i (entry 0 0) h, receipts-append (take i s) (x ∷ []), append-nil (receiptText x))
 
--- What is left of n values once i are written.
-abbrev pub valuesLeft : List ℕ → ℕ → ℕ → Text
-valuesLeft s n i = valuesText (drop (suc i) (take n s))
+-- What is left of n receipts once i are written.
+abbrev pub receiptsLeft : List Entry → ℕ → ℕ → Text
+receiptsLeft s n i = receiptsText (drop (suc i) (take n s))
 
-values-split : (s : List ℕ) (n i : ℕ) → i < n → n ≤ length s
-    → valuesText (take n s) ≡ valuesText (take i s) ++ (space ++ (digits (getD s i 0) ++ valuesLeft s n i))
-unfolding valuesText
-values-split s n i h k =
+receipts-split : (s : List Entry) (n i : ℕ) → i < n → n ≤ length s
+    → receiptsText (take n s)
+    ≡ receiptsText (take i s) ++ (space ++ (receiptText (getD s i (entry 0 0)) ++ receiptsLeft s n i))
+unfolding receiptsText
+receipts-split s n i h k =
     let l : length (take n s) ≡ n = length-take-le n s k in
-    ap valuesText (split-at (take n s) i 0 (omega arith)) ∙ values-append (take i (take n s))
-    (getD (take n s) i 0 ∷ drop (suc i) (take n s)) ∙ rw (take-take i n s (omega arith), getD-take n s i 0 h)
+    ap receiptsText (split-at (take n s) i (entry 0 0) (omega arith)) ∙ receipts-append (take i (take n s))
+    (getD (take n s) i (entry 0 0) ∷ drop (suc i) (take n s))
+    ∙ rw (take-take i n s (omega arith), getD-take n s i (entry 0 0) h)
 
 -- There is room for one more of them.
-pub values-room :
-    {d e : Text} {at p : ℕ} (s : List ℕ) (n i : ℕ) → i < n → n ≤ length s → Wrote d at (valuesText (take i s)) e p
-    → at + length (valuesText (take n s)) ≤ length d
-    → p + length (space ++ (digits (getD s i 0) ++ valuesLeft s n i)) ≤ length e
-values-room {d} {e} {at} {p} s n i h k w r =
-    rest (valuesText (take i s)) (space ++ (digits (getD s i 0) ++ valuesLeft s n i)) w
-    (subst (λ t. at + length t ≤ length d) (values-split s n i h k) r)
+pub receipts-room :
+    {d e : Text} {at p : ℕ} (s : List Entry) (n i : ℕ) → i < n → n ≤ length s → Wrote d at (receiptsText (take i s)) e p
+    → at + length (receiptsText (take n s)) ≤ length d
+    → p + length (space ++ (receiptText (getD s i (entry 0 0)) ++ receiptsLeft s n i)) ≤ length e
+receipts-room {d} {e} {at} {p} s n i h k w r =
+    rest (receiptsText (take i s)) (space ++ (receiptText (getD s i (entry 0 0)) ++ receiptsLeft s n i)) w
+    (subst (λ t. at + length t ≤ length d) (receipts-split s n i h k) r)
 
 -- The line of n receipts.
-pub receipts-is : (s : List ℕ) (n : ℕ) → n ≤ length s
-    → receiptsLine (take n s) ≡ word "receipts " ++ (digits n ++ (valuesText (take n s) ++ newline))
+pub receipts-is : (s : List Entry) (n : ℕ) → n ≤ length s
+    → receiptsLine (take n s) ≡ word "receipts " ++ (digits n ++ (receiptsText (take n s) ++ newline))
 unfolding receiptsLine
 receipts-is s n h = rw (length-take-le n s h)
 
 -- How long it is at most
 
--- A value has at most ten digits, after a space.
-pub values-most : (n : ℕ) (s : List ℕ) → ((i : ℕ) → getD s i 0 < 2 ^ 32) → length (valuesText (take n s)) ≤ 11 * n
-unfolding valuesText
-values-most zero s h = omega arith
-values-most (suc n) [] h = omega arith
-values-most (suc n) (x ∷ xs) h =
-    simp length-append (omega (arith, digits-most-10 x (h 0), values-most n xs (λ i. h (suc i))))
+-- A receipt has at most sixteen bytes: a space, ten digits, `@`, four digits.
+receipts-most : (vs ts : List ℕ) (n : ℕ) → ((i : ℕ) → getD vs i 0 < 2 ^ 32)
+    → T (every (termsInRange (take n (pairs vs ts)))) → length (receiptsText (take n (pairs vs ts))) ≤ 16 * n
+unfolding receiptsText receiptText
+receipts-most vs ts zero h k = omega arith
+receipts-most [] ts (suc n) h k = omega arith
+receipts-most (v ∷ vs) [] (suc n) h k = omega arith
+receipts-most (v ∷ vs) (t ∷ ts) (suc n) h k =
+    let z = split-and (isEpoch t) (every (termsInRange (take n (pairs vs ts)))) k in
+    simp length-append (omega (
+      arith,
+      digits-most-10 v (h 0),
+      digits-most-4 t (omega (arith, epoch-of t (z .0))),
+      receipts-most vs ts n (λ i. h (suc i)) (z .1),
+    ))
 
-pub receipts-most : (n : ℕ) (s : List ℕ) → n ≤ 512 → ((i : ℕ) → getD s i 0 < 2 ^ 32)
-    → length (receiptsLine (take n s)) ≤ 13 + 11 * n
+line-of-receipts : (s : List Entry) (n : ℕ) → n ≤ 512 → length (receiptsLine (take n s))
+    ≤ 13 + length (receiptsText (take n s))
 unfolding receiptsLine
-receipts-most n s k h =
+line-of-receipts s n k =
     let c : length (take n s) ≤ 512 = omega (arith, length-take n s) in
-    simp length-append (omega (arith, three-digits (length (take n s)) c, values-most n s h))
+    simp length-append (omega (arith, three-digits (length (take n s)) c))
 
-module _ (m : M.Outline) (list : List ℕ) (ranges : inRange m ≡ true) (words : (i : ℕ) → getD list i 0 < 2 ^ 32) where
+module _ (m : M.Outline) (list list2 : List ℕ) (ranges : inRange m ≡ true)
+    (words : (i : ℕ) → getD list i 0 < 2 ^ 32)
+    (kept : every (termsInRange (take (m .issued) (pairs list list2))) ≡ true) where
   all : InRange m
   all = to-ranges m (of-true ranges)
 
@@ -112,7 +127,7 @@ module _ (m : M.Outline) (list : List ℕ) (ranges : inRange m ≡ true) (words 
       eight-most 46 (boardLine m) (line-most 1 tt) (line-most 2 tt) (line-most 3 tt) (line-most 4 tt) (line-most 5 tt)
       (line-most 6 tt) (line-most 7 tt) (line-most 8 tt)
 
-  pub ending-most : length (ending m (take (m .issued) list)) ≤ 6144
+  pub ending-most : length (ending m (take (m .issued) (pairs list list2))) ≤ 8704
   unfolding ending
   ending-most =
       simp length-append (omega (
@@ -120,6 +135,7 @@ module _ (m : M.Outline) (list : List ℕ) (ranges : inRange m ≡ true) (words 
         registry-most (m .registry) (all .registry),
         control-most (m .controller) (all .controller),
         boards-most,
-        receipts-most (m .issued) list (all .committed) words,
+        line-of-receipts (pairs list list2) (m .issued) (all .committed),
+        receipts-most list list2 (m .issued) words (of-true kept),
         all .committed,
       ))

@@ -1,4 +1,4 @@
--- A listing of document 01, with the mark of document 02, byte for byte: the lines of its records, its ending, and its
+-- A listing of document 01, with the mark and the receipts of document 02, byte for byte: the lines of its records, its ending, and its
 -- slice. Cited by the promises of `deliver`, of the writers of the ending and, through `listing`, of `run_sheet`.
 -- Assumes nothing.
 use mathlib.Core.Bool.{cond}
@@ -7,10 +7,10 @@ use mathlib.Core.Path.{_≡_}
 use Prim.Native.Nat.{ℕ, suc}
 use lib.Dec.{leb}
 use lib.ListN.{length, take}
-use Rattle.model.specs.State.{Outline}
+use Rattle.model.specs.State.{Entry, Outline}
 use Rattle.model.specs.Records.{Record}
 use Rattle.text.specs.Text.{Text, digits, over}
-use Rattle.lines.specs.Lines.{word, space, newline, eight, answerLine, registryLine, controlLine, boardText}
+use Rattle.lines.specs.Lines.{word, space, newline, eight, answerLine, registryLine, controlLine, boardText, receiptText}
 use Rattle.mark.specs.Mark.{lateIn}
 use Rattle.records.specs.Bytes.{records}
 
@@ -37,20 +37,20 @@ unfoldable pub boardLines : Outline → Text
 unfolding boardLine
 boardLines m = eight (boardLine m)
 
--- The values, a space before each.
-unfoldable pub valuesText : List ℕ → Text
-unfolding digits
-valuesText [] = []
-valuesText (v ∷ vs) = space ++ (digits v ++ valuesText vs)
+-- The receipts, a space before each.
+unfoldable pub receiptsText : List Entry → Text
+unfolding receiptText
+receiptsText [] = []
+receiptsText (x ∷ xs) = space ++ (receiptText x ++ receiptsText xs)
 
--- "how many receipts, then their values"
-unfoldable pub receiptsLine : List ℕ → Text
-unfolding digits valuesText
-receiptsLine vs = word "receipts " ++ (digits (length vs) ++ (valuesText vs ++ newline))
+-- "how many receipts, then their values", each with its leader epoch (document 02, Paper 4)
+unfoldable pub receiptsLine : List Entry → Text
+unfolding digits receiptsText
+receiptsLine xs = word "receipts " ++ (digits (length xs) ++ (receiptsText xs ++ newline))
 
--- The lines after the answers: the state, in outline m, and the receipts vs.
-unfoldable pub ending : Outline → List ℕ → Text
-ending m vs = registryLine (m .registry) ++ (controlLine (m .controller) ++ (boardLines m ++ receiptsLine vs))
+-- The lines after the answers: the state, in outline m, and the receipts xs.
+unfoldable pub ending : Outline → List Entry → Text
+ending m xs = registryLine (m .registry) ++ (controlLine (m .controller) ++ (boardLines m ++ receiptsLine xs))
 
 -- A listing's slice
 

@@ -44,7 +44,7 @@ fn has_room(sheet: &[u8], answers: &[u8], end: usize, room: usize) -> bool
     requires { ⌜
         (length (now sheet) / 8 ≤ 4095)
         × (length (now sheet) / 8 ≤ length (now answers))
-        × (end ≤ 6144)
+        × (end ≤ 8704)
         × ((i : ℕ) → i < length (now sheet) / 8 → getD (now answers) i 0 < 100)
         ⌝ }
     ensures { λ r. ⌜
@@ -88,7 +88,7 @@ pub fn deliver(sheet: &[u8], answers: &[u8], ending: &[u8], out: &mut [u8]) -> u
     requires { ⌜
         (length (now sheet) / 8 ≤ 4095)
         × (length (now sheet) / 8 ≤ length (now answers))
-        × (length (now ending) ≤ 6144)
+        × (length (now ending) ≤ 8704)
         × ((i : ℕ) → i < length (now sheet) / 8 → getD (now answers) i 0 < 100)
         ⌝ }
     ensures { λ r. ⌜

@@ -1,16 +1,17 @@
-// The lines after the answers, from the row and the committed list. Inner layer: callers see to the room, and that b is
+// The lines after the answers, from the row, the committed list and its terms. Inner layer: callers see to the room, and that b is
 // a replica.
 
 ghost use mathlib.Core.Bool.{true};
 ghost use mathlib.Core.Path.{_≡_};
 ghost use Prim.Native.Nat.{_+_, _-_, _≤_};
 ghost use lib.ListN.{length, getD, take};
-ghost use Rattle.model.specs.Ranges.{inRange};
+ghost use Rattle.model.specs.Ranges.{every, inRange, termsInRange};
+ghost use Rattle.logstore.specs.Log.{pairs};
 ghost use Rattle.cluster.specs.Layout.{viewOf, noView, outlineOf};
 ghost use Rattle.text.specs.Text.{Wrote};
 ghost use Rattle.lines.specs.Lines.{boardText};
 ghost use Rattle.mark.specs.Mark.{late};
-ghost use Rattle.listing.specs.Listing.{boardLines, valuesText, receiptsLine, ending};
+ghost use Rattle.listing.specs.Listing.{boardLines, receiptsText, receiptsLine, ending};
 use cluster::Cluster;
 use cluster::View;
 
@@ -67,39 +68,58 @@ fn put_replicas(out: &mut [u8], at: usize, row: Cluster) -> usize
     p
 }
 
-// Writes the first n values of a list.
-fn put_values(out: &mut [u8], at: usize, list: &[u32], n: usize) -> usize
-    requires { ⌜ (n ≤ length (now list)) × (at + length (valuesText (take n (now list))) ≤ length (now out)) ⌝ }
-    ensures { λ r. ⌜ Wrote (now (out .entry)) at (valuesText (take n (now (list .entry)))) (now (out .exit)) r ⌝ }
+// Writes the first n receipts of two lists, values and terms.
+fn put_entries(out: &mut [u8], at: usize, list: &[u32], list2: &[u16], n: usize) -> usize
+    requires { ⌜
+        (n ≤ length (now list)) × (length (now list) ≡ length (now list2))
+        × (at + length (receiptsText (take n (pairs (now list) (now list2)))) ≤ length (now out))
+        ⌝ }
+    ensures { λ r. ⌜
+        Wrote (now (out .entry)) at (receiptsText (take n (pairs (now (list .entry)) (now (list2 .entry)))))
+        (now (out .exit)) r
+        ⌝ }
 {
     let mut i = 0;
     let mut p = at;
     while i < n {
         let q = text::put_byte(&mut *out, p, 32);
-        p = text::put_number(&mut *out, q, list[i]);
+        p = lines::put_receipt(&mut *out, q, list[i], list2[i]);
         i += 1;
     }
     p
 }
 
-// Writes the line of the receipts: how many, and the values.
-fn put_receipts(out: &mut [u8], at: usize, list: &[u32], n: u16) -> usize
-    requires { ⌜ (n ≤ length (now list)) × (at + length (receiptsLine (take n (now list))) ≤ length (now out)) ⌝ }
-    ensures { λ r. ⌜ Wrote (now (out .entry)) at (receiptsLine (take n (now (list .entry)))) (now (out .exit)) r ⌝ }
+// Writes the line of the receipts: how many, and each.
+fn put_receipts(out: &mut [u8], at: usize, list: &[u32], list2: &[u16], n: u16) -> usize
+    requires { ⌜
+        (n ≤ length (now list)) × (length (now list) ≡ length (now list2))
+        × (at + length (receiptsLine (take n (pairs (now list) (now list2)))) ≤ length (now out))
+        ⌝ }
+    ensures { λ r. ⌜
+        Wrote (now (out .entry)) at (receiptsLine (take n (pairs (now (list .entry)) (now (list2 .entry)))))
+        (now (out .exit)) r
+        ⌝ }
 {
     let a = text::put_bytes(&mut *out, at, b"receipts ");
     let b = text::put_number(&mut *out, a, n as u32);
-    let c = put_values(&mut *out, b, list, n as usize);
+    let c = put_entries(&mut *out, b, list, list2, n as usize);
     text::put_byte(&mut *out, c, 10)
 }
 
 // Writes the ending at the start of a slice: the registry, the controller, the replicas, the receipts. Inner layer:
-// callers see to it that the row is in range, the list as long as it says, and the slice long enough for any ending.
-pub fn put_ending(out: &mut [u8], row: Cluster, list: &[u32]) -> usize
-    requires { ⌜ (inRange (outlineOf row) ≡ true) × (row .issued ≤ length (now list)) × (6144 ≤ length (now out)) ⌝ }
+// callers see to it that the row and the kept epochs of its receipts are in range, the two lists as long as it says, and
+// the slice long enough for any ending.
+pub fn put_ending(out: &mut [u8], row: Cluster, list: &[u32], list2: &[u16]) -> usize
+    requires { ⌜
+        (inRange (outlineOf row) ≡ true)
+        × (every (termsInRange (take (row .issued) (pairs (now list) (now list2)))) ≡ true)
+        × (row .issued ≤ length (now list)) × (length (now list) ≡ length (now list2)) × (8704 ≤ length (now out))
+        ⌝ }
     ensures { λ r. ⌜
-        Wrote (now (out .entry)) 0 (ending (outlineOf row) (take (row .issued) (now (list .entry)))) (now (out .exit)) r
-        × (r ≤ 6144)
+        Wrote (now (out .entry)) 0
+        (ending (outlineOf row) (take (row .issued) (pairs (now (list .entry)) (now (list2 .entry)))))
+        (now (out .exit)) r
+        × (r ≤ 8704)
         ⌝ }
 {
     let g = row.registry;
@@ -108,5 +128,5 @@ pub fn put_ending(out: &mut [u8], row: Cluster, list: &[u32]) -> usize
     let a = lines::put_registry(&mut *out, 0, g);
     let b = lines::put_control(&mut *out, a, k);
     let c = put_replicas(&mut *out, b, row);
-    put_receipts(&mut *out, c, list, n)
+    put_receipts(&mut *out, c, list, list2, n)
 }

@@ -82,7 +82,7 @@ module _ {E : Type 0} {L : ℕ → ℕ} {s : State E} (i : Inv L s) (k : Bounds 
         (λ _. leader-in (registry .view .term)));
   }
 
-  view-in : (b : ℕ) → T (isReplica b) → ViewInRange (view b)
+  pub view-in : (b : ℕ) → T (isReplica b) → ViewInRange (view b)
   view-in b real =
       let v = i .views b in
       let q = k .replicas b real in

@@ -15,6 +15,7 @@ pub mod Install
 pub mod Theorem
 pub mod Range
 pub mod Bounds
+pub mod Made
 pub mod Answer
 pub mod Forms
 pub mod Table

@@ -56,10 +56,10 @@ of-eight p t =
     by-replica (λ b. T (p b)) (h .0) (h .1 .0) (h .1 .1 .0) (h .1 .1 .1 .0) (h .1 .1 .1 .1 .0) (h .1 .1 .1 .1 .1 .0)
     (h .1 .1 .1 .1 .1 .1 .0) (h .1 .1 .1 .1 .1 .1 .1 .0)
 
-epoch-of : (e : ℕ) → T (isEpoch e) → IsEpoch e
+pub epoch-of : (e : ℕ) → T (isEpoch e) → IsEpoch e
 epoch-of e t = let h = split-and (leb 1 e) (leb e 4000) t in (leb→le 1 e (h .0), leb→le e 4000 (h .1))
 
-to-epoch : (e : ℕ) → IsEpoch e → T (isEpoch e)
+pub to-epoch : (e : ℕ) → IsEpoch e → T (isEpoch e)
 to-epoch e h = join-and (leb 1 e) (leb e 4000) (le→leb 1 e (h .0)) (le→leb e 4000 (h .1))
 
 pub view-of : (v : View) → T (every (viewRanges v)) → ViewInRange v

@@ -1,11 +1,11 @@
 -- The ranges of document 01, "The row", and the leaders that refusal 1 asks for. Cited by the promise of `ranges` and
 -- by every call's. Assumes nothing.
 use mathlib.Core.Bool.{Bool, true, not, _&&_, _||_}
-use mathlib.Core.List.{List, [], _∷_}
+use mathlib.Core.List.{List, [], _∷_, map}
 use Prim.Native.Nat.{ℕ}
 use lib.Dec.{T, leb, eqb}
 use Rattle.model.specs.Members.{Members}
-use Rattle.model.specs.State.{entries, View, Registry, Controller, Outline, Opening, canOpen, outline, isChoosing, stageNumber}
+use Rattle.model.specs.State.{Entry, entries, View, Registry, Controller, RowState, Outline, Opening, canOpen, outline, isChoosing, stageNumber}
 use Rattle.model.specs.Steps.{Step}
 use Rattle.model.specs.Claim.{after}
 
@@ -55,6 +55,14 @@ module _ (m : Outline) where
   abbrev pub inRange : Bool
   inRange = every ranges
 
+-- "The kept epoch of an entry inside its log or the receipts is 1 to 4,000" (document 02, Paper 4).
+abbrev pub termsInRange : List Entry → List Bool
+termsInRange xs = map (λ x. isEpoch (x .term)) xs
+
+abbrev pub keptInRange : RowState → Bool
+keptInRange s = every (termsInRange (s .committed)) && every (eight (λ b. every (termsInRange (s .log b))))
+
 -- No state of a run earns refusal 1.
 unfoldable pub RunsInRange : Type 0
-RunsInRange = (o : Opening) → T (canOpen o) → (sts : List Step) → T (inRange (outline (after entries o sts)))
+RunsInRange = (o : Opening) → T (canOpen o) → (sts : List Step)
+    → T (inRange (outline (after entries o sts)) && keptInRange (after entries o sts))

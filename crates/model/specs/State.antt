@@ -1,6 +1,6 @@
 -- The cluster (document 01: row): registry, replicas, controller, logs, receipts, and the opening. Cited by Steps,
 -- Claim and most contracts. Assumes nothing.
-use mathlib.Core.Bool.{Bool, true, false, cond}
+use mathlib.Core.Bool.{Bool, true, false, cond, _&&_}
 use mathlib.Core.List.{List, []}
 use mathlib.Core.Logic.{_↔_}
 use mathlib.Core.Path.{_≡_, subst}
@@ -17,23 +17,35 @@ pub record Entries : Type 1 where
   pub same : Entry → Entry → Bool
   pub exact : (x y : Entry) → T (same x y) ↔ (x ≡ y)
 
--- Document 01's entry, "a 32-bit unsigned value": any number here, and equal if the values are. That it has 32 bits is
--- the type of the calls.
-abbrev pub values : Entries
-values = record {
-  Entry = ℕ;
-  make = λ value term. value;
-  same = eqb;
-  exact = λ x y. (eqb→eq x y, λ e. subst (λ z. T (eqb x z)) e (eqb-refl x));
-}
+-- The entry of the calls: "An entry now carries the leader epoch of the board that appended it" (document 02, Paper 4).
+-- Any numbers here: that a value has 32 bits, and that a kept epoch is 1 to 4,000, the calls see to.
+pub record Entry : Type 0 where
+  pub value : ℕ
+  pub term : ℕ
+
+abbrev pub entry : ℕ → ℕ → Entry
+entry value term = record { value = value; term = term }
+
+-- "Two entries are equal only if value and epoch both are."
+abbrev pub sameEntry : Entry → Entry → Bool
+sameEntry x y = eqb (x .value) (y .value) && eqb (x .term) (y .term)
+
+both : (a b : Bool) → T (a && b) ↔ (T a × T b)
+both true b = (λ t. (tt, t), λ h. h .1)
+both false b = (λ t. absurd t, λ h. h .0)
+
+-- The test is exact: it says whether they are the same entry.
+pub same-entry : (x y : Entry) → T (sameEntry x y) ↔ (x ≡ y)
+same-entry x y = (
+  λ t. let h = both (eqb (x .value) (y .value)) (eqb (x .term) (y .term)) .0 t in
+      λ i. entry (eqb→eq (x .value) (y .value) (h .0) i) (eqb→eq (x .term) (y .term) (h .1) i),
+  λ e. subst (λ z. T (sameEntry x z)) e
+      (both (eqb (x .value) (x .value)) (eqb (x .term) (x .term)) .1 (eqb-refl (x .value), eqb-refl (x .term))),
+)
 
 -- The kind of entry that the calls use: here alone it is chosen.
 abbrev pub entries : Entries
-entries = values
-
--- An entry of the calls.
-abbrev pub Entry : Type 0
-Entry = entries .Entry
+entries = record { Entry = Entry; make = entry; same = sameEntry; exact = same-entry }
 
 -- Epoch, leader epoch (term), leader (0: none) and members: as the registry holds them, or as a replica or the
 -- controller last took them.

@@ -4,9 +4,9 @@ use mathlib.Core.Bool.{Bool, true, false, _&&_}
 use mathlib.Core.List.{List, [], _∷_, _++_}
 use Prim.Native.Nat.{ℕ, zero, suc}
 use lib.Dec.{T, eqb}
-use lib.ListN.{length, replicate}
+use lib.ListN.{length, getD, replicate}
 use Rattle.model.specs.Members.{size, quorum}
-use Rattle.model.specs.State.{entries, RowState, openingWith, canOpen, opened, openAnswer, isNormal}
+use Rattle.model.specs.State.{Entry, entry, sameEntry, entries, RowState, openingWith, canOpen, opened, openAnswer, isNormal}
 use Rattle.model.specs.Records.{Record, bare, of, ofBoth, ofValue}
 use Rattle.model.specs.Runs.{stepsOf, run, answers}
 
@@ -115,6 +115,10 @@ inFour s =
     news : ℕ → Bool
     news b = eqb (s .view b .epoch) (s .registry .view .epoch) && eqb (length (s .log b)) 0
 
+-- The one sale of 41 under term t.
+abbrev only : List Entry → ℕ → Bool
+only xs t = eqb (length xs) 1 && sameEntry (getD xs 0 (entry 0 0)) (entry 41 t)
+
 -- "1 appends 41, only 4 receives it. Change; 2, 3 and the controller take news; 2 and 3 are heard; 2 is installed,
 -- takes news, appends 42. Board 4 takes news; 2 counting 4 gives 11; 4 joins and its log is empty."
 abbrev four : Trial
@@ -124,6 +128,21 @@ four = running 1
     ∷ of 6 4 ∷ ofBoth 9 2 4 ∷ of 7 4 ∷ []))
     (replicate 25 0 ++ (11 ∷ 0 ∷ []))
     (λ s. eqb (length (s .log 4)) 0)
+
+-- Document 02, Paper 4, worked out by hand: "Two tills sold the same item at the same price". As the trial before, but 2
+-- appends 41 too, under leader epoch 7. Board 4's 41 of leader epoch 1 is another sale: 4 joins and its log is empty.
+abbrev twoSales : List Record
+twoSales =
+    fourReady ++ (ofValue 1 1 41 ∷ of 8 4 ∷ bare 5 ∷ of 6 2 ∷ of 6 3 ∷ bare 10 ∷ of 14 2 ∷ of 14 3 ∷ of 15 2 ∷ of 6 2
+    ∷ ofValue 1 2 41 ∷ of 6 4 ∷ of 7 4 ∷ [])
+
+abbrev cut : Trial
+cut = running 1 twoSales (replicate 26 0) (λ s. eqb (length (s .log 4)) 0 && only (s .log 1) 1 && only (s .log 2) 7)
+
+-- Board 4 receives the sale of 2, is counted, and a receipt is given for it; what 1 goes on to sell is of leader epoch 1.
+abbrev resold : Trial
+resold = running 1 (twoSales ++ (of 8 4 ∷ ofBoth 9 2 4 ∷ of 2 2 ∷ ofValue 1 1 41 ∷ [])) (replicate 30 0)
+    (λ s. only (s .log 4) 7 && only (s .committed) 7 && sameEntry (getD (s .log 1) 1 (entry 0 0)) (entry 41 1))
 
 -- No trial of document 01, but its rules worked out by hand: every answer of steps 7 and 8.
 abbrev follower : Trial
@@ -148,7 +167,7 @@ abbrev leaderless : Trial
 leaderless = running 1 (fourReady ++ (bare 5 ∷ of 6 2 ∷ of 7 2 ∷ of 8 2 ∷ [])) (replicate 15 0 ++ (9 ∷ 9 ∷ [])) unseen
 
 abbrev pub others : List Trial
-others = full ∷ worn ∷ running 1 fourReady (replicate 13 0) inFour ∷ four ∷ follower ∷ leaderless ∷ []
+others = full ∷ worn ∷ running 1 fourReady (replicate 13 0) inFour ∷ four ∷ cut ∷ resold ∷ follower ∷ leaderless ∷ []
 
 -- The P trials: one table, one statement.
 unfoldable pub TrialsHold : Type 0

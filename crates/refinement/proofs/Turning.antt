@@ -15,7 +15,7 @@ use mir.Syntax.{w16}
 use Rattle.model.specs.Prelude.{upd}
 use Rattle.model.specs.Members.{isReplica}
 use Rattle.model.specs.State as M
-use Rattle.model.specs.State.{outline, entries}
+use Rattle.model.specs.State.{Entry, entry, outline, entries}
 use Rattle.model.specs.Steps.{Step, countedAbove, accepted, answerOf, next}
 use Rattle.model.proofs.Tests.{at-or, by-test, by-cond, eqb-same, upd-same, upd-other, le-or-lt, split-and, is-true, is-false, of-true}
 use Rattle.model.proofs.Quorum.{replica-range}
@@ -23,18 +23,41 @@ use Rattle.model.proofs.Answer.{zero-accepted, nonzero-refused}
 use Rattle.members.specs.Mask.{bits, under}
 use Rattle.members.proofs.Laws.{replica, gathered}
 use Rattle.logstore.specs.Log.{place, logOf}
-use Rattle.logstore.proofs.Laws.{log-length, log-other, log-gains}
+use Rattle.logstore.proofs.Laws.{pairs-length, pairs-at, pairs-set, log-length, log-other, log-gains}
 use Rattle.cluster.specs.declared.Cluster.{Cluster}
 use Rattle.cluster.specs.Layout.{at, atPair, outlineOf}
 use Rattle.cluster.proofs.Laws.{at-index, at-set}
-use Rattle.refinement.specs.Refinement.{Places, Full, abs, Short, placesAfter, Turns}
+use Rattle.refinement.specs.Refinement.{Places, logged, listed, putLog, putList, storeAt, Full, abs, Short, placesAfter, Turns}
 
 -- A list of eight by a number that is no replica.
 pub at-none : {A : Type 0} (d : A) (xs : List A) (b : ℕ) → length xs ≡ 8 → 8 < b → at d xs b ≡ d
 at-none d xs b e h = List·getD-eq-default (d ∷ xs) d {n = b} (omega arith)
 
+-- Places of their lengths hold as many entries, and what is written is an entry.
+module _ (p : Places) (full : Full p) where
+  store-pairs : length (p .store) ≡ length (p .store2)
+  store-pairs = full .store ∙ sym (full .store2)
+
+  list-pairs : length (p .list) ≡ length (p .list2)
+  list-pairs = full .list ∙ sym (full .list2)
+
+  pub logged-full : length (logged p) ≡ 4096
+  logged-full = pairs-length (p .store) (p .store2) store-pairs ∙ full .store
+
+  pub listed-full : length (listed p) ≡ 512
+  listed-full = pairs-length (p .list) (p .list2) list-pairs ∙ full .list
+
+  pub logged-at : (i : ℕ) → getD (logged p) i (entry 0 0) ≡ storeAt p i
+  logged-at i = pairs-at (p .store) (p .store2) i store-pairs
+
+pub logged-put : (p : Places) (i : ℕ) (x : Entry) → logged (putLog p i x) ≡ set (logged p) i x
+logged-put p i x = pairs-set (p .store) (p .store2) i (x .value) (x .term)
+
+pub listed-put : (p : Places) (i : ℕ) (x : Entry) → listed (putList p i x) ≡ set (listed p) i x
+listed-put p i x = pairs-set (p .list) (p .list2) i (x .value) (x .term)
+
 -- The lengths of the logs are the row's.
-module _ (store : List ℕ) (full : length store ≡ 4096) (len : List ℕ) (short : Short len) where
+module _ (store : List Entry) (full : length store ≡ 4096) (len : List ℕ) (short : Short len) where
   pub log-len : (b : ℕ) → length (logOf store b (at 0 len b)) ≡ at 0 len b
   log-len zero = refl
   log-len (suc b) = go (le-or-lt (suc b) 8)
@@ -46,9 +69,9 @@ module _ (store : List ℕ) (full : length store ≡ 4096) (len : List ℕ) (sho
 module _ (row : Cluster) (short : Short (row .len)) (few : row .issued ≤ 512) (p : Places) (full : Full p) where
   pub outline-abs : outline (abs row p) ≡ outlineOf row
   outline-abs =
-      let c : length (take (row .issued) (p .list)) ≡ row .issued =
-      length-take-le (row .issued) (p .list) (omega (arith, full .list)) in
-      let l = fun-ext (log-len (p .store) (full .store) (row .len) short) in
+      let c : length (take (row .issued) (listed p)) ≡ row .issued =
+      length-take-le (row .issued) (listed p) (omega (arith, listed-full p full)) in
+      let l = fun-ext (log-len (logged p) (logged-full p full) (row .len) short) in
       λ i. record {
         registry = outlineOf row .registry;
         controller = outlineOf row .controller;
@@ -117,7 +140,7 @@ module _ (len : List ℕ) (short : Short len) (k n : ℕ) (low : 1 ≤ k) (high 
   }
 
   -- The log of k alone changes, if the others' places hold what they did.
-  pub logs-set : (store store′ : List ℕ)
+  pub logs-set : (store store′ : List Entry)
       → ((x : ℕ) → 1 ≤ x → x ≢ k → logOf store′ x (at 0 len x) ≡ logOf store x (at 0 len x))
       → (λ x. logOf store′ x (at 0 (set len (k - 1) n) x)) ≡ upd (λ x. logOf store x (at 0 len x)) k (logOf store′ k n)
   logs-set store store′ others = fun-ext (at-or k
@@ -129,8 +152,8 @@ module _ (len : List ℕ) (short : Short len) (k n : ℕ) (low : 1 ≤ k) (high 
       other (suc x) m = others (suc x) (omega arith) m
 
 -- A log of n entries that gets v at its end.
-pub logs-grow : (len : List ℕ) (short : Short len) (store : List ℕ) → length store ≡ 4096
-    → (k v : ℕ) → 1 ≤ k → k ≤ 8 → at 0 len k < 512
+pub logs-grow : (len : List ℕ) (short : Short len) (store : List Entry) → length store ≡ 4096
+    → (k : ℕ) (v : Entry) → 1 ≤ k → k ≤ 8 → at 0 len k < 512
     → (λ x. logOf (set store (place k (at 0 len k)) v) x (at 0 (set len (k - 1) (at 0 len k + 1)) x))
     ≡ upd (λ x. logOf store x (at 0 len x)) k (logOf store k (at 0 len k) ++ (v ∷ []))
 logs-grow len short store full k v low high room =

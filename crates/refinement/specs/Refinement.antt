@@ -6,9 +6,9 @@ use mathlib.Core.Logic.{_≢_}
 use mathlib.Core.Path.{_≡_}
 use Prim.Native.Nat.{ℕ, _≤_}
 use lib.ListN.{length, take, getD, set}
-use Rattle.model.specs.State.{RowState, entries}
+use Rattle.model.specs.State.{Entry, entry, RowState, entries}
 use Rattle.model.specs.Steps.{Step, Writes, appends, commits, receives, nothing, writes, accepted, answerOf, step}
-use Rattle.logstore.specs.Log.{place, logOf}
+use Rattle.logstore.specs.Log.{pairs, place, logOf}
 use Rattle.cluster.specs.declared.View.{View}
 use Rattle.cluster.specs.declared.Registry.{Registry}
 use Rattle.cluster.specs.declared.Controller.{Controller}
@@ -18,18 +18,31 @@ use Rattle.cluster.specs.declared.Settled.{Settled}
 use Rattle.cluster.specs.Layout.{registryOf, controllerOf, viewOf, at, atPair, noView, outlineOf}
 pub use Rattle.cluster.specs.Stages.{HasLeader}
 
--- The lent places of a call: the log store and the committed list (document 01: the receipts).
+-- The lent places of a call: the log store and the committed list (document 01: the receipts), which hold values, and
+-- "a second store of 4,096 numbers and a second list of 512", which hold the terms (document 02, Paper 4).
 pub record Places : Type 0 where
   pub store : List ℕ
+  pub store2 : List ℕ
   pub list : List ℕ
+  pub list2 : List ℕ
 
-abbrev pub lent : List ℕ → List ℕ → Places
-lent store list = record { store = store; list = list }
+abbrev pub lent : List ℕ → List ℕ → List ℕ → List ℕ → Places
+lent store store2 list list2 =
+    record { store = store; store2 = store2; list = list; list2 = list2 }
 
--- Places of their lengths: not "a store not 4,096 or receipts not 512 long".
+-- The entries that the places of the store hold, and those of the list.
+abbrev pub logged : Places → List Entry
+logged p = pairs (p .store) (p .store2)
+
+abbrev pub listed : Places → List Entry
+listed p = pairs (p .list) (p .list2)
+
+-- Places of their lengths: not "a store not 4,096 or receipts not 512 long", "with refusal 1 as for the first pair".
 pub record Full (p : Places) : Type 0 where
   pub store : length (p .store) ≡ 4096
+  pub store2 : length (p .store2) ≡ 4096
   pub list : length (p .list) ≡ 512
+  pub list2 : length (p .list2) ≡ 512
 
 -- The state that a row and the lent places stand for.
 abbrev pub abs : Cluster → Places → RowState
@@ -39,8 +52,8 @@ abs row p = record {
   view = λ b. viewOf (at noView (row .views) b);
   joined = at 0 (row .joined);
   acked = atPair (row .acked);
-  log = λ b. logOf (p .store) b (at 0 (row .len) b);
-  committed = take (row .issued) (p .list);
+  log = λ b. logOf (logged p) b (at 0 (row .len) b);
+  committed = take (row .issued) (listed p);
 }
 
 -- The row of these parts.
@@ -72,13 +85,26 @@ pub record Ready (row : Cluster) : Type 0 where
   pub leaders : Led (row .views)
   pub reads : HasLeader (row .controller)
 
--- The places after an accepted step. Append (1) and receive (8) write one place, the end of b's log; commit (2) writes
--- the end of the receipts; no other step writes a place.
+-- An entry written at a place of the store, value and term, and one at a place of the list.
+abbrev pub putLog : Places → ℕ → Entry → Places
+putLog p i x = lent (set (p .store) i (x .value)) (set (p .store2) i (x .term)) (p .list) (p .list2)
+
+abbrev pub putList : Places → ℕ → Entry → Places
+putList p i x = lent (p .store) (p .store2) (set (p .list) i (x .value)) (set (p .list2) i (x .term))
+
+-- The entry at a place of the store.
+abbrev pub storeAt : Places → ℕ → Entry
+storeAt p i = entry (getD (p .store) i 0) (getD (p .store2) i 0)
+
+-- The places after an accepted step. Append (1) writes the value and b's own term at the end of b's log; receive (8)
+-- the leader's next entry there; commit (2) the next entry of b's log at the end of the receipts; no other step writes
+-- a place.
 abbrev pub written : Writes → Cluster → Places → Places
-written (appends b value) row p = lent (set (p .store) (place b (at 0 (row .len) b)) value) (p .list)
-written (commits b) row p = lent (p .store) (set (p .list) (row .issued) (getD (p .store) (place b (row .issued)) 0))
-written (receives b) row p = let n = at 0 (row .len) b in
-    lent (set (p .store) (place b n) (getD (p .store) (place (at noView (row .views) b .leader) n) 0)) (p .list)
+written (appends b value) row p =
+    putLog p (place b (at 0 (row .len) b)) (entry value (at noView (row .views) b .term))
+written (commits b) row p = putList p (row .issued) (storeAt p (place b (row .issued)))
+written (receives b) row p =
+    let n = at 0 (row .len) b in putLog p (place b n) (storeAt p (place (at noView (row .views) b .leader) n))
 written nothing row p = p
 
 abbrev pub placesAfter : Step → Cluster → Places → Places

@@ -12,7 +12,7 @@ fn refuse(n: usize) {
 }
 
 // The longest sheet has 32,760 bytes: of a longer one so much is read that it is seen to be too long. The large buffer
-// has 65,536 bytes and no listing more than 55,230 (include/row.h), so refusal 3 does not happen here; and none has
+// has 65,536 bytes and no listing more than 57,790 (include/row.h), so refusal 3 does not happen here; and none has
 // fewer than four.
 fn main() {
     let mut sheet = [0u8; 32768];

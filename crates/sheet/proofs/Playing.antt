@@ -13,12 +13,13 @@ use Rattle.model.specs.State.{RowState, entries, outline, Opening, openingWith,
 use Rattle.model.specs.Steps.{Step, answerOf, step}
 use Rattle.model.specs.Records.{openingOf, Record, stepOf}
 use Rattle.model.specs.Runs.{stepsOf, run, answers}
-use Rattle.model.specs.Ranges.{inRange}
+use Rattle.model.specs.Ranges.{every, eight, inRange, termsInRange, keptInRange}
 use Rattle.model.specs.Claim.{after}
 use Rattle.model.proofs.Tests.{split-and, is-true, of-true}
 use Rattle.model.proofs.Answer.{answer-most}
 use Rattle.model.proofs.Range.{to-ranges}
 use Rattle.model.proofs.Bounds.{in-range}
+use Rattle.model.proofs.Made.{TermIn, terms-made, all-made, kept-in}
 use Rattle.model.proofs.Theorem.{run-append}
 use Rattle.cluster.specs.declared.Cluster.{Cluster}
 use Rattle.cluster.specs.declared.Outcome.{Outcome}
@@ -111,6 +112,17 @@ module _ (s : Text) (sheet : isSheet s ≡ true) (k : ℕ) (row : Cluster) (p : 
       ap inRange (h .outlined)
       ∙ is-true (inRange (outline (stateAt s k))) (in-range entries opening (sheet-real s sheet) past)
 
+  -- The kept epochs are in range too.
+  kept-fits : T (keptInRange (stateAt s k))
+  kept-fits = kept-in (all-made entries TermIn terms-made opening (sheet-real s sheet) past)
+
+  pub ran-terms : every (termsInRange (abs row p .committed)) ≡ true
+  ran-terms =
+      ap (λ (x : RowState). every (termsInRange (x .committed))) (h .state)
+      ∙ is-true (every (termsInRange (stateAt s k .committed)))
+      (split-and (every (termsInRange (stateAt s k .committed)))
+      (every (eight (λ b. every (termsInRange (stateAt s k .log b))))) kept-fits .0)
+
   pub ran-issued : row .issued ≤ length (p .list)
   ran-issued = omega (arith, h .full .list, to-ranges (outlineOf row) (of-true ran-fits) .committed)
 
@@ -128,7 +140,7 @@ module _ (s : Text) (sheet : isSheet s ≡ true) (k : ℕ) (row : Cluster) (p : 
   module _ (r : Record) (place : r ≡ recordAt (drop (8 * k + 8) s)) {x : Outcome} {p′ : Places}
       (t : Turns (stepOf r) row p x p′) (small : k + 1 < length ns) where
     valid-here : valid row p ≡ true
-    valid-here = all-tests row p (h .full) ∙ ran-fits
+    valid-here = all-tests row p (h .full) ran-fits ∙ ap keptInRange (h .state) ∙ is-true (keptInRange (stateAt s k)) kept-fits
 
     did : Did (stepOf r) row p x p′
     did = did-step (stepOf r) row p valid-here (h .full) t

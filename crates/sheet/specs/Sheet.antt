@@ -57,10 +57,10 @@ abbrev pub sampleListing : Text
 sampleListing =
     word "1 0 0\n2 1 0\n3 2 0\n4 3 0\nregistry 2 1 1 12 waiting\ncontrol 1 1 1 1 idle\nboard 1 1 1 1 1 1 1 late\nboard 2 1 1 1 1 1 0 late\n"
     ++ word "board 3 1 1 1 1 1 0 late\nboard 4 1 1 1 1 1 0 late\nboard 5 1 1 1 1 1 0 late\nboard 6 1 1 1 1 1 0 late\nboard 7 1 1 1 1 1 0 late\n"
-    ++ word "board 8 1 1 1 1 1 0 late\nreceipts 1 41\n"
+    ++ word "board 8 1 1 1 1 1 0 late\nreceipts 1 41@1\n"
 
 unfoldable pub SampleHolds : Type 0
-SampleHolds = (isSheet sampleSheet ≡ true) × (listing sampleSheet ≡ sampleListing) × (length sampleListing ≡ 285)
+SampleHolds = (isSheet sampleSheet ≡ true) × (listing sampleSheet ≡ sampleListing) × (length sampleListing ≡ 287)
 
 -- A slice of n bytes.
 abbrev pub slice : ℕ → Text
@@ -70,9 +70,9 @@ slice n = replicate n 255
 -- those past the listing.
 unfoldable pub RoomHolds : Type 0
 RoomHolds =
-    (result sampleSheet (slice 284) ≡ 3) × (left sampleSheet (slice 284) ≡ slice 284)
-    × (result sampleSheet (slice 285) ≡ 285) × (left sampleSheet (slice 285) ≡ sampleListing)
-    × (result sampleSheet (slice 287) ≡ 285) × (left sampleSheet (slice 287) ≡ sampleListing ++ slice 2)
+    (result sampleSheet (slice 286) ≡ 3) × (left sampleSheet (slice 286) ≡ slice 286)
+    × (result sampleSheet (slice 287) ≡ 287) × (left sampleSheet (slice 287) ≡ sampleListing)
+    × (result sampleSheet (slice 289) ≡ 287) × (left sampleSheet (slice 289) ≡ sampleListing ++ slice 2)
 
 -- The record of an opening.
 abbrev pub openingBytes : ℕ → Text

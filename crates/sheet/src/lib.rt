@@ -23,10 +23,19 @@ pub fn run_sheet(sheet: &[u8], listing: &mut [u8]) -> usize
         return 2;
     }
     let mut store = [0u32; 4096];
+    let mut store2 = [0u16; 4096];
     let mut list = [0u32; 512];
+    let mut list2 = [0u16; 512];
     let mut answers = [0u8; 4096];
-    let row = running::play(sheet, &mut store, &mut list, &mut answers);
-    let mut end = [0u8; 6144];
-    let n = listing::ending::put_ending(&mut end, row, &list);
+    let row = running::play(
+        sheet,
+        &mut store,
+        &mut store2,
+        &mut list,
+        &mut list2,
+        &mut answers,
+    );
+    let mut end = [0u8; 8704];
+    let n = listing::ending::put_ending(&mut end, row, &list, &list2);
     listing::answers::deliver(sheet, &answers, &end[..n], listing)
 }

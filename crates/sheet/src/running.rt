@@ -43,18 +43,21 @@ fn walk(
     acked: &mut [u16],
     len: &mut [u16],
     store: &mut [u32],
+    store2: &mut [u16],
     list: &mut [u32],
+    list2: &mut [u16],
     answers: &mut [u8],
 ) -> Carried
     requires { ⌜ (isSheet (now sheet) ≡ true)
         × Shape (rowOf (o .registry) (o .controller) (o .views) (now joined) (now acked) (now len) (o .issued))
         × Ran (now sheet) 0
         (rowOf (o .registry) (o .controller) (o .views) (now joined) (now acked) (now len) (o .issued))
-        (lent (now store) (now list)) (now answers) ⌝ }
+        (lent (now store) (now store2) (now list) (now list2)) (now answers) ⌝ }
     ensures { λ r. ⌜ Ran (now (sheet .entry)) (length (now (sheet .entry)) / 8 - 1)
         (rowOf (r .registry) (r .controller) (r .views)
         (now (joined .exit)) (now (acked .exit)) (now (len .exit)) (r .issued))
-        (lent (now (store .exit)) (now (list .exit))) (now (answers .exit)) ⌝ }
+        (lent (now (store .exit)) (now (store2 .exit)) (now (list .exit)) (now (list2 .exit)))
+        (now (answers .exit)) ⌝ }
 {
     let n = sheet.len() / 8 - 1;
     let mut g = o.registry;
@@ -73,7 +76,9 @@ fn walk(
             &mut *acked,
             &mut *len,
             &mut *store,
+            &mut *store2,
             &mut *list,
+            &mut *list2,
             r,
         );
         let s = x.central;
@@ -98,10 +103,21 @@ fn walk(
 
 // The whole sheet. Inner layer: callers see to it that refusal 2 lets the sheet through, and that the lent places have
 // their lengths.
-pub fn play(sheet: &[u8], store: &mut [u32], list: &mut [u32], answers: &mut [u8]) -> Cluster
-    requires { ⌜ (isSheet (now sheet) ≡ true) × Full (lent (now store) (now list)) × (length (now answers) ≡ 4096) ⌝ }
+pub fn play(
+    sheet: &[u8],
+    store: &mut [u32],
+    store2: &mut [u16],
+    list: &mut [u32],
+    list2: &mut [u16],
+    answers: &mut [u8],
+) -> Cluster
+    requires { ⌜
+        (isSheet (now sheet) ≡ true) × Full (lent (now store) (now store2) (now list) (now list2))
+        × (length (now answers) ≡ 4096)
+        ⌝ }
     ensures { λ r. ⌜ Ran (now (sheet .entry)) (length (now (sheet .entry)) / 8 - 1) r
-        (lent (now (store .exit)) (now (list .exit))) (now (answers .exit)) ⌝ }
+        (lent (now (store .exit)) (now (store2 .exit)) (now (list .exit)) (now (list2 .exit)))
+        (now (answers .exit)) ⌝ }
 {
     let row = begin(sheet);
     answers[0] = 0;
@@ -124,7 +140,9 @@ pub fn play(sheet: &[u8], store: &mut [u32], list: &mut [u32], answers: &mut [u8
         &mut acked,
         &mut len,
         &mut *store,
+        &mut *store2,
         &mut *list,
+        &mut *list2,
         &mut *answers,
     );
     let h = x.registry;

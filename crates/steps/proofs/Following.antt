@@ -7,13 +7,14 @@ use Rattle.model.specs.Prelude.{_⊑_}
 use Rattle.model.specs.State.{RowState, entries, Entry, outline, Opening, openingWith, canOpen, opened}
 use Rattle.model.specs.Steps.{Step, answerOf, step}
 use Rattle.model.specs.Runs.{run, answers}
-use Rattle.model.specs.Ranges.{inRange}
+use Rattle.model.specs.Ranges.{inRange, keptInRange}
 use Rattle.model.specs.Claim.{LeadsUnder, after, receipts, Safe}
 use Rattle.model.proofs.Tests.{is-true}
 use Rattle.model.proofs.Invariant.{Inv}
 use Rattle.model.proofs.Range.{from-ranges}
 use Rattle.model.proofs.Theorem.{opened-inv, step-keeps, run-append, safe}
 use Rattle.model.proofs.Bounds.{Bounds, opened-bounds, step-bounds, all-in}
+use Rattle.model.proofs.Made.{Kept, TermIn, terms-made, opened-made, step-made, kept-in}
 use Rattle.cluster.specs.Layout.{outlineOf}
 use Rattle.refinement.specs.Refinement.{Full}
 use Rattle.steps.specs.Call.{valid}
@@ -31,10 +32,13 @@ pub record Reached (s : RowState) : Type 0 where
   pub history : ℕ → ℕ
   pub inv : Inv history s
   pub bounds : Bounds s
+  pub kept : Kept TermIn s
 
 pub fit : {s : RowState} {h : Held} → Reached s → Holds s h → valid (h .row) (h .places) ≡ true
-fit {s} {h} k m = all-tests (h .row) (h .places) (m .full)
-    ∙ ap inRange (m .outlined) ∙ is-true (inRange (outline s)) (from-ranges (outline s) (all-in (k .inv) (k .bounds)))
+fit {s} {h} k m =
+    all-tests (h .row) (h .places) (m .full) (ap inRange (m .outlined)
+    ∙ is-true (inRange (outline s)) (from-ranges (outline s) (all-in (k .inv) (k .bounds))))
+    ∙ ap keptInRange (m .state) ∙ is-true (keptInRange s) (kept-in (k .kept))
 
 -- A call goes on to the model's next state, with the model's answer.
 pub record Goes (s : RowState) (st : Step) (h : Held) (n : ℕ) : Type 0 where
@@ -49,7 +53,12 @@ goes {s} {st} {h} {h′} k m d =
     record {
       answered = d .answer ∙ ap (λ t. cond t (answerOf (outlineOf (h .row)) st) 1) v
           ∙ ap (λ x. answerOf x st) (m .outlined);
-      reached = record { history = i .history; inv = i .inv; bounds = step-bounds entries (k .inv) (k .bounds) st };
+      reached = record {
+        history = i .history;
+        inv = i .inv;
+        bounds = step-bounds entries (k .inv) (k .bounds) st;
+        kept = step-made entries TermIn terms-made (k .inv) (k .bounds) (k .kept) st;
+      };
       holds = record {
         state = d .state ∙ ap (λ t. cond t (step entries (stateOf h) st) (stateOf h)) v
             ∙ ap (λ x. step entries x st) (m .state);
@@ -89,6 +98,7 @@ module _ (o : Opening) (h : Held) (start : Begins o h) where
     history = λ _. o .board;
     inv = opened-inv o (start .real);
     bounds = opened-bounds o (start .real);
+    kept = opened-made entries TermIn terms-made o;
   }
 
   module _ (sts : List Step) (h′ : Held) (ns : List ℕ) (calls : Calls h sts h′ ns) where

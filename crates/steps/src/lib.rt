@@ -1,35 +1,48 @@
-// The public calls: the opening, the fifteen steps, any record, the shown list. None asks anything of its caller:
-// refusal 1 is tested first.
+// The public calls: the opening, the fifteen steps, any record, the shown list and its terms. None asks anything of its
+// caller: refusal 1 is tested first. `store` and `list` hold values, `store2` and `list2` the terms (leader epochs) at
+// the same places.
 
 ghost use mathlib.Core.Path.{_≡_};
 ghost use denote.Ref.{ptr};
 ghost use Rattle.model.specs.State as M;
 ghost use Rattle.model.specs.Steps as S;
 ghost use Rattle.model.specs.Records as R;
-ghost use Rattle.refinement.specs.Refinement.{lent, Full, Ready, Turns};
+ghost use Rattle.refinement.specs.Refinement.{lent, Full, Shape, Ready, Turns};
 ghost use Rattle.refinement.specs.Rows.{RowsFixed};
 ghost use Rattle.steps_central.specs.Opening.{Opens};
 ghost use Rattle.steps.specs.Calls.{CallsSafe, NamesHold};
 ghost use Rattle.records.specs.Record.{recordOf};
-ghost use Rattle.steps.specs.Call.{valid, Did, shown, shownAt};
+ghost use Rattle.steps.specs.Call.{lengthsFit, valid, Did, shownValues, shownTerms, shownAt};
 use cluster::Cluster;
 use cluster::Outcome;
 use records::Record;
 
-// Whether refusal 1 lets the row and the lent places through.
-fn fits(row: Cluster, store: &[u32], list: &[u32]) -> bool
-    ensures { λ r. ⌜ r ≡ valid row (lent (now (store .entry)) (now (list .entry))) ⌝ }
+// Whether the lent places have their lengths.
+fn lengths(store: &[u32], store2: &[u16], list: &[u32], list2: &[u16]) -> bool
+    ensures { λ r. ⌜
+        r ≡ lengthsFit (lent (now (store .entry)) (now (store2 .entry)) (now (list .entry)) (now (list2 .entry)))
+        ⌝ }
 {
-    if store.len() != 4096 {
-        return false;
-    }
-    if list.len() != 512 {
-        return false;
-    }
-    cluster::ranges::in_range(row)
+    (store.len() == 4096) & (store2.len() == 4096) & (list.len() == 512) & (list2.len() == 512)
 }
 
-// Refusal 1 of the row or of the lent lengths: the answer 1, and the row as it was.
+// Whether refusal 1 lets the row and the lent places through; and what the row's type fixes, for the callers' proofs.
+fn fits(row: Cluster, store: &[u32], store2: &[u16], list: &[u32], list2: &[u16]) -> bool
+    ensures { λ r. ⌜
+        (r ≡ valid row (lent (now (store .entry)) (now (store2 .entry)) (now (list .entry)) (now (list2 .entry))))
+        × Shape row
+        ⌝ }
+{
+    if !lengths(store, store2, list, list2) {
+        return false;
+    }
+    if !cluster::ranges::in_range(row) {
+        return false;
+    }
+    kept::in_range(row, store2, list2)
+}
+
+// Refusal 1 of the row or of the lent places: the answer 1, and the row as it was.
 fn refused(row: Cluster) -> Outcome
     ensures { λ x. ⌜ (x .answer ≡ 1) × (x .row ≡ row) ⌝ }
 {
@@ -39,11 +52,19 @@ fn refused(row: Cluster) -> Outcome
     }
 }
 
-// The step of a record, of a row by value. Callers see to refusal 1 of the row and of the lent lengths.
-fn turn(row: Cluster, store: &mut [u32], list: &mut [u32], r: Record) -> Outcome
-    requires { ⌜ Ready row × Full (lent (now store) (now list)) ⌝ }
-    ensures { λ x. ⌜ Turns (R.stepOf (recordOf r)) row (lent (now (store .entry)) (now (list .entry)))
-        x (lent (now (store .exit)) (now (list .exit))) ⌝ }
+// The step of a record, of a row by value. Callers see to refusal 1 of the row and of the lent places.
+fn turn(
+    row: Cluster,
+    store: &mut [u32],
+    store2: &mut [u16],
+    list: &mut [u32],
+    list2: &mut [u16],
+    r: Record,
+) -> Outcome
+    requires { ⌜ Ready row × Full (lent (now store) (now store2) (now list) (now list2)) ⌝ }
+    ensures { λ x. ⌜ Turns (R.stepOf (recordOf r)) row
+        (lent (now (store .entry)) (now (store2 .entry)) (now (list .entry)) (now (list2 .entry)))
+        x (lent (now (store .exit)) (now (store2 .exit)) (now (list .exit)) (now (list2 .exit))) ⌝ }
 {
     let g = row.registry;
     let c = row.controller;
@@ -60,7 +81,9 @@ fn turn(row: Cluster, store: &mut [u32], list: &mut [u32], r: Record) -> Outcome
         &mut acked,
         &mut len,
         &mut *store,
+        &mut *store2,
         &mut *list,
+        &mut *list2,
         r,
     );
     let i = x.place;
@@ -84,14 +107,22 @@ fn turn(row: Cluster, store: &mut [u32], list: &mut [u32], r: Record) -> Outcome
 }
 
 // Any record: refusal 1 first, then its step.
-pub fn step(row: Cluster, store: &mut [u32], list: &mut [u32], r: Record) -> Outcome
-    ensures { λ x. ⌜ Did (R.stepOf (recordOf r)) row (lent (now (store .entry)) (now (list .entry)))
-        x (lent (now (store .exit)) (now (list .exit))) ⌝ }
+pub fn step(
+    row: Cluster,
+    store: &mut [u32],
+    store2: &mut [u16],
+    list: &mut [u32],
+    list2: &mut [u16],
+    r: Record,
+) -> Outcome
+    ensures { λ x. ⌜ Did (R.stepOf (recordOf r)) row
+        (lent (now (store .entry)) (now (store2 .entry)) (now (list .entry)) (now (list2 .entry)))
+        x (lent (now (store .exit)) (now (store2 .exit)) (now (list .exit)) (now (list2 .exit))) ⌝ }
 {
-    if !fits(row, &*store, &*list) {
+    if !fits(row, &*store, &*store2, &*list, &*list2) {
         return refused(row);
     }
-    turn(row, &mut *store, &mut *list, r)
+    turn(row, &mut *store, &mut *store2, &mut *list, &mut *list2, r)
 }
 
 // The opening with board b; it is lent nothing. Refused, it returns the row opened with board 1: the papers leave it
@@ -105,14 +136,25 @@ pub fn opening(b: u8) -> Outcome
 // The fifteen steps, each as the record that stands for it.
 
 // Step 1, b appends the value.
-pub fn append(row: Cluster, store: &mut [u32], list: &mut [u32], b: u8, value: u32) -> Outcome
-    ensures { λ x. ⌜ Did (S.Step.append b value) row (lent (now (store .entry)) (now (list .entry)))
-        x (lent (now (store .exit)) (now (list .exit))) ⌝ }
+pub fn append(
+    row: Cluster,
+    store: &mut [u32],
+    store2: &mut [u16],
+    list: &mut [u32],
+    list2: &mut [u16],
+    b: u8,
+    value: u32,
+) -> Outcome
+    ensures { λ x. ⌜ Did (S.Step.append b value) row
+        (lent (now (store .entry)) (now (store2 .entry)) (now (list .entry)) (now (list2 .entry)))
+        x (lent (now (store .exit)) (now (store2 .exit)) (now (list .exit)) (now (list2 .exit))) ⌝ }
 {
     step(
         row,
         &mut *store,
+        &mut *store2,
         &mut *list,
+        &mut *list2,
         Record {
             step: 1,
             board: b,
@@ -124,14 +166,24 @@ pub fn append(row: Cluster, store: &mut [u32], list: &mut [u32], b: u8, value: u
 }
 
 // Step 2, a receipt by b.
-pub fn commit(row: Cluster, store: &mut [u32], list: &mut [u32], b: u8) -> Outcome
-    ensures { λ x. ⌜ Did (S.Step.commit b) row (lent (now (store .entry)) (now (list .entry)))
-        x (lent (now (store .exit)) (now (list .exit))) ⌝ }
+pub fn commit(
+    row: Cluster,
+    store: &mut [u32],
+    store2: &mut [u16],
+    list: &mut [u32],
+    list2: &mut [u16],
+    b: u8,
+) -> Outcome
+    ensures { λ x. ⌜ Did (S.Step.commit b) row
+        (lent (now (store .entry)) (now (store2 .entry)) (now (list .entry)) (now (list2 .entry)))
+        x (lent (now (store .exit)) (now (store2 .exit)) (now (list .exit)) (now (list2 .exit))) ⌝ }
 {
     step(
         row,
         &mut *store,
+        &mut *store2,
         &mut *list,
+        &mut *list2,
         Record {
             step: 2,
             board: b,
@@ -143,14 +195,24 @@ pub fn commit(row: Cluster, store: &mut [u32], list: &mut [u32], b: u8) -> Outco
 }
 
 // Step 3, add b.
-pub fn add(row: Cluster, store: &mut [u32], list: &mut [u32], b: u8) -> Outcome
-    ensures { λ x. ⌜ Did (S.Step.add b) row (lent (now (store .entry)) (now (list .entry)))
-        x (lent (now (store .exit)) (now (list .exit))) ⌝ }
+pub fn add(
+    row: Cluster,
+    store: &mut [u32],
+    store2: &mut [u16],
+    list: &mut [u32],
+    list2: &mut [u16],
+    b: u8,
+) -> Outcome
+    ensures { λ x. ⌜ Did (S.Step.add b) row
+        (lent (now (store .entry)) (now (store2 .entry)) (now (list .entry)) (now (list2 .entry)))
+        x (lent (now (store .exit)) (now (store2 .exit)) (now (list .exit)) (now (list2 .exit))) ⌝ }
 {
     step(
         row,
         &mut *store,
+        &mut *store2,
         &mut *list,
+        &mut *list2,
         Record {
             step: 3,
             board: b,
@@ -162,14 +224,24 @@ pub fn add(row: Cluster, store: &mut [u32], list: &mut [u32], b: u8) -> Outcome
 }
 
 // Step 4, remove b.
-pub fn remove(row: Cluster, store: &mut [u32], list: &mut [u32], b: u8) -> Outcome
-    ensures { λ x. ⌜ Did (S.Step.remove b) row (lent (now (store .entry)) (now (list .entry)))
-        x (lent (now (store .exit)) (now (list .exit))) ⌝ }
+pub fn remove(
+    row: Cluster,
+    store: &mut [u32],
+    store2: &mut [u16],
+    list: &mut [u32],
+    list2: &mut [u16],
+    b: u8,
+) -> Outcome
+    ensures { λ x. ⌜ Did (S.Step.remove b) row
+        (lent (now (store .entry)) (now (store2 .entry)) (now (list .entry)) (now (list2 .entry)))
+        x (lent (now (store .exit)) (now (store2 .exit)) (now (list .exit)) (now (list2 .exit))) ⌝ }
 {
     step(
         row,
         &mut *store,
+        &mut *store2,
         &mut *list,
+        &mut *list2,
         Record {
             step: 4,
             board: b,
@@ -181,14 +253,23 @@ pub fn remove(row: Cluster, store: &mut [u32], list: &mut [u32], b: u8) -> Outco
 }
 
 // Step 5, change leader.
-pub fn change(row: Cluster, store: &mut [u32], list: &mut [u32]) -> Outcome
-    ensures { λ x. ⌜ Did S.Step.changeLeader row (lent (now (store .entry)) (now (list .entry)))
-        x (lent (now (store .exit)) (now (list .exit))) ⌝ }
+pub fn change(
+    row: Cluster,
+    store: &mut [u32],
+    store2: &mut [u16],
+    list: &mut [u32],
+    list2: &mut [u16],
+) -> Outcome
+    ensures { λ x. ⌜ Did S.Step.changeLeader row
+        (lent (now (store .entry)) (now (store2 .entry)) (now (list .entry)) (now (list2 .entry)))
+        x (lent (now (store .exit)) (now (store2 .exit)) (now (list .exit)) (now (list2 .exit))) ⌝ }
 {
     step(
         row,
         &mut *store,
+        &mut *store2,
         &mut *list,
+        &mut *list2,
         Record {
             step: 5,
             board: 0,
@@ -200,14 +281,24 @@ pub fn change(row: Cluster, store: &mut [u32], list: &mut [u32]) -> Outcome
 }
 
 // Step 6, b takes news.
-pub fn refresh(row: Cluster, store: &mut [u32], list: &mut [u32], b: u8) -> Outcome
-    ensures { λ x. ⌜ Did (S.Step.refresh b) row (lent (now (store .entry)) (now (list .entry)))
-        x (lent (now (store .exit)) (now (list .exit))) ⌝ }
+pub fn refresh(
+    row: Cluster,
+    store: &mut [u32],
+    store2: &mut [u16],
+    list: &mut [u32],
+    list2: &mut [u16],
+    b: u8,
+) -> Outcome
+    ensures { λ x. ⌜ Did (S.Step.refresh b) row
+        (lent (now (store .entry)) (now (store2 .entry)) (now (list .entry)) (now (list2 .entry)))
+        x (lent (now (store .exit)) (now (store2 .exit)) (now (list .exit)) (now (list2 .exit))) ⌝ }
 {
     step(
         row,
         &mut *store,
+        &mut *store2,
         &mut *list,
+        &mut *list2,
         Record {
             step: 6,
             board: b,
@@ -219,14 +310,24 @@ pub fn refresh(row: Cluster, store: &mut [u32], list: &mut [u32], b: u8) -> Outc
 }
 
 // Step 7, b joins.
-pub fn join(row: Cluster, store: &mut [u32], list: &mut [u32], b: u8) -> Outcome
-    ensures { λ x. ⌜ Did (S.Step.join b) row (lent (now (store .entry)) (now (list .entry)))
-        x (lent (now (store .exit)) (now (list .exit))) ⌝ }
+pub fn join(
+    row: Cluster,
+    store: &mut [u32],
+    store2: &mut [u16],
+    list: &mut [u32],
+    list2: &mut [u16],
+    b: u8,
+) -> Outcome
+    ensures { λ x. ⌜ Did (S.Step.join b) row
+        (lent (now (store .entry)) (now (store2 .entry)) (now (list .entry)) (now (list2 .entry)))
+        x (lent (now (store .exit)) (now (store2 .exit)) (now (list .exit)) (now (list2 .exit))) ⌝ }
 {
     step(
         row,
         &mut *store,
+        &mut *store2,
         &mut *list,
+        &mut *list2,
         Record {
             step: 7,
             board: b,
@@ -238,14 +339,24 @@ pub fn join(row: Cluster, store: &mut [u32], list: &mut [u32], b: u8) -> Outcome
 }
 
 // Step 8, b receives.
-pub fn receive(row: Cluster, store: &mut [u32], list: &mut [u32], b: u8) -> Outcome
-    ensures { λ x. ⌜ Did (S.Step.receive b) row (lent (now (store .entry)) (now (list .entry)))
-        x (lent (now (store .exit)) (now (list .exit))) ⌝ }
+pub fn receive(
+    row: Cluster,
+    store: &mut [u32],
+    store2: &mut [u16],
+    list: &mut [u32],
+    list2: &mut [u16],
+    b: u8,
+) -> Outcome
+    ensures { λ x. ⌜ Did (S.Step.receive b) row
+        (lent (now (store .entry)) (now (store2 .entry)) (now (list .entry)) (now (list2 .entry)))
+        x (lent (now (store .exit)) (now (store2 .exit)) (now (list .exit)) (now (list2 .exit))) ⌝ }
 {
     step(
         row,
         &mut *store,
+        &mut *store2,
         &mut *list,
+        &mut *list2,
         Record {
             step: 8,
             board: b,
@@ -257,14 +368,25 @@ pub fn receive(row: Cluster, store: &mut [u32], list: &mut [u32], b: u8) -> Outc
 }
 
 // Step 9, the leader a counts b.
-pub fn acknowledge(row: Cluster, store: &mut [u32], list: &mut [u32], a: u8, b: u8) -> Outcome
-    ensures { λ x. ⌜ Did (S.Step.acknowledge a b) row (lent (now (store .entry)) (now (list .entry)))
-        x (lent (now (store .exit)) (now (list .exit))) ⌝ }
+pub fn acknowledge(
+    row: Cluster,
+    store: &mut [u32],
+    store2: &mut [u16],
+    list: &mut [u32],
+    list2: &mut [u16],
+    a: u8,
+    b: u8,
+) -> Outcome
+    ensures { λ x. ⌜ Did (S.Step.acknowledge a b) row
+        (lent (now (store .entry)) (now (store2 .entry)) (now (list .entry)) (now (list2 .entry)))
+        x (lent (now (store .exit)) (now (store2 .exit)) (now (list .exit)) (now (list2 .exit))) ⌝ }
 {
     step(
         row,
         &mut *store,
+        &mut *store2,
         &mut *list,
+        &mut *list2,
         Record {
             step: 9,
             board: a,
@@ -276,14 +398,23 @@ pub fn acknowledge(row: Cluster, store: &mut [u32], list: &mut [u32], a: u8, b: 
 }
 
 // Step 10, the controller takes news.
-pub fn refresh_controller(row: Cluster, store: &mut [u32], list: &mut [u32]) -> Outcome
-    ensures { λ x. ⌜ Did S.Step.refreshController row (lent (now (store .entry)) (now (list .entry)))
-        x (lent (now (store .exit)) (now (list .exit))) ⌝ }
+pub fn refresh_controller(
+    row: Cluster,
+    store: &mut [u32],
+    store2: &mut [u16],
+    list: &mut [u32],
+    list2: &mut [u16],
+) -> Outcome
+    ensures { λ x. ⌜ Did S.Step.refreshController row
+        (lent (now (store .entry)) (now (store2 .entry)) (now (list .entry)) (now (list2 .entry)))
+        x (lent (now (store .exit)) (now (store2 .exit)) (now (list .exit)) (now (list2 .exit))) ⌝ }
 {
     step(
         row,
         &mut *store,
+        &mut *store2,
         &mut *list,
+        &mut *list2,
         Record {
             step: 10,
             board: 0,
@@ -295,14 +426,23 @@ pub fn refresh_controller(row: Cluster, store: &mut [u32], list: &mut [u32]) -> 
 }
 
 // Step 11, the controller reads its leader.
-pub fn read_leader(row: Cluster, store: &mut [u32], list: &mut [u32]) -> Outcome
-    ensures { λ x. ⌜ Did S.Step.readLeader row (lent (now (store .entry)) (now (list .entry)))
-        x (lent (now (store .exit)) (now (list .exit))) ⌝ }
+pub fn read_leader(
+    row: Cluster,
+    store: &mut [u32],
+    store2: &mut [u16],
+    list: &mut [u32],
+    list2: &mut [u16],
+) -> Outcome
+    ensures { λ x. ⌜ Did S.Step.readLeader row
+        (lent (now (store .entry)) (now (store2 .entry)) (now (list .entry)) (now (list2 .entry)))
+        x (lent (now (store .exit)) (now (store2 .exit)) (now (list .exit)) (now (list2 .exit))) ⌝ }
 {
     step(
         row,
         &mut *store,
+        &mut *store2,
         &mut *list,
+        &mut *list2,
         Record {
             step: 11,
             board: 0,
@@ -314,14 +454,24 @@ pub fn read_leader(row: Cluster, store: &mut [u32], list: &mut [u32]) -> Outcome
 }
 
 // Step 12, the controller reads b.
-pub fn read(row: Cluster, store: &mut [u32], list: &mut [u32], b: u8) -> Outcome
-    ensures { λ x. ⌜ Did (S.Step.read b) row (lent (now (store .entry)) (now (list .entry)))
-        x (lent (now (store .exit)) (now (list .exit))) ⌝ }
+pub fn read(
+    row: Cluster,
+    store: &mut [u32],
+    store2: &mut [u16],
+    list: &mut [u32],
+    list2: &mut [u16],
+    b: u8,
+) -> Outcome
+    ensures { λ x. ⌜ Did (S.Step.read b) row
+        (lent (now (store .entry)) (now (store2 .entry)) (now (list .entry)) (now (list2 .entry)))
+        x (lent (now (store .exit)) (now (store2 .exit)) (now (list .exit)) (now (list2 .exit))) ⌝ }
 {
     step(
         row,
         &mut *store,
+        &mut *store2,
         &mut *list,
+        &mut *list2,
         Record {
             step: 12,
             board: b,
@@ -333,14 +483,23 @@ pub fn read(row: Cluster, store: &mut [u32], list: &mut [u32], b: u8) -> Outcome
 }
 
 // Step 13, set normal.
-pub fn set_normal(row: Cluster, store: &mut [u32], list: &mut [u32]) -> Outcome
-    ensures { λ x. ⌜ Did S.Step.setNormal row (lent (now (store .entry)) (now (list .entry)))
-        x (lent (now (store .exit)) (now (list .exit))) ⌝ }
+pub fn set_normal(
+    row: Cluster,
+    store: &mut [u32],
+    store2: &mut [u16],
+    list: &mut [u32],
+    list2: &mut [u16],
+) -> Outcome
+    ensures { λ x. ⌜ Did S.Step.setNormal row
+        (lent (now (store .entry)) (now (store2 .entry)) (now (list .entry)) (now (list2 .entry)))
+        x (lent (now (store .exit)) (now (store2 .exit)) (now (list .exit)) (now (list2 .exit))) ⌝ }
 {
     step(
         row,
         &mut *store,
+        &mut *store2,
         &mut *list,
+        &mut *list2,
         Record {
             step: 13,
             board: 0,
@@ -352,14 +511,24 @@ pub fn set_normal(row: Cluster, store: &mut [u32], list: &mut [u32]) -> Outcome
 }
 
 // Step 14, the controller hears b.
-pub fn hear(row: Cluster, store: &mut [u32], list: &mut [u32], b: u8) -> Outcome
-    ensures { λ x. ⌜ Did (S.Step.hear b) row (lent (now (store .entry)) (now (list .entry)))
-        x (lent (now (store .exit)) (now (list .exit))) ⌝ }
+pub fn hear(
+    row: Cluster,
+    store: &mut [u32],
+    store2: &mut [u16],
+    list: &mut [u32],
+    list2: &mut [u16],
+    b: u8,
+) -> Outcome
+    ensures { λ x. ⌜ Did (S.Step.hear b) row
+        (lent (now (store .entry)) (now (store2 .entry)) (now (list .entry)) (now (list2 .entry)))
+        x (lent (now (store .exit)) (now (store2 .exit)) (now (list .exit)) (now (list2 .exit))) ⌝ }
 {
     step(
         row,
         &mut *store,
+        &mut *store2,
         &mut *list,
+        &mut *list2,
         Record {
             step: 14,
             board: b,
@@ -371,14 +540,24 @@ pub fn hear(row: Cluster, store: &mut [u32], list: &mut [u32], b: u8) -> Outcome
 }
 
 // Step 15, install b.
-pub fn install(row: Cluster, store: &mut [u32], list: &mut [u32], b: u8) -> Outcome
-    ensures { λ x. ⌜ Did (S.Step.install b) row (lent (now (store .entry)) (now (list .entry)))
-        x (lent (now (store .exit)) (now (list .exit))) ⌝ }
+pub fn install(
+    row: Cluster,
+    store: &mut [u32],
+    store2: &mut [u16],
+    list: &mut [u32],
+    list2: &mut [u16],
+    b: u8,
+) -> Outcome
+    ensures { λ x. ⌜ Did (S.Step.install b) row
+        (lent (now (store .entry)) (now (store2 .entry)) (now (list .entry)) (now (list2 .entry)))
+        x (lent (now (store .exit)) (now (store2 .exit)) (now (list .exit)) (now (list2 .exit))) ⌝ }
 {
     step(
         row,
         &mut *store,
+        &mut *store2,
         &mut *list,
+        &mut *list2,
         Record {
             step: 15,
             board: b,
@@ -389,14 +568,24 @@ pub fn install(row: Cluster, store: &mut [u32], list: &mut [u32], b: u8) -> Outc
     )
 }
 
-// The shown list: a part of the store or of the list, not a copy (the promise says where it begins); an empty part of
-// the list where refusal 1 turns the row or the lent lengths away.
-pub fn visible<'a>(row: Cluster, store: &'a [u32], list: &'a [u32]) -> &'a [u32]
-    ensures { λ r. ⌜ (now r ≡ shown row (lent (now (store .entry)) (now (list .entry))))
-        × (ptr r ≡ shownAt row (lent (now (store .entry)) (now (list .entry))) (ptr (store .entry)) (ptr (list .entry)))
+// The shown list, its values: a part of the store or of the list, not a copy (the promise says where it begins); an
+// empty part of the list where refusal 1 turns the row or the lent places away.
+pub fn visible<'a>(
+    row: Cluster,
+    store: &'a [u32],
+    store2: &[u16],
+    list: &'a [u32],
+    list2: &[u16],
+) -> &'a [u32]
+    ensures { λ r. ⌜
+        (now r ≡ shownValues row
+        (lent (now (store .entry)) (now (store2 .entry)) (now (list .entry)) (now (list2 .entry))))
+        × (ptr r ≡ shownAt 4 row
+        (lent (now (store .entry)) (now (store2 .entry)) (now (list .entry)) (now (list2 .entry)))
+        (ptr (store .entry)) (ptr (list .entry)))
         ⌝ }
 {
-    if !fits(row, store, list) {
+    if !fits(row, store, store2, list, list2) {
         return &list[0..0];
     }
     let g = row.registry;
@@ -405,6 +594,33 @@ pub fn visible<'a>(row: Cluster, store: &'a [u32], list: &'a [u32]) -> &'a [u32]
     let i = (l - 1) as usize;
     let n = row.len[i];
     logstore::visible(store, list, v.leader, n, row.issued)
+}
+
+// The like part of the terms, in the same way: of the second store or of the second list.
+pub fn visible_terms<'a>(
+    row: Cluster,
+    store: &[u32],
+    store2: &'a [u16],
+    list: &[u32],
+    list2: &'a [u16],
+) -> &'a [u16]
+    ensures { λ r. ⌜
+        (now r ≡ shownTerms row
+        (lent (now (store .entry)) (now (store2 .entry)) (now (list .entry)) (now (list2 .entry))))
+        × (ptr r ≡ shownAt 2 row
+        (lent (now (store .entry)) (now (store2 .entry)) (now (list .entry)) (now (list2 .entry)))
+        (ptr (store2 .entry)) (ptr (list2 .entry)))
+        ⌝ }
+{
+    if !fits(row, store, store2, list, list2) {
+        return &list2[0..0];
+    }
+    let g = row.registry;
+    let v = g.view;
+    let l = cluster::seat(v.leader);
+    let i = (l - 1) as usize;
+    let n = row.len[i];
+    logstore::visible_terms(store2, list2, v.leader, n, row.issued)
 }
 
 // Demand 3 about the calls: for every opening and every list of calls, by record or by name, whatever the lent places

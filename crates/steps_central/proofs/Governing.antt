@@ -20,8 +20,8 @@ use Rattle.cluster.specs.declared.Settled.{Settled}
 use Rattle.cluster.specs.Layout.{at, noView, outlineOf}
 use Rattle.cluster.specs.Parts.{Rules, Tells, Settles}
 use Rattle.cluster.proofs.Laws.{at-index}
-use Rattle.refinement.specs.Refinement.{Places, Full, abs, rowOf, Short, written, Governs}
-use Rattle.refinement.proofs.Turning.{log-len, outline-abs}
+use Rattle.refinement.specs.Refinement.{Places, logged, Full, abs, rowOf, Short, written, Governs}
+use Rattle.refinement.proofs.Turning.{logged-full, log-len, outline-abs}
 
 -- A step that writes no lent place, and changes at most what put takes over from its second state.
 pub record Only (put : RowState → RowState → RowState) (st : Step) : Type 0 where
@@ -108,5 +108,5 @@ module _ (len : List ℕ) (s : Short len) (k : ℕ) (low : 1 ≤ k) where
       let e = sym (f t) in (
         ap (λ x. at noView views x .epoch) e ∙ ap (λ v. v .epoch) (at-index noView views k low),
         ap (at 0 joined) e ∙ at-index 0 joined k low,
-        log-len (p .store) (full .store) len s b ∙ ap (at 0 len) e ∙ at-index 0 len k low,
+        log-len (logged p) (logged-full p full) len s b ∙ ap (at 0 len) e ∙ at-index 0 len k low,
       )

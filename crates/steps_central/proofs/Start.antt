@@ -17,6 +17,7 @@ use Rattle.cluster.specs.declared.Status.the-variants.{Normal}
 use Rattle.cluster.specs.declared.Stage.the-variants.{Idle}
 use Rattle.cluster.specs.declared.Cluster.{Cluster}
 use Rattle.cluster.specs.Layout.{at, atPair, noView, viewOf, outlineOf}
+use Rattle.refinement.specs.Refinement.{logged, listed}
 use Rattle.steps_central.specs.Opening.{OpenedWith, Opens}
 
 -- Eight of a kind, by a number: 0, 1 to 8, or above.
@@ -90,8 +91,8 @@ module _ (b m : ℕ) (e : bits m ≡ only b) where
       view = outlined i .view;
       joined = outlined i .joined;
       acked = outlined i .acked;
-      log = λ x. logOf (p .store) x (none-heard i x);
-      committed = take 0 (p .list);
+      log = λ x. logOf (logged p) x (none-heard i x);
+      committed = take 0 (listed p);
     };
     outline = outlined;
   }

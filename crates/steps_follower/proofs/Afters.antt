@@ -5,11 +5,11 @@ use mathlib.Core.Path.{_≡_, refl, sym, ap, _∙_, fun-ext}
 use Prim.Native.Nat.{ℕ, _+_, _-_, _≤_}
 use native.Mathlib.Omega.{arith}
 use lib.Dec.{eqb, ltb→lt}
-use lib.ListN.{length, getD, set}
+use lib.ListN.{length, take, getD, set}
 use Rattle.model.specs.Prelude.{upd}
 use Rattle.model.specs.Members.{isReplica}
 use Rattle.model.specs.State as M
-use Rattle.model.specs.State.{entries}
+use Rattle.model.specs.State.{Entry, entry, sameEntry, entries}
 use Rattle.model.specs.Steps.{refresh, join, receive, checks, accepted, next, shared}
 use Rattle.model.proofs.Tests.{facts, upd-idle, is-true, of-true}
 use Rattle.model.proofs.Quorum.{replica-range}
@@ -19,8 +19,8 @@ use Rattle.cluster.specs.declared.View.{View}
 use Rattle.cluster.specs.declared.Cluster.{Cluster}
 use Rattle.cluster.specs.Layout.{viewOf, at, atPair, noView, outlineOf}
 use Rattle.cluster.proofs.Laws.{at-index, at-set, at-seat}
-use Rattle.refinement.specs.Refinement.{Places, lent, Full, abs, Short}
-use Rattle.refinement.proofs.Turning.{log-len, logs-set, logs-grow}
+use Rattle.refinement.specs.Refinement.{Places, logged, listed, putLog, storeAt, Full, abs, Short, placesAfter}
+use Rattle.refinement.proofs.Turning.{logged-full, logged-at, logged-put, log-len, logs-set, logs-grow}
 use Rattle.steps_follower.proofs.Answers.{leader-seat}
 
 -- A choice, then a function of it.
@@ -34,19 +34,18 @@ upd-cond f b true x = refl
 upd-cond f b false x = sym (upd-idle f b (f b) refl)
 
 -- What is shared is no longer than the log was.
-pub join-short : (store ys : List ℕ) (k n m : ℕ) → length store ≡ 4096 → 1 ≤ k → k ≤ 8 → n ≤ 512 → m
-    ≡ length (shared eqb (logOf store k n) ys) → m ≤ 512
+pub join-short : (store ys : List Entry) (k n m : ℕ) → length store ≡ 4096 → 1 ≤ k → k ≤ 8 → n ≤ 512 → m
+    ≡ length (shared sameEntry (logOf store k n) ys) → m ≤ 512
 join-short store ys k n m full low high h e =
-    omega (arith, shared-length (logOf store k n) ys, log-length store full k low high n h)
+    omega (arith, shared-length sameEntry (logOf store k n) ys, log-length store full k low high n h)
 
 -- The entry that step 8 writes is the one after its own log in its leader's.
-pub receive-place : (row : Cluster) (b k : ℕ) (hk : isReplica b ≡ true → k ≡ b) (v : View)
+pub receive-places : (row : Cluster) (p : Places) (b k : ℕ) (hk : isReplica b ≡ true → k ≡ b) (v : View)
     (ev : v ≡ getD (row .views) (k - 1) noView) (l : ℕ) → (isReplica (v .leader) ≡ true → l ≡ v .leader)
-    → ((x : ℕ) → at noView (row .views) x .leader ≤ 8) → (store : List ℕ) → accepted (outlineOf row) (receive b) ≡ true
-    → set store (place k (getD (row .len) (k - 1) 0)) (getD store (place l (getD (row .len) (k - 1) 0)) 0)
-    ≡ set store (place b (at 0 (row .len) b))
-    (getD store (place (at noView (row .views) b .leader) (at 0 (row .len) b)) 0)
-receive-place row b k hk v ev l hl small store t =
+    → ((x : ℕ) → at noView (row .views) x .leader ≤ 8) → accepted (outlineOf row) (receive b) ≡ true
+    → putLog p (place k (getD (row .len) (k - 1) 0)) (storeAt p (place l (getD (row .len) (k - 1) 0)))
+    ≡ placesAfter (receive b) row p
+receive-places row p b k hk v ev l hl small t =
     let h = facts (checks (outlineOf row) (receive b)) (of-true t) in
     rw (
       at-seat 0 (row .len) b k hk (h 1),
@@ -55,7 +54,11 @@ receive-place row b k hk v ev l hl small store t =
     )
 
 module _ (row : Cluster) (short : Short (row .len)) (p : Places) (full : Full p) where
-  open Places p using (store, list)
+  abbrev store : List Entry
+  store = logged p
+
+  whole : length store ≡ 4096
+  whole = logged-full p full
 
   -- Step 6.
   pub refresh-after : (b k j n : ℕ) (v : View) (acked : List ℕ) → (isReplica b ≡ true → k ≡ b) → v
@@ -88,7 +91,7 @@ module _ (row : Cluster) (short : Short (row .len)) (p : Places) (full : Full p)
       ∙ cond-ap viewOf (eqb x b) (row .registry .view) (at noView (row .views) x))) in
       let nj : getD (row .joined) (b - 1) 0 ≡ at 0 (row .joined) b = sym (at-index 0 (row .joined) b (r .0)) in
       let nb : getD (row .len) (b - 1) 0 ≡ length (logOf store b (at 0 (row .len) b)) =
-      sym (log-len store (full .store) (row .len) short b ∙ at-index 0 (row .len) b (r .0)) in
+      sym (log-len store whole (row .len) short b ∙ at-index 0 (row .len) b (r .0)) in
       let joined : at 0 (set (row .joined) (k - 1) j) ≡ next entries (abs row p) (refresh b) .joined =
       rw (ej, ev, q, vb, nj) (at-set 0 (row .joined) b _ (r .0) (r .1) lj) in
       let counts : atPair acked ≡ next entries (abs row p) (refresh b) .acked =
@@ -109,7 +112,7 @@ module _ (row : Cluster) (short : Short (row .len)) (p : Places) (full : Full p)
   pub join-after : (b k l n : ℕ) (v : View) → (isReplica b ≡ true → k ≡ b) → length (row .joined) ≡ 8 → v
       ≡ getD (row .views) (k - 1) noView
       → (isReplica (v .leader) ≡ true → l ≡ v .leader) → ((x : ℕ) → at noView (row .views) x .leader ≤ 8)
-      → n ≡ length (shared eqb (logOf store k (getD (row .len) (k - 1) 0)) (logOf store l (getD (row .len) (l - 1) 0)))
+      → n ≡ length (shared sameEntry (logOf store k (getD (row .len) (k - 1) 0)) (logOf store l (getD (row .len) (l - 1) 0)))
       → accepted (outlineOf row) (join b) ≡ true
       → abs (record {
         registry = row .registry;
@@ -133,15 +136,15 @@ module _ (row : Cluster) (short : Short (row .len)) (p : Places) (full : Full p)
       let nl : getD (row .len) (l - 1) 0 ≡ at 0 (row .len) l = sym (at-index 0 (row .len) l (ld .0)) in
       let m = at 0 (row .len) b in
       let other = logOf store (at noView (row .views) b .leader) (at 0 (row .len) (at noView (row .views) b .leader)) in
-      let en′ : n ≡ length (shared eqb (logOf store b m) other) = en ∙ rw (q, nb, nl, ll) in
+      let en′ : n ≡ length (shared sameEntry (logOf store b m) other) = en ∙ rw (q, nb, nl, ll) in
       let joined : at 0 (set (row .joined) (k - 1) (v .term))
       ≡ upd (at 0 (row .joined)) b (at noView (row .views) b .term) =
       rw (ev, q, vb) (at-set 0 (row .joined) b (at noView (row .views) b .term) (r .0) (r .1) lj) in
       let logs : (λ x. logOf store x (at 0 (set (row .len) (k - 1) n) x))
-      ≡ upd (λ x. logOf store x (at 0 (row .len) x)) b (shared eqb (logOf store b m) other) =
+      ≡ upd (λ x. logOf store x (at 0 (row .len) x)) b (shared sameEntry (logOf store b m) other) =
       rw q (logs-set (row .len) short b n (r .0) (r .1) store store (λ _ _ _. refl))
       ∙ ap (upd (λ x. logOf store x (at 0 (row .len) x)) b)
-      (ap (logOf store b) en′ ∙ log-joins store (full .store) b (r .0) (r .1) m other (short .most b)) in
+      (ap (logOf store b) en′ ∙ log-joins store whole b (r .0) (r .1) m sameEntry other (short .most b)) in
       λ j. record {
         registry = abs row p .registry;
         controller = abs row p .controller;
@@ -153,10 +156,8 @@ module _ (row : Cluster) (short : Short (row .len)) (p : Places) (full : Full p)
       }
 
   -- Step 8.
-  pub receive-after : (b k l : ℕ) (v : View) → (isReplica b ≡ true → k ≡ b) → v ≡ getD (row .views) (k - 1) noView
-      → (isReplica (v .leader) ≡ true → l ≡ v .leader) → ((x : ℕ) → at noView (row .views) x .leader ≤ 8)
-      → (store′ : List ℕ) → store′ ≡ set store (place k (getD (row .len) (k - 1) 0))
-      (getD store (place l (getD (row .len) (k - 1) 0)) 0)
+  pub receive-after : (b k : ℕ) → (isReplica b ≡ true → k ≡ b)
+      → (p′ : Places) → p′ ≡ placesAfter (receive b) row p
       → accepted (outlineOf row) (receive b) ≡ true
       → abs (record {
         registry = row .registry;
@@ -166,9 +167,9 @@ module _ (row : Cluster) (short : Short (row .len)) (p : Places) (full : Full p)
         acked = row .acked;
         len = set (row .len) (k - 1) (getD (row .len) (k - 1) 0 + 1);
         issued = row .issued;
-      }) (lent store′ list)
+      }) p′
       ≡ next entries (abs row p) (receive b)
-  receive-after b k l v hk ev hl small store′ es t =
+  receive-after b k hk p′ ep t =
       let h = facts (checks (outlineOf row) (receive b)) (of-true t) in
       let r = replica-range b (h 1) in
       let q : k ≡ b = hk (is-true (isReplica b) (h 1)) in
@@ -176,15 +177,17 @@ module _ (row : Cluster) (short : Short (row .len)) (p : Places) (full : Full p)
       let n = at 0 (row .len) b in
       let nb : getD (row .len) (b - 1) 0 ≡ n = sym (at-index 0 (row .len) b (r .0)) in
       let lt = ltb→lt n (at 0 (row .len) o) (h 12) in
-      let e : getD store (place o n) 0 ≡ getD (logOf store o (at 0 (row .len) o)) (length (logOf store b n)) 0 =
-      sym (log-entry store o (at 0 (row .len) o) n lt)
-      ∙ ap (λ x. getD (logOf store o (at 0 (row .len) o)) x 0) (sym (log-len store (full .store) (row .len) short b)) in
-      let logs : (λ x. logOf store′ x (at 0 (set (row .len) (k - 1) (getD (row .len) (k - 1) 0 + 1)) x))
+      let e : storeAt p (place o n) ≡ getD (logOf store o (at 0 (row .len) o)) (length (logOf store b n)) (entry 0 0) =
+      sym (logged-at p full (place o n)) ∙ sym (log-entry (entry 0 0) store o (at 0 (row .len) o) n lt)
+      ∙ ap (λ x. getD (logOf store o (at 0 (row .len) o)) x (entry 0 0)) (sym (log-len store whole (row .len) short b)) in
+      let logs : (λ x. logOf (logged p′) x (at 0 (set (row .len) (k - 1) (getD (row .len) (k - 1) 0 + 1)) x))
       ≡ upd (λ x. logOf store x (at 0 (row .len) x)) b
-      (logOf store b n ++ (getD (logOf store o (at 0 (row .len) o)) (length (logOf store b n)) 0 ∷ [])) =
-      rw (es ∙ receive-place row b k hk v ev l hl small store t, q, nb)
-      (logs-grow (row .len) short store (full .store) b _ (r .0) (r .1) (omega (arith, lt, short .most o)))
+      (logOf store b n ++ (getD (logOf store o (at 0 (row .len) o)) (length (logOf store b n)) (entry 0 0) ∷ [])) =
+      rw (ap logged ep ∙ logged-put p (place b n) (storeAt p (place o n)), q, nb)
+      (logs-grow (row .len) short store whole b _ (r .0) (r .1) (omega (arith, lt, short .most o)))
       ∙ ap (λ x. upd (λ x. logOf store x (at 0 (row .len) x)) b (logOf store b n ++ (x ∷ []))) e in
+      let given : take (row .issued) (listed p′) ≡ take (row .issued) (listed p) =
+      ap (λ z. take (row .issued) (listed z)) ep in
       λ j. record {
         registry = abs row p .registry;
         controller = abs row p .controller;
@@ -192,5 +195,5 @@ module _ (row : Cluster) (short : Short (row .len)) (p : Places) (full : Full p)
         joined = abs row p .joined;
         acked = abs row p .acked;
         log = logs j;
-        committed = abs row p .committed;
+        committed = given j;
       }

@@ -1,5 +1,5 @@
 // The steps by which a replica follows: refresh (6), join (7), receive (8), over the parts of a row that they use: the
-// replicas' views by value; their joined epochs, counts and lengths and the store lent. Each promise is for every row
+// replicas' views by value; their joined epochs, counts and lengths and the two stores lent. Each promise is for every row
 // with these parts, at most 512 receipts and lent places of their lengths. Inner layer: callers see to it that the lent
 // places have their lengths, that no log is longer than 512, and that the leaders in the views are replicas or none.
 
@@ -146,14 +146,26 @@ fn may_join(v: View, w: View, j: u16, k: u8, b: u8) -> u8
 }
 
 // Step 7, b joins. Inner layer: callers see to the lengths and the leaders.
-pub fn join(views: [View; 8], joined: &mut [u16], len: &mut [u16], store: &[u32], b: u8) -> u8
-    requires { ⌜ Led views × (length (now joined) ≡ 8) × Short (now len) × (length (now store) ≡ 4096) ⌝ }
+pub fn join(
+    views: [View; 8],
+    joined: &mut [u16],
+    len: &mut [u16],
+    store: &[u32],
+    store2: &[u16],
+    b: u8,
+) -> u8
+    requires { ⌜
+        Led views × (length (now joined) ≡ 8) × Short (now len)
+        × (length (now store) ≡ 4096) × (length (now store2) ≡ 4096)
+        ⌝ }
     ensures { λ x. ⌜ (
-        (g : Registry) (c : Controller) (acked : List ℕ) (issued : ℕ) (list : List ℕ) → issued ≤ 512
-        → Full (lent (now (store .entry)) list)
+        (g : Registry) (c : Controller) (acked : List ℕ) (issued : ℕ) (list list2 : List ℕ) → issued ≤ 512
+        → Full (lent (now (store .entry)) (now (store2 .entry)) list list2)
         → Leaves (S.Step.join b)
-        (rowOf g c views (now (joined .entry)) acked (now (len .entry)) issued) (lent (now (store .entry)) list)
-        x (rowOf g c views (now (joined .exit)) acked (now (len .exit)) issued) (lent (now (store .entry)) list)
+        (rowOf g c views (now (joined .entry)) acked (now (len .entry)) issued)
+        (lent (now (store .entry)) (now (store2 .entry)) list list2)
+        x (rowOf g c views (now (joined .exit)) acked (now (len .exit)) issued)
+        (lent (now (store .entry)) (now (store2 .entry)) list list2)
         ) ⌝ }
 {
     let k = seat(b);
@@ -169,7 +181,7 @@ pub fn join(views: [View; 8], joined: &mut [u16], len: &mut [u16], store: &[u32]
     }
     let own = len[i];
     let other = len[m];
-    let n = logstore::shared(store, k, own, l, other);
+    let n = logstore::shared(store, store2, k, own, l, other);
     len[i] = n;
     joined[i] = v.term;
     0
@@ -198,14 +210,26 @@ fn may_receive(v: View, w: View, j: u16, n: u16, o: u16, k: u8, b: u8) -> u8
 }
 
 // Step 8, b receives. Inner layer: callers see to the lengths and the leaders.
-pub fn receive(views: [View; 8], joined: &[u16], len: &mut [u16], store: &mut [u32], b: u8) -> u8
-    requires { ⌜ Led views × (length (now joined) ≡ 8) × Short (now len) × (length (now store) ≡ 4096) ⌝ }
+pub fn receive(
+    views: [View; 8],
+    joined: &[u16],
+    len: &mut [u16],
+    store: &mut [u32],
+    store2: &mut [u16],
+    b: u8,
+) -> u8
+    requires { ⌜
+        Led views × (length (now joined) ≡ 8) × Short (now len)
+        × (length (now store) ≡ 4096) × (length (now store2) ≡ 4096)
+        ⌝ }
     ensures { λ x. ⌜ (
-        (g : Registry) (c : Controller) (acked : List ℕ) (issued : ℕ) (list : List ℕ) → issued ≤ 512
-        → Full (lent (now (store .entry)) list)
+        (g : Registry) (c : Controller) (acked : List ℕ) (issued : ℕ) (list list2 : List ℕ) → issued ≤ 512
+        → Full (lent (now (store .entry)) (now (store2 .entry)) list list2)
         → Leaves (S.Step.receive b)
-        (rowOf g c views (now (joined .entry)) acked (now (len .entry)) issued) (lent (now (store .entry)) list)
-        x (rowOf g c views (now (joined .entry)) acked (now (len .exit)) issued) (lent (now (store .exit)) list)
+        (rowOf g c views (now (joined .entry)) acked (now (len .entry)) issued)
+        (lent (now (store .entry)) (now (store2 .entry)) list list2)
+        x (rowOf g c views (now (joined .entry)) acked (now (len .exit)) issued)
+        (lent (now (store .exit)) (now (store2 .exit)) list list2)
         ) ⌝ }
 {
     let k = seat(b);
@@ -221,7 +245,7 @@ pub fn receive(views: [View; 8], joined: &[u16], len: &mut [u16], store: &mut [u
     if r != 0 {
         return r;
     }
-    logstore::receive_entry(&mut *store, k, l, n);
+    logstore::receive_entry(&mut *store, &mut *store2, k, l, n);
     len[i] = n + 1;
     0
 }

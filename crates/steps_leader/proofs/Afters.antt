@@ -9,40 +9,45 @@ use lib.ListN.{length, take, getD, set}
 use lib.Seq.{length-take-le}
 use Rattle.model.specs.Prelude.{upd}
 use Rattle.model.specs.Members.{isReplica}
-use Rattle.model.specs.State.{entries}
+use Rattle.model.specs.State.{Entry, entry, entries}
 use Rattle.model.specs.Steps.{append, commit, acknowledge, checks, accepted, next}
 use Rattle.model.proofs.Tests.{facts, split-and, is-true, of-true}
 use Rattle.model.proofs.Quorum.{replica-range}
 use Rattle.logstore.specs.Log.{place, logOf}
 use Rattle.logstore.proofs.Laws.{list-gains, log-entry}
+use Rattle.cluster.specs.declared.View.{View}
 use Rattle.cluster.specs.declared.Cluster.{Cluster}
-use Rattle.cluster.specs.Layout.{at, atPair, outlineOf}
+use Rattle.cluster.specs.Layout.{at, atPair, noView, outlineOf}
 use Rattle.cluster.proofs.Laws.{at-index, at-seat}
-use Rattle.refinement.specs.Refinement.{Places, lent, Full, abs, Short}
-use Rattle.refinement.proofs.Turning.{log-len, logs-grow, pair-set}
+use Rattle.refinement.specs.Refinement.{Places, logged, listed, putLog, putList, storeAt, Full, abs, Short, placesAfter}
+use Rattle.refinement.proofs.Turning.{logged-full, listed-full, logged-at, logged-put, listed-put, log-len, logs-grow, pair-set}
 
--- The place that step 1 writes.
-pub append-place : (row : Cluster) (b value k : ℕ) → (isReplica b ≡ true → k ≡ b)
-    → accepted (outlineOf row) (append b value) ≡ true
-    → place k (getD (row .len) (k - 1) 0) ≡ place b (at 0 (row .len) b)
-append-place row b value k hk t =
+-- The place and the term that step 1 writes.
+pub append-places : (row : Cluster) (p : Places) (b value k : ℕ) → (isReplica b ≡ true → k ≡ b) → {v : View}
+    → v ≡ getD (row .views) (k - 1) noView → accepted (outlineOf row) (append b value) ≡ true
+    → putLog p (place k (getD (row .len) (k - 1) 0)) (entry value (v .term)) ≡ placesAfter (append b value) row p
+append-places row p b value k hk ev t =
     let h = facts (checks (outlineOf row) (append b value)) (of-true t) in
-    rw (at-seat 0 (row .len) b k hk (h 1), hk (is-true (isReplica b) (h 1)))
+    rw (ev, at-seat noView (row .views) b k hk (h 1), at-seat 0 (row .len) b k hk (h 1), hk (is-true (isReplica b) (h 1)))
 
 -- The entry that step 2 writes.
-pub commit-entry : (row : Cluster) (b k : ℕ) → (isReplica b ≡ true → k ≡ b) → (store : List ℕ)
-    → accepted (outlineOf row) (commit b) ≡ true → getD store (place k (row .issued)) 0
-    ≡ getD store (place b (row .issued)) 0
-commit-entry row b k hk store t =
+pub commit-places : (row : Cluster) (p : Places) (b k : ℕ) → (isReplica b ≡ true → k ≡ b)
+    → accepted (outlineOf row) (commit b) ≡ true
+    → putList p (row .issued) (storeAt p (place k (row .issued))) ≡ placesAfter (commit b) row p
+commit-places row p b k hk t =
     let h = facts (checks (outlineOf row) (commit b)) (of-true t) in
-    ap (λ x. getD store (place x (row .issued)) 0) (hk (is-true (isReplica b) (h 1)))
+    ap (λ x. putList p (row .issued) (storeAt p (place x (row .issued)))) (hk (is-true (isReplica b) (h 1)))
 
 module _ (row : Cluster) (short : Short (row .len)) (p : Places) (full : Full p) where
-  open Places p using (store, list)
+  abbrev store : List Entry
+  store = logged p
+
+  whole : length store ≡ 4096
+  whole = logged-full p full
 
   -- Step 1.
-  pub append-after : (b value k : ℕ) → (isReplica b ≡ true → k ≡ b) → length (row .acked) ≡ 64 → (store′ : List ℕ)
-      → store′ ≡ set store (place k (getD (row .len) (k - 1) 0)) value
+  pub append-after : (b value k : ℕ) → (isReplica b ≡ true → k ≡ b) → length (row .acked) ≡ 64 → (p′ : Places)
+      → p′ ≡ placesAfter (append b value) row p
       → accepted (outlineOf row) (append b value) ≡ true
       → abs (record {
         registry = row .registry;
@@ -52,22 +57,26 @@ module _ (row : Cluster) (short : Short (row .len)) (p : Places) (full : Full p)
         acked = set (row .acked) (9 * (k - 1)) (getD (row .len) (k - 1) 0 + 1);
         len = set (row .len) (k - 1) (getD (row .len) (k - 1) 0 + 1);
         issued = row .issued;
-      }) (lent store′ list)
+      }) p′
       ≡ next entries (abs row p) (append b value)
-  append-after b value k hk e store′ es t =
+  append-after b value k hk e p′ ep t =
       let h = facts (checks (outlineOf row) (append b value)) (of-true t) in
       let r = replica-range b (h 1) in
       let n = at 0 (row .len) b in
+      let x = entry value (at noView (row .views) b .term) in
       let q : k ≡ b = hk (is-true (isReplica b) (h 1)) in
       let ni : getD (row .len) (b - 1) 0 ≡ n = sym (at-index 0 (row .len) b (r .0)) in
-      let ln : n + 1 ≡ suc (length (logOf store b n)) = omega (arith, log-len store (full .store) (row .len) short b) in
+      let ln : n + 1 ≡ suc (length (logOf store b n)) = omega (arith, log-len store whole (row .len) short b) in
       let nine : 9 * (b - 1) ≡ 8 * (b - 1) + (b - 1) = omega arith in
       let ack : atPair (set (row .acked) (9 * (k - 1)) (getD (row .len) (k - 1) 0 + 1))
       ≡ upd (atPair (row .acked)) b (upd (atPair (row .acked) b) b (suc (length (logOf store b n)))) =
       rw (q, ni, nine, ln) (pair-set (row .acked) b b _ (h 1) (h 1) e) in
-      let logs : (λ x. logOf store′ x (at 0 (set (row .len) (k - 1) (getD (row .len) (k - 1) 0 + 1)) x))
-      ≡ upd (λ x. logOf store x (at 0 (row .len) x)) b (logOf store b n ++ (value ∷ [])) =
-      rw (es, q, ni) (logs-grow (row .len) short store (full .store) b value (r .0) (r .1) (ltb→lt n 512 (h 13))) in
+      let logs : (λ y. logOf (logged p′) y (at 0 (set (row .len) (k - 1) (getD (row .len) (k - 1) 0 + 1)) y))
+      ≡ upd (λ y. logOf store y (at 0 (row .len) y)) b (logOf store b n ++ (x ∷ [])) =
+      rw (ap logged ep ∙ logged-put p (place b n) x, q, ni)
+      (logs-grow (row .len) short store whole b x (r .0) (r .1) (ltb→lt n 512 (h 13))) in
+      let given : take (row .issued) (listed p′) ≡ take (row .issued) (listed p) =
+      ap (λ z. take (row .issued) (listed z)) ep in
       λ j. record {
         registry = abs row p .registry;
         controller = abs row p .controller;
@@ -75,12 +84,11 @@ module _ (row : Cluster) (short : Short (row .len)) (p : Places) (full : Full p)
         joined = abs row p .joined;
         acked = ack j;
         log = logs j;
-        committed = abs row p .committed;
+        committed = given j;
       }
 
   -- Step 2.
-  pub commit-after : (b : ℕ) (list′ : List ℕ) → list′ ≡ set list (row .issued) (getD store (place b (row .issued)) 0)
-      → row .issued < 512
+  pub commit-after : (b : ℕ) (p′ : Places) → p′ ≡ placesAfter (commit b) row p → row .issued < 512
       → accepted (outlineOf row) (commit b) ≡ true
       → abs (record {
         registry = row .registry;
@@ -90,26 +98,31 @@ module _ (row : Cluster) (short : Short (row .len)) (p : Places) (full : Full p)
         acked = row .acked;
         len = row .len;
         issued = row .issued + 1;
-      }) (lent store list′)
+      }) p′
       ≡ next entries (abs row p) (commit b)
-  commit-after b list′ el room t =
+  commit-after b p′ ep room t =
       let h = facts (checks (outlineOf row) (commit b)) (of-true t) in
-      let e : getD store (place b (row .issued)) 0 ≡ getD (logOf store b (at 0 (row .len) b)) (row .issued) 0 =
-      sym (log-entry store b (at 0 (row .len) b) (row .issued) (ltb→lt (row .issued) (at 0 (row .len) b) (h 12))) in
-      let c : length (take (row .issued) list) ≡ row .issued =
-      length-take-le (row .issued) list (omega (arith, full .list)) in
-      let q : take (row .issued + 1) list′ ≡ take (row .issued) list
-      ++ (getD (logOf store b (at 0 (row .len) b)) (length (take (row .issued) list)) 0 ∷ []) =
-      ap (take (row .issued + 1)) el ∙ list-gains list (row .issued) _ (omega (arith, full .list))
-      ∙ ap (λ x. take (row .issued) list ++ (x ∷ []))
-      (e ∙ ap (λ n. getD (logOf store b (at 0 (row .len) b)) n 0) (sym c)) in
+      let n = row .issued in
+      let m = at 0 (row .len) b in
+      let e : storeAt p (place b n) ≡ getD (logOf store b m) n (entry 0 0) =
+      sym (logged-at p full (place b n))
+      ∙ sym (log-entry (entry 0 0) store b m n (ltb→lt n m (h 12))) in
+      let c : length (take n (listed p)) ≡ n = length-take-le n (listed p) (omega (arith, listed-full p full)) in
+      let q : take (n + 1) (listed p′) ≡ take n (listed p)
+      ++ (getD (logOf store b m) (length (take n (listed p))) (entry 0 0) ∷ []) =
+      ap (λ z. take (n + 1) (listed z)) ep ∙ ap (take (n + 1)) (listed-put p n (storeAt p (place b n)))
+      ∙ list-gains (listed p) n _ (omega (arith, listed-full p full))
+      ∙ ap (λ x. take n (listed p) ++ (x ∷ []))
+      (e ∙ ap (λ i. getD (logOf store b m) i (entry 0 0)) (sym c)) in
+      let logs : (λ y. logOf (logged p′) y (at 0 (row .len) y)) ≡ abs row p .log =
+      ap (λ (z : Places). λ (y : ℕ). logOf (logged z) y (at 0 (row .len) y)) ep in
       λ j. record {
         registry = abs row p .registry;
         controller = abs row p .controller;
         view = abs row p .view;
         joined = abs row p .joined;
         acked = abs row p .acked;
-        log = abs row p .log;
+        log = logs j;
         committed = q j;
       }
 
@@ -132,7 +145,7 @@ module _ (row : Cluster) (short : Short (row .len)) (p : Places) (full : Full p)
       let z = split-and (isReplica a && isReplica b) (not (eqb a b)) (h 1) in
       let w = split-and (isReplica a) (isReplica b) (z .0) in
       let l : getD (row .len) (b - 1) 0 ≡ length (logOf store b (at 0 (row .len) b)) =
-      sym (log-len store (full .store) (row .len) short b ∙ at-index 0 (row .len) b (replica-range b (w .1) .0)) in
+      sym (log-len store whole (row .len) short b ∙ at-index 0 (row .len) b (replica-range b (w .1) .0)) in
       let q : atPair (set (row .acked) j n)
       ≡ upd (atPair (row .acked)) a (upd (atPair (row .acked) a) b (length (logOf store b (at 0 (row .len) b)))) =
       rw (ep, en, ha (is-true (isReplica a) (w .0)), hb (is-true (isReplica b) (w .1)), l)

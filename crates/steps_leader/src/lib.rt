@@ -1,5 +1,5 @@
 // The steps of a leader: append (1), commit (2), acknowledge (9), over the parts of a row that they use: the replicas'
-// views by value; their joined epochs, counts and lengths, the store and the list lent. Each promise is for every row
+// views by value; their joined epochs, counts and lengths, the store and the list lent, each with its terms in a second one. Each promise is for every row
 // with these parts, at most 512 receipts and lent places of their lengths. Inner layer: callers see to it that the lent
 // places have their lengths and that no log is longer than 512.
 
@@ -46,16 +46,21 @@ pub fn append(
     acked: &mut [u16],
     len: &mut [u16],
     store: &mut [u32],
+    store2: &mut [u16],
     b: u8,
     value: u32,
 ) -> u8
-    requires { ⌜ (length (now acked) ≡ 64) × Short (now len) × (length (now store) ≡ 4096) ⌝ }
+    requires { ⌜
+        (length (now acked) ≡ 64) × Short (now len) × (length (now store) ≡ 4096) × (length (now store2) ≡ 4096)
+        ⌝ }
     ensures { λ x. ⌜ (
-        (g : Registry) (c : Controller) (joined : List ℕ) (issued : ℕ) (list : List ℕ) → issued ≤ 512
-        → Full (lent (now (store .entry)) list)
+        (g : Registry) (c : Controller) (joined : List ℕ) (issued : ℕ) (list list2 : List ℕ) → issued ≤ 512
+        → Full (lent (now (store .entry)) (now (store2 .entry)) list list2)
         → Leaves (S.Step.append b value)
-        (rowOf g c views joined (now (acked .entry)) (now (len .entry)) issued) (lent (now (store .entry)) list)
-        x (rowOf g c views joined (now (acked .exit)) (now (len .exit)) issued) (lent (now (store .exit)) list)
+        (rowOf g c views joined (now (acked .entry)) (now (len .entry)) issued)
+        (lent (now (store .entry)) (now (store2 .entry)) list list2)
+        x (rowOf g c views joined (now (acked .exit)) (now (len .exit)) issued)
+        (lent (now (store .exit)) (now (store2 .exit)) list list2)
         ) ⌝ }
 {
     let k = seat(b);
@@ -66,7 +71,7 @@ pub fn append(
     if r != 0 {
         return r;
     }
-    logstore::append_entry(&mut *store, k, n, value);
+    logstore::append_entry(&mut *store, &mut *store2, k, n, value, v.term);
     let m = n + 1;
     len[i] = m;
     acked[9 * i] = m; // b's count of itself.
@@ -113,17 +118,22 @@ pub fn commit(
     acked: &[u16],
     len: &[u16],
     store: &[u32],
+    store2: &[u16],
     list: &mut [u32],
+    list2: &mut [u16],
     b: u8,
 ) -> Given
-    requires { ⌜ (issued ≤ 512) × (length (now acked) ≡ 64) × Short (now len) × Full (lent (now store) (now list)) ⌝ }
+    requires { ⌜
+        (issued ≤ 512) × (length (now acked) ≡ 64) × Short (now len)
+        × Full (lent (now store) (now store2) (now list) (now list2))
+        ⌝ }
     ensures { λ x. ⌜ (
         (g : Registry) (c : Controller) (joined : List ℕ)
         → Leaves (S.Step.commit b)
         (rowOf g c views joined (now (acked .entry)) (now (len .entry)) issued)
-        (lent (now (store .entry)) (now (list .entry)))
+        (lent (now (store .entry)) (now (store2 .entry)) (now (list .entry)) (now (list2 .entry)))
         (x .answer) (rowOf g c views joined (now (acked .entry)) (now (len .entry)) (x .issued))
-        (lent (now (store .entry)) (now (list .exit)))
+        (lent (now (store .entry)) (now (store2 .entry)) (now (list .exit)) (now (list2 .exit)))
         ) ⌝ }
 {
     let k = seat(b);
@@ -137,8 +147,9 @@ pub fn commit(
             issued: issued,
         };
     }
-    let e = logstore::entry(store, k, issued);
-    logstore::commit(&mut *list, issued, e);
+    let e = logstore::value(store, k, issued);
+    let t = logstore::term(store2, k, issued);
+    logstore::commit(&mut *list, &mut *list2, issued, e, t);
     Given {
         answer: 0,
         issued: issued + 1,

@@ -1,5 +1,6 @@
-// The trials of document 01 on the calls: after each trial's name, the answers in order. P1 is about majorities, which
-// no step answers: `model` proves it.
+// The trials of document 01 on the calls, and one of document 02, Paper 4: after each trial's name, the answers in order.
+// P1 is about majorities, which no step answers: `model` proves it. The lent places hold what no entry may: only those
+// inside a length are looked at.
 use cluster::Cluster;
 use records::Record;
 
@@ -21,12 +22,21 @@ fn wide(x: u8) -> u32 {
 }
 
 // One record: its step, board, second board and value. The row goes on, and the answer is shown.
-fn tell(row: Cluster, store: &mut [u32], list: &mut [u32], r: [u8; 4]) -> Cluster {
+fn tell(
+    row: Cluster,
+    store: &mut [u32],
+    store2: &mut [u16],
+    list: &mut [u32],
+    list2: &mut [u16],
+    r: [u8; 4],
+) -> Cluster {
     let v = r[3];
     let x = steps::step(
         row,
         &mut *store,
+        &mut *store2,
         &mut *list,
+        &mut *list2,
         Record {
             step: r[0],
             board: r[1],
@@ -40,24 +50,49 @@ fn tell(row: Cluster, store: &mut [u32], list: &mut [u32], r: [u8; 4]) -> Cluste
 }
 
 // Records in short, four bytes each: step, board, second board, value.
-fn play(row: Cluster, store: &mut [u32], list: &mut [u32], sheet: &[u8]) -> Cluster {
+fn play(
+    row: Cluster,
+    store: &mut [u32],
+    store2: &mut [u16],
+    list: &mut [u32],
+    list2: &mut [u16],
+    sheet: &[u8],
+) -> Cluster {
     let mut now = row;
     let mut i: usize = 0;
     while i < sheet.len() / 4 {
         let k = 4 * i;
         i += 1;
         let r = [sheet[k], sheet[k + 1], sheet[k + 2], sheet[k + 3]];
-        let next = tell(now, &mut *store, &mut *list, r);
+        let next = tell(now, &mut *store, &mut *store2, &mut *list, &mut *list2, r);
         now = next;
     }
     now
 }
 
-// Two records in turn, so many times, with no answer shown.
+// One record after the other, with no answer shown.
+fn both(
+    row: Cluster,
+    store: &mut [u32],
+    store2: &mut [u16],
+    list: &mut [u32],
+    list2: &mut [u16],
+    a: Record,
+    b: Record,
+) -> Cluster {
+    let x = steps::step(row, &mut *store, &mut *store2, &mut *list, &mut *list2, a);
+    let mid = x.row;
+    let y = steps::step(mid, &mut *store, &mut *store2, &mut *list, &mut *list2, b);
+    y.row
+}
+
+// Two records in turn, so many times.
 fn turns(
     row: Cluster,
     store: &mut [u32],
+    store2: &mut [u16],
     list: &mut [u32],
+    list2: &mut [u16],
     a: Record,
     b: Record,
     times: u32,
@@ -66,10 +101,15 @@ fn turns(
     let mut i: u32 = 0;
     while i < times {
         i += 1;
-        let x = steps::step(now, &mut *store, &mut *list, a);
-        let mid = x.row;
-        let y = steps::step(mid, &mut *store, &mut *list, b);
-        let next = y.row;
+        let next = both(
+            now,
+            &mut *store,
+            &mut *store2,
+            &mut *list,
+            &mut *list2,
+            a,
+            b,
+        );
         now = next;
     }
     now
@@ -111,9 +151,18 @@ fn answer(b: u8) {
 // A trial by itself: its name, and its records after an opening with board 1.
 fn trial(name: &[u8], sheet: &[u8]) {
     let mut store = [7u32; 4096];
+    let mut store2 = [65535u16; 4096];
     let mut list = [7u32; 512];
+    let mut list2 = [65535u16; 512];
     io::write_all(1, name);
-    play(opened(1), &mut store, &mut list, sheet);
+    play(
+        opened(1),
+        &mut store,
+        &mut store2,
+        &mut list,
+        &mut list2,
+        sheet,
+    );
 }
 
 fn main() {
@@ -133,12 +182,15 @@ fn main() {
     full();
     worn();
     four();
+    sales();
 }
 
 // The trials that go on from each other.
 fn longer() {
     let mut store = [7u32; 4096];
+    let mut store2 = [65535u16; 4096];
     let mut list = [7u32; 512];
+    let mut list2 = [65535u16; 512];
     io::write_all(1, b"\nP7 ");
     let p7 = [
         3u8,
@@ -170,14 +222,21 @@ fn longer() {
         0,
         0,
     ];
-    let a = play(opened(1), &mut store, &mut list, &p7);
+    let a = play(
+        opened(1),
+        &mut store,
+        &mut store2,
+        &mut list,
+        &mut list2,
+        &p7,
+    );
     io::write_all(1, b"\nP8 ");
     let p8 = [13u8, 0, 0, 0, 12, 2, 0, 0, 13, 0, 0, 0];
-    let b = play(a, &mut store, &mut list, &p8);
+    let b = play(a, &mut store, &mut store2, &mut list, &mut list2, &p8);
     epoch(b);
     io::write_all(1, b"\nP9 ");
     let p9 = [5u8, 0, 0, 0];
-    let c = play(b, &mut store, &mut list, &p9);
+    let c = play(b, &mut store, &mut store2, &mut list, &mut list2, &p9);
     leader(c);
     epoch(c);
 }
@@ -185,7 +244,9 @@ fn longer() {
 // A log that gets full.
 fn full() {
     let mut store = [7u32; 4096];
+    let mut store2 = [65535u16; 4096];
     let mut list = [7u32; 512];
+    let mut list2 = [65535u16; 512];
     io::write_all(1, b"\nfull ");
     let append = Record {
         step: 1,
@@ -194,15 +255,26 @@ fn full() {
         spare: 0,
         value: 5,
     };
-    let a = turns(opened(1), &mut store, &mut list, append, append, 255);
+    let a = turns(
+        opened(1),
+        &mut store,
+        &mut store2,
+        &mut list,
+        &mut list2,
+        append,
+        append,
+        255,
+    );
     let last = [1u8, 1, 0, 9, 1, 1, 0, 9, 1, 1, 0, 9];
-    play(a, &mut store, &mut list, &last);
+    play(a, &mut store, &mut store2, &mut list, &mut list2, &last);
 }
 
 // Epochs that are used up.
 fn worn() {
     let mut store = [7u32; 4096];
+    let mut store2 = [65535u16; 4096];
     let mut list = [7u32; 512];
+    let mut list2 = [65535u16; 512];
     io::write_all(1, b"\nworn ");
     let add = Record {
         step: 3,
@@ -218,16 +290,27 @@ fn worn() {
         spare: 0,
         value: 0,
     };
-    let b = turns(opened(1), &mut store, &mut list, add, remove, 1999);
+    let b = turns(
+        opened(1),
+        &mut store,
+        &mut store2,
+        &mut list,
+        &mut list2,
+        add,
+        remove,
+        1999,
+    );
     let end = [3u8, 2, 0, 0, 4, 2, 0, 0];
-    play(b, &mut store, &mut list, &end);
+    play(b, &mut store, &mut store2, &mut list, &mut list2, &end);
 }
 
-// The last case: four boards.
-fn four() {
-    let mut store = [7u32; 4096];
-    let mut list = [7u32; 512];
-    io::write_all(1, b"\nfour ");
+// Members 1 to 4, leader 1, normal, news taken, logs empty.
+fn four_ready(
+    store: &mut [u32],
+    store2: &mut [u16],
+    list: &mut [u32],
+    list2: &mut [u16],
+) -> Cluster {
     let ready = [
         3u8,
         2,
@@ -282,7 +365,24 @@ fn four() {
         0,
         0,
     ];
-    let a = play(opened(1), &mut store, &mut list, &ready);
+    play(
+        opened(1),
+        &mut *store,
+        &mut *store2,
+        &mut *list,
+        &mut *list2,
+        &ready,
+    )
+}
+
+// The last case: four boards.
+fn four() {
+    let mut store = [7u32; 4096];
+    let mut store2 = [65535u16; 4096];
+    let mut list = [7u32; 512];
+    let mut list2 = [65535u16; 512];
+    io::write_all(1, b"\nfour ");
+    let a = four_ready(&mut store, &mut store2, &mut list, &mut list2);
     let rest = [
         1u8,
         1,
@@ -341,7 +441,90 @@ fn four() {
         0,
         0,
     ];
-    let b = play(a, &mut store, &mut list, &rest);
+    let b = play(a, &mut store, &mut store2, &mut list, &mut list2, &rest);
     length(b);
+}
+
+// Shows the first entry of the shown list, value and term, both below 256 here.
+fn first<'a>(row: Cluster, store: &'a [u32], store2: &'a [u16], list: &'a [u32], list2: &'a [u16]) {
+    io::write_all(1, b"shown ");
+    let v = steps::visible(row, store, store2, list, list2);
+    if v.len() != 0 {
+        show((v[0] % 256) as u8);
+    }
+    let t = steps::visible_terms(row, store, store2, list, list2);
+    if t.len() != 0 {
+        show((t[0] % 256) as u8);
+    }
+}
+
+// Document 02, Paper 4: as the last case, but 2 appends 41 too. Board 4's 41 is another sale: it joins and its log is
+// empty. Then it receives the sale of 2, is counted, and a receipt is given.
+fn sales() {
+    let mut store = [7u32; 4096];
+    let mut store2 = [65535u16; 4096];
+    let mut list = [7u32; 512];
+    let mut list2 = [65535u16; 512];
+    io::write_all(1, b"\nsales ");
+    let a = four_ready(&mut store, &mut store2, &mut list, &mut list2);
+    let rest = [
+        1u8,
+        1,
+        0,
+        41,
+        8,
+        4,
+        0,
+        0,
+        5,
+        0,
+        0,
+        0,
+        6,
+        2,
+        0,
+        0,
+        6,
+        3,
+        0,
+        0,
+        10,
+        0,
+        0,
+        0,
+        14,
+        2,
+        0,
+        0,
+        14,
+        3,
+        0,
+        0,
+        15,
+        2,
+        0,
+        0,
+        6,
+        2,
+        0,
+        0,
+        1,
+        2,
+        0,
+        41,
+        6,
+        4,
+        0,
+        0,
+        7,
+        4,
+        0,
+        0,
+    ];
+    let b = play(a, &mut store, &mut store2, &mut list, &mut list2, &rest);
+    length(b);
+    let end = [8u8, 4, 0, 0, 9, 2, 4, 0, 2, 2, 0, 0];
+    let c = play(b, &mut store, &mut store2, &mut list, &mut list2, &end);
+    first(c, &store, &store2, &list, &list2);
     io::write_all(1, b"\n");
 }

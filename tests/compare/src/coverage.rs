@@ -2,6 +2,7 @@
 //! often they were met.
 
 use peer::row::{Row, EPOCH_MAX, LOG_MAX};
+use peer::tally::{tally, Tally};
 use std::fmt;
 
 /// Steps 0 to 15, and every step byte above as one.
@@ -68,7 +69,7 @@ impl Seen<'_> {
 type Event = (&'static str, fn(&Seen) -> bool);
 
 /// What the sheets should bring about besides the pairs.
-const EVENTS: [Event; 16] = [
+const EVENTS: [Event; 17] = [
     ("change of leader that leaves one member", |s| {
         s.gives(5, 0) && s.after.registry.leader != 0
     }),
@@ -102,6 +103,9 @@ const EVENTS: [Event; 16] = [
     ("epoch 4,000", |s| {
         s.before.registry.epoch < EPOCH_MAX && s.after.registry.epoch == EPOCH_MAX
     }),
+    ("receipt of an entry of epoch 4,000", |s| {
+        s.gives(2, 0) && s.after.receipts.epochs().last() == Some(&EPOCH_MAX)
+    }),
     ("join refused 9 for want of a leader", |s| {
         s.gives(7, 9) && s.after.board(s.b).view.leader == 0
     }),
@@ -117,6 +121,25 @@ const EVENTS: [Event; 16] = [
     }),
     ("install over a longer log heard", |s| {
         s.gives(15, 0) && s.longer_heard()
+    }),
+];
+
+type Tallied = (&'static str, fn(&Tally) -> usize);
+
+/// Where the sheets should show that an entry has an epoch, and whose (document 02,
+/// Paper 4), as the second program tallies it.
+const TALLIED: [Tallied; 4] = [
+    ("join that cuts an equal value of another epoch", |t| {
+        t.joins_cut_by_epoch
+    }),
+    ("append under a leader epoch below the registry's", |t| {
+        t.appends_under_replaced
+    }),
+    ("receive of an entry of an earlier leader epoch", |t| {
+        t.receives_of_older
+    }),
+    ("receipt of an entry of an earlier leader epoch", |t| {
+        t.receipts_of_older
     }),
 ];
 
@@ -167,6 +190,7 @@ const LINES: [(&str, fn(&Line) -> bool); 5] = [
 pub struct Coverage {
     met: [[u64; ANSWERS]; STEPS],
     events: [u64; EVENTS.len()],
+    tallied: [u64; TALLIED.len()],
     lines: [u64; LINES.len()],
 }
 
@@ -201,6 +225,11 @@ impl Coverage {
                 *number += u64::from(came_about(&seen));
             }
         }
+        if let Ok(tally) = tally(sheet) {
+            for (number, (_, how_often)) in self.tallied.iter_mut().zip(TALLIED) {
+                *number += how_often(&tally) as u64;
+            }
+        }
         for b in 1..=8 {
             let row = &row;
             for (number, (_, stands)) in self.lines.iter_mut().zip(LINES) {
@@ -212,7 +241,9 @@ impl Coverage {
     /// What is counted besides the pairs, with its number.
     fn counts(&self) -> impl Iterator<Item = (&'static str, u64)> {
         let events = EVENTS.map(|(name, _)| name).into_iter().zip(self.events);
-        events.chain(LINES.map(|(name, _)| name).into_iter().zip(self.lines))
+        let tallied = TALLIED.map(|(name, _)| name).into_iter().zip(self.tallied);
+        let lines = LINES.map(|(name, _)| name).into_iter().zip(self.lines);
+        events.chain(tallied).chain(lines)
     }
 
     /// What can be met and was not, and what cannot and was.

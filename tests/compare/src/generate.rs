@@ -43,6 +43,9 @@ pub enum Kind {
     /// Mostly accepted steps: changes of leader, replaced leaders that go on
     /// writing, joins that cut, boards added again.
     Guided,
+    /// Guided, with few values and more changes of leader: two leaders append the
+    /// same value at the same place, and a join must tell the two entries apart.
+    Sales,
     /// Guided, with logs near 512.
     Logs,
     /// Guided, with epochs near 4,000.
@@ -63,6 +66,10 @@ pub fn record(step: u8, a: u8, b: u8, value: u32) -> [u8; 8] {
 /// A random sheet and its kind.
 pub fn random(mut rng: Rng) -> (Kind, Vec<u8>) {
     let some = |rng: &mut Rng| 1 + rng.below(800);
+    let some_or_most = |rng: &mut Rng| match rng.one_in(10) {
+        true => RECORDS_MAX,
+        false => some(rng),
+    };
     match rng.below(100) {
         0..=19 => {
             let records = some(&mut rng);
@@ -70,23 +77,27 @@ pub fn random(mut rng: Rng) -> (Kind, Vec<u8>) {
         }
         20..=39 => {
             let records = some(&mut rng);
-            (Kind::Malformed, Guide::new(rng, records).finish(Some(6)))
+            let guide = Guide::new(rng, records).maybe_few_values();
+            (Kind::Malformed, guide.finish(Some(6)))
         }
-        40..=74 => {
-            let longest = rng.one_in(10);
-            let records = if longest { RECORDS_MAX } else { some(&mut rng) };
+        40..=59 => {
+            let records = some_or_most(&mut rng);
             (Kind::Guided, guided(rng, records))
+        }
+        60..=74 => {
+            let records = some_or_most(&mut rng);
+            let guide = Guide::new(rng, records).few_values().more_changes();
+            (Kind::Sales, guide.finish(None))
         }
         75..=82 => {
             let records = 1000 + rng.below(RECORDS_MAX - 999);
-            (Kind::Logs, Guide::new(rng, records).fill_log().finish(None))
+            let guide = Guide::new(rng, records).maybe_few_values();
+            (Kind::Logs, guide.fill_log().finish(None))
         }
         83..=94 => {
             let records = RECORDS_MAX - rng.below(20);
-            (
-                Kind::Epochs,
-                Guide::new(rng, records).use_epochs().finish(None),
-            )
+            let guide = Guide::new(rng, records).maybe_few_values();
+            (Kind::Epochs, guide.use_epochs().finish(None))
         }
         _ => {
             let records = some(&mut rng);
@@ -143,7 +154,7 @@ pub fn edges() -> Vec<Vec<u8>> {
     for step in 0..=255 {
         for place in 1..8 {
             for byte in [0, 1, 2, 8, 9, 128, 255] {
-                let mut r = well_formed(&mut Rng::new(step.into()), step, 8);
+                let mut r = well_formed(&mut Rng::new(step.into()), step, 8, &[]);
                 r[place] = byte;
                 fields.push(r);
             }
@@ -153,24 +164,40 @@ pub fn edges() -> Vec<Vec<u8>> {
         sheets.push([&[opening], part].concat().concat());
     }
     // One append and one receipt too many; eight members.
-    let full = |step, value| iter::repeat_n(record(step, 1, 0, value), LOG_MAX + 1);
+    let full = |step, b, value| iter::repeat_n(record(step, b, 0, value), LOG_MAX + 1);
     let members = (2..=8).map(|b| record(3, b, 0, 0));
-    let steps = full(1, u32::MAX).chain(full(2, 0)).chain(members);
+    let steps = full(1, 1, u32::MAX).chain(full(2, 1, 0)).chain(members);
     sheets.push(iter::once(opening).chain(steps).flatten().collect());
     // Adding and removing in turn until no epoch is left.
     let turns = [record(3, 2, 0, 0), record(4, 2, 0, 0)];
-    let steps = turns.into_iter().cycle().take(EPOCH_MAX.into());
+    let turns = |number| turns.into_iter().cycle().take(number);
     let late = [record(3, 3, 0, 0)];
-    let sheet = iter::once(opening).chain(steps).chain(late);
-    sheets.push(sheet.flatten().collect());
+    let steps = turns(EPOCH_MAX.into()).chain(late);
+    sheets.push(iter::once(opening).chain(steps).flatten().collect());
+    // The longest receipts: board 2 becomes leader, as in trials P7 to P9 but under leader
+    // epoch 1,002, and appends values of ten digits.
+    let change = [
+        (3, 2),
+        (6, 1),
+        (10, 0),
+        (11, 0),
+        (12, 2),
+        (13, 0),
+        (5, 0),
+        (6, 2),
+    ];
+    let change = change.map(|(step, b)| record(step, b, 0, 0));
+    let steps = turns(998).chain(change);
+    let steps = steps.chain(full(1, 2, u32::MAX)).chain(full(2, 2, 0));
+    sheets.push(iter::once(opening).chain(steps).flatten().collect());
     sheets
 }
 
-/// A well-formed record of this step on boards 1 to `most`.
-fn well_formed(rng: &mut Rng, step: u8, most: usize) -> [u8; 8] {
+/// A well-formed record of this step on boards 1 to `most`, with a value as below.
+fn well_formed(rng: &mut Rng, step: u8, most: usize, few: &[u32]) -> [u8; 8] {
     let b = rng.below(most) as u8 + 1;
     match step {
-        1 => record(1, b, 0, value(rng)),
+        1 => record(1, b, 0, value(rng, few)),
         5 | 10 | 11 | 13 => record(step, 0, 0, 0),
         9 => {
             // any board but b
@@ -181,8 +208,12 @@ fn well_formed(rng: &mut Rng, step: u8, most: usize) -> [u8; 8] {
     }
 }
 
-/// A value: often one of few, so that different logs share entries.
-fn value(rng: &mut Rng) -> u32 {
+/// A value, one of these few if there are some: often one that other logs have too, so
+/// that entries differ in their epochs alone.
+fn value(rng: &mut Rng, few: &[u32]) -> u32 {
+    if !few.is_empty() {
+        return rng.one_of(few);
+    }
     let any = rng.draw() as u32;
     rng.one_of(&[0, u32::MAX, 41, 42, any, any, any, any])
 }
@@ -194,10 +225,10 @@ fn any_step(rng: &mut Rng) -> u8 {
 fn uniform(rng: &mut Rng, records: usize) -> Vec<u8> {
     // With fewer boards more steps meet.
     let most = rng.one_of(&[2, 3, 4, 8]);
-    let mut sheet = well_formed(rng, 0, most).to_vec();
+    let mut sheet = well_formed(rng, 0, most, &[]).to_vec();
     for _ in 1..records {
         let step = any_step(rng);
-        sheet.extend(well_formed(rng, step, most));
+        sheet.extend(well_formed(rng, step, most, &[]));
     }
     sheet
 }
@@ -220,7 +251,7 @@ fn broken(rng: &mut Rng, records: usize) -> Vec<u8> {
 /// that is still well formed.
 fn spoiled(rng: &mut Rng) -> [u8; 8] {
     let step = any_step(rng);
-    let mut r = well_formed(rng, step, 8);
+    let mut r = well_formed(rng, step, 8, &[]);
     let any = rng.draw() as u8;
     match rng.below(7) {
         0 => r[0] = 0,
@@ -242,6 +273,8 @@ struct Guide {
     records: usize,
     /// Boards 1 to `most` are used.
     most: usize,
+    /// The values that are appended; any, where there are none.
+    few: Vec<u32>,
     /// How often each step is tried.
     weights: [usize; 16],
 }
@@ -249,7 +282,7 @@ struct Guide {
 impl Guide {
     fn new(mut rng: Rng, records: usize) -> Guide {
         let most = rng.one_of(&[2, 3, 3, 4, 4, 5, 6, 8]);
-        let opening = well_formed(&mut rng, 0, most);
+        let opening = well_formed(&mut rng, 0, most, &[]);
         // Some steps are rarer or commoner in this sheet.
         let mut weights = [0, 12, 12, 6, 3, 6, 24, 24, 40, 30, 16, 16, 20, 16, 20, 16];
         for weight in &mut weights {
@@ -261,6 +294,7 @@ impl Guide {
             sheet: opening.to_vec(),
             records,
             most,
+            few: Vec::new(),
             weights,
         }
     }
@@ -282,6 +316,14 @@ impl Guide {
     fn keep(&mut self, r: [u8; 8]) {
         self.row.step(&r);
         self.sheet.extend(r);
+    }
+
+    fn well_formed(&mut self, step: u8) -> [u8; 8] {
+        well_formed(&mut self.rng, step, self.most, &self.few)
+    }
+
+    fn append(&mut self, b: u8) -> [u8; 8] {
+        record(1, b, 0, value(&mut self.rng, &self.few))
     }
 
     /// A board that holds itself leader, the registry's or a replaced one.
@@ -325,7 +367,7 @@ impl Guide {
 
     fn propose(&mut self) -> [u8; 8] {
         let step = self.step();
-        let mut r = well_formed(&mut self.rng, step, self.most);
+        let mut r = self.well_formed(step);
         let b = r[1];
         match step {
             1 | 2 if !self.rng.one_in(8) => r[1] = self.some_leader(),
@@ -340,7 +382,7 @@ impl Guide {
                 && self.row.registry.leader != b
                 && !self.rng.one_in(8) =>
             {
-                r = record(1, b, 0, value(&mut self.rng));
+                r = self.append(b);
             }
             _ => {}
         }
@@ -359,7 +401,7 @@ impl Guide {
             let r = match self.rng.below(16) {
                 0 => {
                     let step = any_step(&mut self.rng);
-                    well_formed(&mut self.rng, step, self.most)
+                    self.well_formed(step)
                 }
                 1 => self.propose(),
                 _ => {
@@ -378,6 +420,30 @@ impl Guide {
         self.sheet
     }
 
+    /// One to three values, so that two leaders often append the same one.
+    fn few_values(mut self) -> Guide {
+        let number = 1 + self.rng.below(3);
+        let values = iter::repeat_with(|| value(&mut self.rng, &[]));
+        self.few = values.take(number).collect();
+        self
+    }
+
+    /// Few values in every other sheet.
+    fn maybe_few_values(mut self) -> Guide {
+        match self.rng.one_in(2) {
+            true => self.few_values(),
+            false => self,
+        }
+    }
+
+    /// With fewer appends the boards soon have all, normal is set, and the leader can
+    /// be changed again.
+    fn more_changes(mut self) -> Guide {
+        self.weights[1] = self.weights[1].div_ceil(4);
+        self.weights[5] *= 4;
+        self
+    }
+
     /// Some boards are added, then the leader's log nears 512.
     fn fill_log(mut self) -> Guide {
         for _ in 0..self.rng.below(120) {
@@ -387,7 +453,7 @@ impl Guide {
         let b = self.row.registry.leader;
         let near = LOG_MAX - self.rng.below(16);
         while b != 0 && self.row.board(b).log.len() < near {
-            let r = record(1, b, 0, value(&mut self.rng));
+            let r = self.append(b);
             if !self.take(r) {
                 break;
             }
@@ -403,7 +469,7 @@ impl Guide {
         let near = EPOCH_MAX - 1 - self.rng.below(20) as u16;
         while self.row.registry.epoch < near && !self.full() {
             let step = 3 + self.rng.below(2) as u8;
-            let r = well_formed(&mut self.rng, step, self.most);
+            let r = self.well_formed(step);
             self.take(r);
         }
         // Then as many members as there may be, and mostly what brings a change

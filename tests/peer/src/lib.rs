@@ -1,4 +1,4 @@
-//! A second program for document 01 and Papers 1 to 3 of document 02: it turns a
+//! A second program for document 01 and Papers 1 to 4 of document 02: it turns a
 //! sheet into its listing, or into the number of the refusal, and a seed and a
 //! count of records into a bench sheet.
 //!
@@ -9,6 +9,7 @@
 pub mod listing;
 pub mod row;
 pub mod seed;
+pub mod tally;
 
 use row::Row;
 
@@ -19,16 +20,7 @@ pub const RECORDS_MAX: usize = 4095;
 /// listing's length, or 2 or 3, which leave the slice untouched; bytes past the
 /// listing keep their values. It works in place, without the heap.
 pub fn run(sheet: &[u8], slice: &mut [u8]) -> usize {
-    let (records, rest) = sheet.as_chunks::<8>();
-    // [2] a sheet of wrong length
-    if !rest.is_empty() || records.len() > RECORDS_MAX {
-        return 2;
-    }
-    // [2] or without a valid opening
-    let [[0, board, 0, 0, 0, 0, 0, 0], ..] = records else {
-        return 2;
-    };
-    let Ok(mut row) = Row::open(*board) else {
+    let Some((records, mut row)) = opened(sheet) else {
         return 2;
     };
     let mut answers = [0; RECORDS_MAX];
@@ -43,6 +35,22 @@ pub fn run(sheet: &[u8], slice: &mut [u8]) -> usize {
     }
     listing::write(&mut slice[..length], records, answers, &row);
     length
+}
+
+/// The records of a sheet, and the row that the first of them opens; none where the
+/// sheet is refused [2].
+fn opened(sheet: &[u8]) -> Option<(&[[u8; 8]], Row)> {
+    let (records, rest) = sheet.as_chunks::<8>();
+    // [2] a sheet of wrong length
+    if !rest.is_empty() || records.len() > RECORDS_MAX {
+        return None;
+    }
+    // [2] or without a valid opening
+    let [[0, board, 0, 0, 0, 0, 0, 0], ..] = records else {
+        return None;
+    };
+    let row = Row::open(*board).ok()?;
+    Some((records, row))
 }
 
 /// The listing of a sheet, or refusal 2.

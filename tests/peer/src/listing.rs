@@ -4,8 +4,8 @@
 use crate::row::{Row, Stage, Status, View};
 
 /// No listing is longer: 4,095 lines of at most 12 bytes, two of at most 39,
-/// eight of at most 46, and the receipts' of at most 13 + 512 * 11.
-pub const LENGTH_MAX: usize = 4095 * 12 + 2 * 39 + 8 * 46 + 13 + 512 * 11;
+/// eight of at most 46, and the receipts' of at most 13 + 512 * 16.
+pub const LENGTH_MAX: usize = 4095 * 12 + 2 * 39 + 8 * 46 + 13 + 512 * 16;
 
 /// The length of a listing in bytes.
 pub fn length(records: &[[u8; 8]], answers: &[u8], row: &Row) -> usize {
@@ -123,12 +123,14 @@ fn list(out: &mut impl Out, records: &[[u8; 8]], answers: &[u8], row: &Row) {
             false => b" current\n",
         });
     }
-    // how many receipts, then their values
+    // how many receipts, then each as value, `@`, epoch: document 02, Paper 4
     out.text(b"receipts ");
     out.number(row.receipts.len() as u32);
-    for &value in row.receipts.iter() {
+    for entry in row.receipts.entries() {
         out.byte(b' ');
-        out.number(value);
+        out.number(entry.value);
+        out.byte(b'@');
+        out.number(entry.epoch.into());
     }
     out.byte(b'\n');
 }

@@ -35,10 +35,20 @@ pub struct View {
     pub members: u8,
 }
 
-/// A list of entries, or of receipts, in its own 512 places.
+/// A value, and the leader epoch of the board that appended it, as that board had
+/// it in its view then. Two entries are equal only if both are: document 02, Paper 4.
+#[derive(Clone, Copy, PartialEq, Eq, Debug)]
+pub struct Entry {
+    pub value: u32,
+    pub epoch: u16,
+}
+
+/// A list of entries, or of receipts: the values in its own 512 places, and their
+/// epochs at the same places of a second list.
 #[derive(Clone, PartialEq, Eq, Debug)]
 pub struct Log {
-    places: [u32; LOG_MAX],
+    values: [u32; LOG_MAX],
+    epochs: [u16; LOG_MAX],
     length: usize,
 }
 
@@ -122,7 +132,8 @@ macro_rules! check {
 
 impl Log {
     const EMPTY: Log = Log {
-        places: [0; LOG_MAX],
+        values: [0; LOG_MAX],
+        epochs: [0; LOG_MAX],
         length: 0,
     };
 
@@ -134,8 +145,34 @@ impl Log {
         self.length == 0
     }
 
-    fn push(&mut self, value: u32) {
-        self.places[self.length] = value;
+    /// The epochs of its entries; the values are what it derefs to.
+    pub fn epochs(&self) -> &[u16] {
+        &self.epochs[..self.length]
+    }
+
+    pub fn entries(&self) -> impl Iterator<Item = Entry> + '_ {
+        let both = self.iter().zip(self.epochs());
+        both.map(|(&value, &epoch)| Entry { value, epoch })
+    }
+
+    /// The entry at a place below its length.
+    fn entry(&self, place: usize) -> Entry {
+        Entry {
+            value: self[place],
+            epoch: self.epochs()[place],
+        }
+    }
+
+    /// The length of the longest beginning shared with another log, by value and
+    /// epoch.
+    fn shared(&self, other: &Log) -> usize {
+        let both = self.entries().zip(other.entries());
+        both.take_while(|(own, theirs)| own == theirs).count()
+    }
+
+    fn push(&mut self, entry: Entry) {
+        self.values[self.length] = entry.value;
+        self.epochs[self.length] = entry.epoch;
         self.length += 1;
     }
 
@@ -144,11 +181,12 @@ impl Log {
     }
 }
 
+/// The values alone: to compare them compares no entries.
 impl Deref for Log {
     type Target = [u32];
 
     fn deref(&self) -> &[u32] {
-        &self.places[..self.length]
+        &self.values[..self.length]
     }
 }
 
@@ -235,7 +273,9 @@ impl Row {
         let board = self.board_mut(b);
         check!(board.view.leader == b, 8);
         check!(board.log.len() < LOG_MAX, 13);
-        board.log.push(value);
+        // Its own leader epoch, which the registry's may have passed.
+        let epoch = board.view.leader_epoch;
+        board.log.push(Entry { value, epoch });
         board.counts[at(b)] = board.log.len();
         0
     }
@@ -247,7 +287,7 @@ impl Row {
         check!(board.view.leader == b, 8);
         check!(board.log.len() > given, 12);
         check!(board.view.majority_of(|m| board.counts[at(m)] > given), 14);
-        self.receipts.push(board.log[given]);
+        self.receipts.push(board.log.entry(given));
         0
     }
 
@@ -322,12 +362,27 @@ impl Row {
         check!(board.view.has(b), 5);
         check!(board.view.leader_epoch == leader.view.leader_epoch, 10);
         check!(board.joined != board.view.leader_epoch, 11);
-        let both = board.log.iter().zip(leader.log.iter());
-        let shared = both.take_while(|(own, led)| own == led).count();
+        let shared = board.log.shared(&leader.log);
         let board = self.board_mut(b);
         board.log.truncate(shared);
         board.joined = board.view.leader_epoch;
         0
+    }
+
+    /// Would a join of b, if it is accepted, cut at an entry that has the value of
+    /// its leader's entry at that place, but another epoch? Joining by value alone
+    /// would keep more there, and would keep the same everywhere else.
+    pub fn join_cuts_by_epoch(&self, b: u8) -> bool {
+        let board = self.board(b);
+        let l = board.view.leader;
+        if l == 0 {
+            return false;
+        }
+        let leader = self.board(l);
+        let shared = board.log.shared(&leader.log);
+        // The first entries not shared, if both logs go on: they differ.
+        let mut values = board.log.iter().zip(leader.log.iter());
+        values.nth(shared).is_some_and(|(own, led)| own == led)
     }
 
     /// Step 8: receive b.
@@ -340,7 +395,7 @@ impl Row {
         check!(board.view.leader_epoch == leader.view.leader_epoch, 10);
         check!(board.joined == board.view.leader_epoch, 11);
         check!(board.log.len() < leader.log.len(), 12);
-        let entry = leader.log[board.log.len()];
+        let entry = leader.log.entry(board.log.len());
         self.board_mut(b).log.push(entry);
         0
     }

@@ -16,26 +16,27 @@ use Rattle.dispatch.proofs.send.Tie as tie
 
 -- Where the arms part: the entry from there, its lent places, and the record's number.
 abbrev start : tie.After-v → tie.Start
-start c = c .before .before .before .before .before .before
+start c = c .before .before .before .before .before .before .before .before
 
 abbrev places : tie.After-v → Places
-places c = lent (now (start c .args .store)) (now (start c .args .list))
+places c =
+    let a = start c .args in lent (now (a .store)) (now (a .store2)) (now (a .list)) (now (a .list2))
 
 abbrev number : tie.After-v → ℕ
 number c = start c .args .r .step
 
 -- The call of a step, from where what it was lent is given back.
-abbrev appended : tie.After-slice-known8 → tie.After-append
-appended c = c .before .before .before .before .before .before
+abbrev appended : tie.After-slice-known11 → tie.After-append
+appended c = c .before .before .before .before .before .before .before .before
 
 abbrev refreshed : tie.After-v2 → tie.After-refresh
 refreshed c = c .before .before .before .before .before
 
-abbrev joined : tie.After-slice-known14 → tie.After-join
+abbrev joined : tie.After-slice-known18 → tie.After-join
 joined c = c .before .before .before .before
 
-abbrev received : tie.After-slice-known16 → tie.After-receive
-received c = c .before .before .before .before
+abbrev received : tie.After-slice-known21 → tie.After-receive
+received c = c .before .before .before .before .before .before
 
 -- The last number of a range, which is the one that no test before named.
 four : (c : tie.Else5) → number (c .before .before .before .before .before) ≡ 4
@@ -164,18 +165,21 @@ same-length-2 c = search needs
 same-length-3 : tie.Need-same-length-3
 same-length-3 c = search needs
 
+same-length-4 : tie.Need-same-length-4
+same-length-4 c = search needs
+
 returns-2 : tie.Need-returns-2
 returns-2 c =
     let d = appended c in
-    let z = d .before .before .before .before .before .before in
+    let z = d .before .before .before .before .before .before .before in
     let a = start z .args in
     let p = start z .pre in
-    rw (d .before .before .before .before .before .match .keys2)
+    rw (d .before .before .before .before .before .before .match .keys2)
     (sends-kept (by-board _ (places z) _ _ (λ b. append b (a .r .value)) (a .r .board) (a .r .other) (a .r .spare) 0 _
-    (d .before .before .before .before .board .ensures) (λ m. refl)
+    (d .before .before .before .before .before .board .ensures) (λ m. refl)
     (λ m. refl)
     (d .append .ensures (a .g) (a .c) (now (a .joined)) (a .issued)
-    (now (a .list)) (p .0 .issued) (p .1))))
+    (now (a .list)) (now (a .list2)) (p .0 .issued) (p .1))))
 
 returns-3 : tie.Need-returns-3
 returns-3 c =
@@ -197,14 +201,14 @@ returns-4 c =
     (sends-kept (alone-refused _ (places z) _ _ changeLeader (a .r .board) (a .r .other) (a .r .spare) (a .r .value)
     (c .before .bare .ensures) (c .if1 .left) (malformed-leaves _ (p .0) (places z) (p .1))))
 
-same-length-4 : tie.Need-same-length-4
-same-length-4 c = search needs
-
 same-length-5 : tie.Need-same-length-5
 same-length-5 c = search needs
 
 same-length-6 : tie.Need-same-length-6
 same-length-6 c = search needs
+
+same-length-7 : tie.Need-same-length-7
+same-length-7 c = search needs
 
 returns-5 : tie.Need-returns-5
 returns-5 c =
@@ -216,11 +220,11 @@ returns-5 c =
     (a .r .value) _ (c .before .before .before .before .before .before .board2 .ensures) (λ m. refl) (λ m. refl)
     (c .before .before .acknowledge .ensures (a .g) (a .c) (a .issued) (places z) (p .0 .issued) (p .1))))
 
-same-length-7 : tie.Need-same-length-7
-same-length-7 c = search needs
-
 same-length-8 : tie.Need-same-length-8
 same-length-8 c = search needs
+
+same-length-9 : tie.Need-same-length-9
+same-length-9 c = search needs
 
 returns-6 : tie.Need-returns-6
 returns-6 c =
@@ -252,9 +256,6 @@ returns-8 c =
     (sends-kept (alone-refused _ (places z) _ _ setNormal (a .r .board) (a .r .other) (a .r .spare) (a .r .value)
     (c .before .bare2 .ensures) (c .if2 .left) (malformed-leaves _ (p .0) (places z) (p .1))))
 
-same-length-9 : tie.Need-same-length-9
-same-length-9 c = search needs
-
 same-length-10 : tie.Need-same-length-10
 same-length-10 c = search needs
 
@@ -264,15 +265,24 @@ same-length-11 c = search needs
 same-length-12 : tie.Need-same-length-12
 same-length-12 c = search needs
 
+same-length-13 : tie.Need-same-length-13
+same-length-13 c = search needs
+
+same-length-14 : tie.Need-same-length-14
+same-length-14 c = search needs
+
+same-length-15 : tie.Need-same-length-15
+same-length-15 c = search needs
+
 returns-9 : tie.Need-returns-9
 returns-9 c =
-    let z = c .before .before .before .before .before .before .before .before .before .before .before in
+    let z = c .before .before .before .before .before .before .before .before .before .before .before .before .before .before .before in
     let a = start z .args in
     let p = start z .pre in
-    rw (c .before .before .before .before .before .before .before .if4 .taken)
+    rw (c .before .before .before .before .before .before .before .before .before .before .before .if4 .taken)
     (sends-kept (by-board _ (places z) _ _ commit (a .r .board) (a .r .other) (a .r .spare) (a .r .value) _
-    (c .before .before .before .before .before .before .before .before .board4 .ensures) (λ m. refl) (λ m. refl)
-    (c .before .before .commit .ensures (a .g) (a .c) (now (a .joined)))))
+    (c .before .before .before .before .before .before .before .before .before .before .before .before .board4 .ensures) (λ m. refl) (λ m. refl)
+    (c .before .before .before .before .commit .ensures (a .g) (a .c) (now (a .joined)))))
 
 returns-10 : tie.Need-returns-10
 returns-10 c =
@@ -296,14 +306,14 @@ returns-11 c =
     (c .remove .ensures (a .t3) (now (a .joined)) (now (a .len)) (p .0 .short) (now (a .acked)) (a .issued) (places z)
     (p .0 .issued) (p .1))))
 
-same-length-13 : tie.Need-same-length-13
-same-length-13 c = search needs
+same-length-16 : tie.Need-same-length-16
+same-length-16 c = search needs
 
-same-length-14 : tie.Need-same-length-14
-same-length-14 c = search needs
+same-length-17 : tie.Need-same-length-17
+same-length-17 c = search needs
 
-same-length-15 : tie.Need-same-length-15
-same-length-15 c = search needs
+same-length-18 : tie.Need-same-length-18
+same-length-18 c = search needs
 
 returns-12 : tie.Need-returns-12
 returns-12 c =
@@ -322,30 +332,6 @@ returns-12 c =
           (p .0 .issued) (p .1));
     })
 
-same-length-16 : tie.Need-same-length-16
-same-length-16 c = search needs
-
-same-length-17 : tie.Need-same-length-17
-same-length-17 c = search needs
-
-same-length-18 : tie.Need-same-length-18
-same-length-18 c = search needs
-
-returns-13 : tie.Need-returns-13
-returns-13 c =
-    let d = joined c in
-    let z = d .before .before .before .before .before .before .before .before .before
-    .before in
-    let a = start z .args in
-    let p = start z .pre in
-    rw (d .before .before .before .before .if8 .taken)
-    (sends-kept (by-board _ (places z) _ _ join
-    (a .r .board) (a .r .other) (a .r .spare) (a .r .value) _
-    (d .before .before .before .before .before .before .board5 .ensures) (λ m. refl)
-    (λ m. refl)
-    (d .join .ensures (a .g) (a .c) (now (a .acked)) (a .issued) (now (a .list))
-    (p .0 .issued) (p .1))))
-
 same-length-19 : tie.Need-same-length-19
 same-length-19 c = search needs
 
@@ -355,18 +341,46 @@ same-length-20 c = search needs
 same-length-21 : tie.Need-same-length-21
 same-length-21 c = search needs
 
+same-length-22 : tie.Need-same-length-22
+same-length-22 c = search needs
+
+returns-13 : tie.Need-returns-13
+returns-13 c =
+    let d = joined c in
+    let z = d .before .before .before .before .before .before .before .before .before .before .before in
+    let a = start z .args in
+    let p = start z .pre in
+    rw (d .before .before .before .before .before .if8 .taken)
+    (sends-kept (by-board _ (places z) _ _ join
+    (a .r .board) (a .r .other) (a .r .spare) (a .r .value) _
+    (d .before .before .before .before .before .before .before .board5 .ensures) (λ m. refl)
+    (λ m. refl)
+    (d .join .ensures (a .g) (a .c) (now (a .acked)) (a .issued) (now (a .list)) (now (a .list2))
+    (p .0 .issued) (p .1))))
+
+same-length-23 : tie.Need-same-length-23
+same-length-23 c = search needs
+
+same-length-24 : tie.Need-same-length-24
+same-length-24 c = search needs
+
+same-length-25 : tie.Need-same-length-25
+same-length-25 c = search needs
+
+same-length-26 : tie.Need-same-length-26
+same-length-26 c = search needs
+
 returns-14 : tie.Need-returns-14
 returns-14 c =
     let d = received c in
-    let z = d .before .before .before .before .before .before .before .before .before
-    .before in
+    let z = d .before .before .before .before .before .before .before .before .before .before .before in
     let a = start z .args in
     let p = start z .pre in
-    rw (eight (d .before .before .before .before))
+    rw (eight (d .before .before .before .before .before))
     (sends-kept (by-board _ (places z) _ _ receive (a .r .board) (a .r .other) (a .r .spare) (a .r .value) _
-    (d .before .before .before .before .before .before .board5 .ensures) (λ m. refl)
+    (d .before .before .before .before .before .before .before .board5 .ensures) (λ m. refl)
     (λ m. refl)
-    (d .receive .ensures (a .g) (a .c) (now (a .acked)) (a .issued) (now (a .list))
+    (d .receive .ensures (a .g) (a .c) (now (a .acked)) (a .issued) (now (a .list)) (now (a .list2))
     (p .0 .issued) (p .1))))
 
 returns-15 : tie.Need-returns-15
@@ -380,8 +394,8 @@ returns-15 c =
     (c .refresh-controller .ensures (a .t3) (now (a .joined)) (now (a .len)) (p .0 .short) (now (a .acked)) (a .issued)
     (places z) (p .0 .issued) (p .1))))
 
-same-length-22 : tie.Need-same-length-22
-same-length-22 c = search needs
+same-length-27 : tie.Need-same-length-27
+same-length-27 c = search needs
 
 returns-16 : tie.Need-returns-16
 returns-16 c =
@@ -407,11 +421,11 @@ returns-17 c =
     (sends-kept (alone-refused _ (places z) _ _ readLeader (a .r .board) (a .r .other) (a .r .spare) (a .r .value)
     (c .before .bare3 .ensures) (c .if10 .left) (malformed-leaves _ (p .0) (places z) (p .1)))))
 
-same-length-23 : tie.Need-same-length-23
-same-length-23 c = search needs
+same-length-28 : tie.Need-same-length-28
+same-length-28 c = search needs
 
-same-length-24 : tie.Need-same-length-24
-same-length-24 c = search needs
+same-length-29 : tie.Need-same-length-29
+same-length-29 c = search needs
 
 returns-18 : tie.Need-returns-18
 returns-18 c =
@@ -474,43 +488,48 @@ send-spec =
     same-length
     same-length-2
     same-length-3
+    same-length-4
     returns-2
     returns-3
     returns-4
-    same-length-4
     same-length-5
     same-length-6
-    returns-5
     same-length-7
+    returns-5
     same-length-8
+    same-length-9
     returns-6
     returns-7
     returns-8
-    same-length-9
     same-length-10
     same-length-11
     same-length-12
-    returns-9
-    returns-10
-    returns-11
     same-length-13
     same-length-14
     same-length-15
-    returns-12
+    returns-9
+    returns-10
+    returns-11
     same-length-16
     same-length-17
     same-length-18
-    returns-13
+    returns-12
     same-length-19
     same-length-20
     same-length-21
-    returns-14
-    returns-15
     same-length-22
-    returns-16
-    returns-17
+    returns-13
     same-length-23
     same-length-24
+    same-length-25
+    same-length-26
+    returns-14
+    returns-15
+    same-length-27
+    returns-16
+    returns-17
+    same-length-28
+    same-length-29
     returns-18
     returns-19
     returns-20)

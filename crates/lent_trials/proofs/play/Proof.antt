@@ -7,11 +7,12 @@ use Rattle.lent_trials.proofs.play.Statement.{statement}
 use Rattle.lent_trials.proofs.play.Tie as tie
 
 abbrev Inv-loop : tie.InvT-loop
-Inv-loop store₀ list₀ sheet now₀ i₀ store list now i =
-    (i ≤ length sheet) × (length store ≡ length store₀) × (length list ≡ length list₀)
+Inv-loop store₀ store2₀ list₀ list2₀ sheet now₀ i₀ store store2 list list2 now i =
+    (i ≤ length sheet) × (length store ≡ length store₀) × (length store2 ≡ length store2₀)
+    × (length list ≡ length list₀) × (length list2 ≡ length list2₀)
 
 abbrev μ-loop : tie.MeasureT-loop
-μ-loop store₀ list₀ sheet now₀ i₀ store list now i = length sheet - i
+μ-loop store₀ store2₀ list₀ list2₀ sheet now₀ i₀ store store2 list list2 now i = length sheet - i
 
 loop-holds : tie.Need-loop-holds Inv-loop μ-loop
 loop-holds c = search needs
@@ -46,6 +47,12 @@ same-length c = search needs
 same-length-2 : tie.Need-same-length-2 Inv-loop μ-loop
 same-length-2 c = search needs
 
+same-length-3 : tie.Need-same-length-3 Inv-loop μ-loop
+same-length-3 c = search needs
+
+same-length-4 : tie.Need-same-length-4 Inv-loop μ-loop
+same-length-4 c = search needs
+
 returns : tie.Need-returns Inv-loop μ-loop
 returns c = search needs
 
@@ -66,4 +73,6 @@ play-spec =
     loop-again
     same-length
     same-length-2
+    same-length-3
+    same-length-4
     returns)

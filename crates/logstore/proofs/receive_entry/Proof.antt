@@ -1,4 +1,4 @@
--- `logstore::receive_entry` meets its contract: the part comes back with the leader's entry at len. Assumes nothing.
+-- `logstore::receive_entry` meets its contract: the parts come back with the leader's entry at len. Assumes nothing.
 use Prim.Native.Nat.{_-_, _*_}
 use native.Mathlib.Omega.{arith}
 use lib.ListN.{getD}
@@ -8,6 +8,9 @@ use Rattle.logstore.proofs.Laws.{part-set}
 use borrow.Author.Needs.{needs}
 use Rattle.logstore.proofs.receive_entry.Statement.{statement}
 use Rattle.logstore.proofs.receive_entry.Tie as tie
+
+abbrev start : tie.After-receive → tie.Start
+start c = c .before .before .before .before .before .before .before
 
 sub-from : tie.Need-sub-from
 sub-from c = search needs
@@ -26,6 +29,12 @@ mul-v c = search needs
 
 slice-read-v : tie.Need-slice-read-v
 slice-read-v c = search needs
+
+mul-t : tie.Need-mul-t
+mul-t c = search needs
+
+slice-read-t : tie.Need-slice-read-t
+slice-read-t c = search needs
 
 sub-own : tie.Need-sub-own
 sub-own c = search needs
@@ -51,18 +60,38 @@ part-receive-start c = search needs
 part-receive-end : tie.Need-part-receive-end
 part-receive-end c = search needs
 
+mul-receive-2 : tie.Need-mul-receive-2
+mul-receive-2 c = search needs
+
+sub-receive-2 : tie.Need-sub-receive-2
+sub-receive-2 c = search needs
+
+part-receive-start-2 : tie.Need-part-receive-start-2
+part-receive-start-2 c = search needs
+
+part-receive-end-2 : tie.Need-part-receive-end-2
+part-receive-end-2 c = search needs
+
 receive-requires : tie.Need-receive-requires
 receive-requires c κs = search needs
 
 same-length : tie.Need-same-length
 same-length c = search needs
 
+same-length-2 : tie.Need-same-length-2
+same-length-2 c = search needs
+
 returns : tie.Need-returns
 returns c =
-    let a = c .before .before .before .before .before .before .args in
-    let s = now (a .store) in
-    let v = getD s (place (a .leader) (a .len)) 0 in
-    part-set s _ (512 * (a .b - 1)) (a .len) v (omega arith) (omega arith) (c .before .before .receive .ensures)
+    let d = c .before .before .before .before in
+    let a = start d .args in
+    let at = 512 * (a .b - 1) in
+    let from = place (a .leader) (a .len) in (
+      part-set (now (a .store)) _ at (a .len) (getD (now (a .store)) from 0) (omega arith) (omega arith)
+          (d .receive .ensures .0),
+      part-set (now (a .terms)) _ at (a .len) (getD (now (a .terms)) from 0) (omega arith) (omega arith)
+          (d .receive .ensures .1),
+    )
 
 pub receive-entry-spec : {M : Type 1} → statement M
 receive-entry-spec =
@@ -74,6 +103,8 @@ receive-entry-spec =
     add-from
     mul-v
     slice-read-v
+    mul-t
+    slice-read-t
     sub-own
     cast-own
     mul-own
@@ -82,6 +113,11 @@ receive-entry-spec =
     sub-receive
     part-receive-start
     part-receive-end
+    mul-receive-2
+    sub-receive-2
+    part-receive-start-2
+    part-receive-end-2
     receive-requires
     same-length
+    same-length-2
     returns)

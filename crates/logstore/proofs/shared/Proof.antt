@@ -1,85 +1,99 @@
 -- `logstore::shared` meets its contract. The loop's invariant: what the logs share is the i entries passed, and what
 -- they share from i on. Assumes nothing.
+use mathlib.Core.Bool.{Bool, true, false, cond}
 use mathlib.Core.Path.{_≡_, sym, _∙_}
 use mathlib.Core.List.{List}
-use mathlib.Core.Logic.{_≢_}
 use Prim.Native.Nat.{ℕ, suc, _≤_, _<_, _+_, _-_}
 use native.Mathlib.Omega.{arith}
-use lib.Dec.{eqb}
 use lib.ListN.{length, getD}
 use denote.Ref.{now}
+use borrow.Author.Tests.{not-true, not-false}
 use borrow.Author.Needs.{needs}
+use Rattle.model.specs.State.{Entry, entry, sameEntry}
 use Rattle.model.specs.Steps.{shared}
-use Rattle.logstore.specs.Log.{place, logOf}
-use Rattle.logstore.proofs.Laws.{log-length, log-entry, sharedFrom, shared-first, shared-second, shared-equal, shared-differ}
+use Rattle.logstore.specs.Log.{pairs, place, logOf}
+use Rattle.logstore.proofs.Laws.{pairs-length, log-length, log-entry, sharedFrom, shared-first, shared-second, shared-next}
 use Rattle.logstore.proofs.shared.Statement.{statement}
 use Rattle.logstore.proofs.shared.Tie as tie
 
 -- What the two logs share from i on.
-module _ (s : List ℕ) (a m b n i : ℕ)
-    (pre : (length s ≡ 4096) × (1 ≤ a) × (a ≤ 8) × (m ≤ 512) × (1 ≤ b) × (b ≤ 8) × (n ≤ 512)) where
+module _ (vs ts : List ℕ) (a m b n i : ℕ)
+    (pre : (length vs ≡ 4096) × (length ts ≡ 4096) × (1 ≤ a) × (a ≤ 8) × (m ≤ 512) × (1 ≤ b) × (b ≤ 8) × (n ≤ 512)) where
+  abbrev s : List Entry
+  s = pairs vs ts
+
   abbrev more : ℕ → ℕ
-  more = sharedFrom (logOf s a m) (logOf s b n)
+  more = sharedFrom sameEntry (logOf s a m) (logOf s b n)
+
+  full : length s ≡ 4096
+  full = pairs-length vs ts (pre .0 ∙ sym (pre .1)) ∙ pre .0
 
   long : length (logOf s a m) ≡ m
-  long = log-length s (pre .0) a (pre .1) (pre .2) m (pre .3)
+  long = log-length s full a (pre .2) (pre .3) m (pre .4)
 
   long-2 : length (logOf s b n) ≡ n
-  long-2 = log-length s (pre .0) b (pre .4) (pre .5) n (pre .6)
+  long-2 = log-length s full b (pre .5) (pre .6) n (pre .7)
 
   ends : m ≤ i → more i ≡ 0
-  ends h = shared-first (logOf s a m) (logOf s b n) i (rw long h)
+  ends h = shared-first sameEntry (logOf s a m) (logOf s b n) i (rw long h)
 
   ends-2 : n ≤ i → more i ≡ 0
-  ends-2 h = shared-second (logOf s a m) (logOf s b n) i (rw long-2 h)
+  ends-2 h = shared-second sameEntry (logOf s a m) (logOf s b n) i (rw long-2 h)
 
-  module _ (h : i < m) (k : i < n) where
-    goes-on : getD s (place a i) 0 ≡ getD s (place b i) 0 → more i ≡ suc (more (i + 1))
-    goes-on e =
-        shared-equal (logOf s a m) (logOf s b n) i (rw long h) (rw long-2 k)
-        (log-entry s a m i h ∙ e ∙ sym (log-entry s b n i k))
+  -- One more where the entries at i are the same, none where they differ.
+  module _ (h : i < m) (k : i < n) {t : Bool}
+      (e : t ≡ sameEntry (getD s (place a i) (entry 0 0)) (getD s (place b i) (entry 0 0))) where
+    by-same : more i ≡ cond t (suc (more (i + 1))) 0
+    by-same =
+        shared-next sameEntry (entry 0 0) (logOf s a m) (logOf s b n) i (rw long h) (rw long-2 k)
+        ∙ rw (log-entry (entry 0 0) s a m i h, log-entry (entry 0 0) s b n i k, e)
 
-    stops : getD s (place a i) 0 ≢ getD s (place b i) 0 → more i ≡ 0
-    stops d =
-        shared-differ (logOf s a m) (logOf s b n) i (rw long h) (rw long-2 k)
-        (λ e. d (sym (log-entry s a m i h) ∙ e ∙ log-entry s b n i k))
+    goes-on : t ≡ true → more i ≡ suc (more (i + 1))
+    goes-on z = by-same ∙ rw z
+
+    stops : t ≡ false → more i ≡ 0
+    stops z = by-same ∙ rw z
 
 abbrev Inv-loop : tie.InvT-loop
-Inv-loop store a m b n i₀ i =
-    let xs = logOf store a m in
-    let ys = logOf store b n in
-    (i ≤ m) × (length (shared eqb xs ys) ≡ i + sharedFrom xs ys i)
+Inv-loop store terms a m b n i₀ i =
+    let xs = logOf (pairs store terms) a m in
+    let ys = logOf (pairs store terms) b n in
+    (i ≤ m) × (length (shared sameEntry xs ys) ≡ i + sharedFrom sameEntry xs ys i)
 
 abbrev μ-loop : tie.MeasureT-loop
-μ-loop store a m b n i₀ i = m - i
+μ-loop store terms a m b n i₀ i = m - i
+
+abbrev start : tie.At-loop Inv-loop μ-loop → tie.Start Inv-loop μ-loop
+start c = c .before .before .before
 
 loop-holds : tie.Need-loop-holds Inv-loop μ-loop
 loop-holds c = (search needs, omega arith)
 
 returns : tie.Need-returns Inv-loop μ-loop
 returns c =
-    let f = c .before .before .before .before in
-    let l = c .before .before .loop in
-    let a = f .args in
-    omega (arith, l .inv .1, ends-2 (now (a .store)) (a .a) (a .m) (a .b) (a .n) (l .i) (f .pre) (c .if1 .taken))
-
-entry-requires : tie.Need-entry-requires Inv-loop μ-loop
-entry-requires c κs = search needs
-
-entry-requires-2 : tie.Need-entry-requires-2 Inv-loop μ-loop
-entry-requires-2 c κs = search needs
-
-returns-2 : tie.Need-returns-2 Inv-loop μ-loop
-returns-2 c =
-    let d = c .before .before .before in
-    let f = d .before .before .before .before in
-    let l = d .before .before .loop in
+    let l = c .before .before in
+    let f = start l in
     let a = f .args in
     omega (
       arith,
-      l .inv .1,
-      stops (now (a .store)) (a .a) (a .m) (a .b) (a .n) (l .i) (f .pre) (d .before .loop-test .taken) (d .if1 .left)
-          (λ e. c .if2 .taken (c .before .before .entry .ensures ∙ e ∙ sym (c .before .entry2 .ensures))),
+      l .loop .inv .1,
+      ends-2 (now (a .store)) (now (a .terms)) (a .a) (a .m) (a .b) (a .n) (l .loop .i) (f .pre) (c .if1 .taken),
+    )
+
+same-requires : tie.Need-same-requires Inv-loop μ-loop
+same-requires c κs = search needs
+
+returns-2 : tie.Need-returns-2 Inv-loop μ-loop
+returns-2 c =
+    let d = c .before .before in
+    let l = d .before .before in
+    let f = start l in
+    let a = f .args in
+    omega (
+      arith,
+      l .loop .inv .1,
+      stops (now (a .store)) (now (a .terms)) (a .a) (a .m) (a .b) (a .n) (l .loop .i) (f .pre)
+          (d .before .loop-test .taken) (d .if1 .left) (c .before .same .ensures) (not-true _ (c .if2 .taken)),
     )
 
 add-i : tie.Need-add-i Inv-loop μ-loop
@@ -90,39 +104,31 @@ loop-less c = omega arith
 
 loop-again : tie.Need-loop-again Inv-loop μ-loop
 loop-again c =
-    let d = c .before .before .before in
-    let f = d .before .before .before .before in
-    let l = d .before .before .loop in
-    let a = f .args in
-    let same = sym (c .before .before .entry .ensures) ∙ c .if2 .left ∙ c .before .entry2 .ensures in (
+    let d = c .before .before in
+    let l = d .before .before in
+    let f = start l in
+    let a = f .args in (
       search needs,
       omega (
         arith,
-        l .inv .1,
-        goes-on (now (a .store)) (a .a) (a .m) (a .b) (a .n) (l .i) (f .pre) (d .before .loop-test .taken)
-            (d .if1 .left) same,
+        l .loop .inv .1,
+        goes-on (now (a .store)) (now (a .terms)) (a .a) (a .m) (a .b) (a .n) (l .loop .i) (f .pre)
+            (d .before .loop-test .taken) (d .if1 .left) (c .before .same .ensures) (not-false _ (c .if2 .left)),
       ),
     )
 
 returns-3 : tie.Need-returns-3 Inv-loop μ-loop
 returns-3 c =
-    let f = c .before .before .before in
-    let l = c .before .loop in
+    let l = c .before in
+    let f = start l in
     let a = f .args in
-    omega (arith, l .inv .1, ends (now (a .store)) (a .a) (a .m) (a .b) (a .n) (l .i) (f .pre) (c .loop-test .left))
+    omega (
+      arith,
+      l .loop .inv .1,
+      ends (now (a .store)) (now (a .terms)) (a .a) (a .m) (a .b) (a .n) (l .loop .i) (f .pre) (c .loop-test .left),
+    )
 
 pub shared-spec : {M : Type 1} → statement M
 shared-spec =
     tie.close
-    (tie.spec
-    Inv-loop
-    μ-loop
-    loop-holds
-    returns
-    entry-requires
-    entry-requires-2
-    returns-2
-    add-i
-    loop-less
-    loop-again
-    returns-3)
+    (tie.spec Inv-loop μ-loop loop-holds returns same-requires returns-2 add-i loop-less loop-again returns-3)

@@ -4,7 +4,7 @@ use Prim.Native.Nat.{_+_, _-_, _*_}
 use native.Mathlib.Omega.{arith}
 use borrow.Author.Tests.{eq-eqb, ne-eqb}
 use borrow.Author.Needs.{needs}
-use Rattle.logstore.proofs.Laws.{from-start}
+use Rattle.logstore.proofs.Laws.{from-start, from-place}
 use Rattle.logstore.proofs.visible.Statement.{statement}
 use Rattle.logstore.proofs.visible.Tie as tie
 
@@ -22,7 +22,7 @@ returns c =
     let a = c .before .before .args in
     let e : a .issued - 0 ≡ a .issued = omega arith in (
       rw (e, eq-eqb _ _ (c .before .if1 .taken)),
-      rw (eq-eqb _ _ (c .before .if1 .taken)) (from-start (a .committed .ptr)),
+      rw (eq-eqb _ _ (c .before .if1 .taken)) (from-start 4 (a .committed .ptr)),
     )
 
 sub-start : tie.Need-sub-start
@@ -54,9 +54,7 @@ returns-2 c =
     let a = c .before .before .args in
     let from = 512 * (a .leader - 1) in
     let e : from + a .len - from ≡ a .len = omega arith in
-    let p = a .store .ptr in
-    let o : from * 4 + p .1 ≡ p .1 + 4 * (from + 0) = omega arith in
-    (rw (e, ne-eqb _ _ (c .before .if1 .left)), rw (ne-eqb _ _ (c .before .if1 .left)) (ap (λ i. (p .0, i)) o))
+    (rw (e, ne-eqb _ _ (c .before .if1 .left)), rw (ne-eqb _ _ (c .before .if1 .left)) (from-place 4 (a .store .ptr) from))
 
 pub visible-spec : {M : Type 1} → statement M
 visible-spec =

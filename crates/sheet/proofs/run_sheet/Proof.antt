@@ -10,7 +10,7 @@ use borrow.Author.Tests.{not-true, not-false}
 use Rattle.records.specs.Bytes.{isSheet}
 use Rattle.text.specs.Text.{Text}
 use Rattle.text.proofs.Laws.{wrote-length, read-back}
-use Rattle.sheet.proofs.Playing.{sheet-most, ran-fits, ran-issued, ran-small}
+use Rattle.sheet.proofs.Playing.{sheet-most, ran-fits, ran-terms, ran-issued, ran-small}
 use Rattle.sheet.proofs.Listings.{no-sheet, delivered}
 use borrow.Author.Needs.{needs}
 use Rattle.sheet.proofs.run_sheet.Statement.{statement}
@@ -21,10 +21,10 @@ abbrev start : tie.After-is-sheet → tie.Start
 start c = c .before .before .before
 
 abbrev ready : tie.After-play → tie.Else1
-ready c = c .before .before .before .before
+ready c = c .before .before .before .before .before .before
 
 abbrev played : tie.After-put-ending → tie.After-play
-played c = c .before .before .before .before .before .before
+played c = c .before .before .before .before .before .before .before .before .before
 
 abbrev bytes : tie.Else1 → Text
 bytes c = now (start (c .before) .args .sheet)
@@ -50,8 +50,15 @@ slice-aggregate-play-2 c = search needs
 slice-aggregate-play-3 : tie.Need-slice-aggregate-play-3
 slice-aggregate-play-3 c = search needs
 
+slice-aggregate-play-4 : tie.Need-slice-aggregate-play-4
+slice-aggregate-play-4 c = search needs
+
+slice-aggregate-play-5 : tie.Need-slice-aggregate-play-5
+slice-aggregate-play-5 c = search needs
+
 play-requires : tie.Need-play-requires
-play-requires c κs = (passed (c .before .before .before), record { store = refl; list = refl }, refl)
+play-requires c κs =
+    (passed (c .before .before .before .before .before), record { store = refl; store2 = refl; list = refl; list2 = refl }, refl)
 
 slice-aggregate-put-ending : tie.Need-slice-aggregate-put-ending
 slice-aggregate-put-ending c = search needs
@@ -59,12 +66,20 @@ slice-aggregate-put-ending c = search needs
 slice-aggregate-put-ending-2 : tie.Need-slice-aggregate-put-ending-2
 slice-aggregate-put-ending-2 c = search needs
 
+slice-aggregate-put-ending-3 : tie.Need-slice-aggregate-put-ending-3
+slice-aggregate-put-ending-3 c = search needs
+
 put-ending-requires : tie.Need-put-ending-requires
 put-ending-requires c κs =
-    let p = c .before .before .before .before .before in
+    let p = c .before .before .before .before .before .before .before .before in
     let d = ready p in
-    let h = p .play .ensures in
-    (ran-fits (bytes d) (passed d) _ _ _ _ h, ran-issued (bytes d) (passed d) _ _ _ _ h, omega arith)
+    let h = p .play .ensures in (
+      ran-fits (bytes d) (passed d) _ _ _ _ h,
+      ran-terms (bytes d) (passed d) _ _ _ _ h,
+      ran-issued (bytes d) (passed d) _ _ _ _ h,
+      h .full .list ∙ sym (h .full .list2),
+      omega arith,
+    )
 
 slice-aggregate-deliver : tie.Need-slice-aggregate-deliver
 slice-aggregate-deliver c = search needs
@@ -114,9 +129,12 @@ run-sheet-spec =
     slice-aggregate-play
     slice-aggregate-play-2
     slice-aggregate-play-3
+    slice-aggregate-play-4
+    slice-aggregate-play-5
     play-requires
     slice-aggregate-put-ending
     slice-aggregate-put-ending-2
+    slice-aggregate-put-ending-3
     put-ending-requires
     slice-aggregate-deliver
     array-share-prefix-end

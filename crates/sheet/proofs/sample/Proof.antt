@@ -7,13 +7,13 @@ use Rattle.model.specs.Runs.{run, answers, given}
 use Rattle.text.specs.Text.{digits, digitsWithin, over}
 use Rattle.sheet.proofs.Listings.{refused-holds, lengths-tell}
 use Rattle.records.specs.Bytes.{records}
-use Rattle.lines.specs.Lines.{answerLine, registryLine, controlLine, viewText, membersText}
-use Rattle.listing.specs.Listing.{answerLines, boardLine, boardLines, receiptsLine, valuesText, ending}
+use Rattle.lines.specs.Lines.{answerLine, registryLine, controlLine, viewText, membersText, receiptText}
+use Rattle.listing.specs.Listing.{answerLines, boardLine, boardLines, receiptsLine, receiptsText, ending}
 use Rattle.sheet.specs.Sheet.{SampleHolds, RoomHolds, result, left, listing, listingOf}
 
 returns : tie.Need-returns
 unfolding SampleHolds RoomHolds result left over listing listingOf records answerLine answerLines
-    registryLine controlLine boardLine boardLines receiptsLine valuesText ending viewText membersText digits
+    registryLine controlLine boardLine boardLines receiptsLine receiptsText receiptText ending viewText membersText digits
     digitsWithin run answers given
 returns c =
     ((refl, refl, refl), (refl, refl, refl, refl, refl, refl), refused-holds, lengths-tell, trials-hold)

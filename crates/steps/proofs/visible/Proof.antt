@@ -2,38 +2,25 @@
 -- function shows. Assumes nothing.
 use mathlib.Core.Bool.{true}
 use mathlib.Core.Path.{_≡_, sym, _∙_}
-use lib.ListN.{length-map}
 use denote.Ref.{now}
 use borrow.Author.Tests.{not-true, not-false}
 use borrow.Author.Needs.{needs}
 use Rattle.logstore.proofs.Laws.{from-start}
-use Rattle.refinement.specs.Refinement.{Places, lent, Shape}
+use Rattle.refinement.specs.Refinement.{Places, lent}
 use Rattle.refinement.proofs.Turning.{short-at}
 use Rattle.steps.specs.Call.{valid}
-use Rattle.steps.proofs.Calling.{ready, valid-full, valid-range, shown-is, leader-small}
+use Rattle.steps.proofs.Calling.{ready, valid-full, valid-range, shown-values, leader-small}
 use Rattle.steps.proofs.visible.Statement.{statement}
 use Rattle.steps.proofs.visible.Tie as tie
 
 abbrev places : tie.Start → Places
-places c = lent (now (c .args .store)) (now (c .args .list))
-
--- The type of a row fixes the lengths of its arrays.
-shape : (c : tie.Start) → Shape (c .args .t1)
-shape c =
-    let g = c .good .0 .1 .1 .1 .1 in
-    let row = c .args .t1 in
-    record {
-      views = sym (length-map (row .views) _) ∙ g .0 .1 .0 .1;
-      joined = sym (length-map (row .joined) _) ∙ g .1 .0 .1 .0 .1;
-      acked = sym (length-map (row .acked) _) ∙ g .1 .1 .0 .1 .0 .1;
-      len = sym (length-map (row .len) _) ∙ g .1 .1 .1 .0 .1 .0 .1;
-    }
+places c = let a = c .args in lent (now (a .store)) (now (a .store2)) (now (a .list)) (now (a .list2))
 
 abbrev start : tie.Else1 → tie.Start
-start c = c .before .before .before .before
+start c = c .before .before .before .before .before .before
 
 passed : (c : tie.Else1) → valid (start c .args .t1) (places (start c)) ≡ true
-passed c = sym (c .before .fits2 .ensures) ∙ not-false _ (c .if1 .left)
+passed c = sym (c .before .fits2 .ensures .0) ∙ not-false _ (c .if1 .left)
 
 fits-requires : tie.Need-fits-requires
 fits-requires c κs = search needs
@@ -49,9 +36,9 @@ part-result-end c = search needs
 
 returns : tie.Need-returns
 returns c =
-    let s = c .before .before .before .before .before in
-    let e = sym (c .before .before .fits2 .ensures) ∙ not-true _ (c .before .if1 .taken) in
-    (rw e, rw e (from-start (s .args .list .ptr)))
+    let s = c .before .before .before .before .before .before .before in
+    let e = sym (c .before .before .fits2 .ensures .0) ∙ not-true _ (c .before .if1 .taken) in
+    (rw e, rw e (from-start 4 (s .args .list .ptr)))
 
 seat-requires : tie.Need-seat-requires
 seat-requires c κs = search needs
@@ -75,7 +62,7 @@ visible-requires c κs =
     let row = s .args .t1 in
     let f = valid-full row (places s) (passed d) in
     let t = valid-range row (places s) (passed d) in
-    let r = ready row (shape s) t in (
+    let r = ready row (d .before .fits2 .ensures .1) t in (
       f .store,
       f .list,
       leader-small row t,
@@ -89,7 +76,7 @@ returns-2 c =
     let s = start d in
     let row = s .args .t1 in
     let seat = c .before .before .seat in (
-      c .visible .ensures .0 ∙ shown-is row (places s) (seat .result) (passed d)
+      c .visible .ensures .0 ∙ shown-values row (places s) (valid-full row (places s) (passed d)) (seat .result) (passed d)
           (leader-small row (valid-range row (places s) (passed d))) (seat .ensures .2),
       rw (passed d) (c .visible .ensures .1),
     )

@@ -11,7 +11,7 @@ use Rattle.cluster.specs.declared.Controller.{Controller}
 use Rattle.cluster.specs.declared.Cluster.{Cluster}
 use Rattle.cluster.specs.Layout.{outlineOf}
 use Rattle.refinement.specs.Refinement.{rowOf}
-use Rattle.refinement.proofs.Turning.{turns-refused, turns-accepted, short-at, len-short}
+use Rattle.refinement.proofs.Turning.{logged-full, turns-refused, turns-accepted, short-at, len-short}
 use Rattle.steps_follower.proofs.Answers.{join-answer}
 use Rattle.steps_follower.proofs.Afters.{join-after, join-short}
 use Rattle.steps_follower.proofs.join.Statement.{statement}
@@ -19,7 +19,7 @@ use Rattle.steps_follower.proofs.join.Tie as tie
 
 -- the entry, and where b and its leader are found
 abbrev entry : tie.After-may-join → tie.Start
-entry c = c .before .before .before .before .before .before .before .before .before
+entry c = c .before .before .before .before .before .before .before .before .before .before
 
 abbrev own : tie.After-may-join → tie.After-seat
 own c = c .before .before .before .before .before
@@ -73,7 +73,7 @@ may-join-requires : tie.Need-may-join-requires
 may-join-requires c κs = search needs
 
 returns : tie.Need-returns
-returns c g k acked issued list few full =
+returns c g k acked issued list list2 few full =
     turns-refused (row (c .before) g k acked issued) (entry (c .before) .pre .2) few _ full _ _
     (answers (c .before) g k acked issued) (c .if1 .taken)
 
@@ -97,6 +97,7 @@ shared-requires c κs =
     let h = own d .seat in
     let o = other d .seat2 in (
       p .3,
+      p .4,
       h .ensures .0,
       h .ensures .1,
       short-at l (h .result) (p .2) (h .ensures .0),
@@ -136,7 +137,7 @@ same-length-2 : tie.Need-same-length-2
 same-length-2 c = search needs
 
 returns-2 : tie.Need-returns-2
-returns-2 c g k acked issued list few full =
+returns-2 c g k acked issued list list2 few full =
     let d = c .before .before .before .before in
     let a = entry d .args in
     let p = entry d .pre in
@@ -147,7 +148,7 @@ returns-2 c g k acked issued list few full =
     (join-after (row d g k acked issued) (p .2) _ full (a .b) _ _ _ _ (h .2) (p .1)
     (d .before .before .before .before .view .ensures) (other d .seat2 .ensures .2) (p .0) (c .shared .ensures))
     (len-short (now (a .len)) (p .2) _ _ (h .0) (h .1)
-    (join-short _ _ _ _ _ (p .3) (h .0) (h .1) short (c .shared .ensures)))
+    (join-short _ _ _ _ _ (logged-full _ full) (h .0) (h .1) short (c .shared .ensures)))
     few refl
 
 pub join-spec : {M : Type 1} → statement M

@@ -1,6 +1,6 @@
 -- `steps_follower::receive` meets its contract. Assumes nothing.
 use mathlib.Core.List.{List}
-use mathlib.Core.Path.{_≡_, sym, ap, _∙_}
+use mathlib.Core.Path.{_≡_, sym, _∙_}
 use Prim.Native.Nat.{ℕ, _-_, _<_}
 use native.Mathlib.Omega.{arith}
 use lib.ListN.{getD}
@@ -15,19 +15,23 @@ use Rattle.cluster.specs.Layout.{outlineOf}
 use Rattle.refinement.specs.Refinement.{lent, rowOf}
 use Rattle.refinement.proofs.Turning.{turns-refused, turns-accepted, short-at, fits-next, len-short}
 use Rattle.steps_follower.proofs.Answers.{receive-room, receive-answer}
-use Rattle.steps_follower.proofs.Afters.{receive-after, receive-place}
+use Rattle.steps_follower.proofs.Afters.{receive-after, receive-places}
 use Rattle.steps_follower.proofs.receive.Statement.{statement}
 use Rattle.steps_follower.proofs.receive.Tie as tie
 
 -- the entry, and where b and its leader are found
 abbrev entry : tie.After-may-receive → tie.Start
-entry c = c .before .before .before .before .before .before .before .before .before .before .before
+entry c = c .before .before .before .before .before .before .before .before .before .before .before .before
 
 abbrev own : tie.After-may-receive → tie.After-seat
 own c = c .before .before .before .before .before .before .before
 
 abbrev other : tie.After-may-receive → tie.After-seat2
 other c = c .before .before .before
+
+-- the answer, from where the entry is written
+abbrev answered : tie.After-slice-known7 → tie.Else1
+answered c = c .before .before .before .before .before .before .before
 
 abbrev row : tie.After-may-receive → Registry → Controller → List ℕ → ℕ → Cluster
 row c g k acked issued =
@@ -99,18 +103,20 @@ may-receive-requires : tie.Need-may-receive-requires
 may-receive-requires c κs = search needs
 
 returns : tie.Need-returns
-returns c g k acked issued list few full =
+returns c g k acked issued list list2 few full =
     turns-refused (row (c .before) g k acked issued) (entry (c .before) .pre .2) few _ full _ _
     (answers (c .before) g k acked issued) (c .if1 .taken)
 
 receive-entry-requires : tie.Need-receive-entry-requires
 receive-entry-requires c κs =
-    let h = own (c .before .before) .seat .ensures in
-    let o = other (c .before .before) .seat2 .ensures in
-    (entry (c .before .before) .pre .3, h .0, h .1, o .0, o .1, room (c .before .before) (c .before .if1 .left))
+    let f = c .before .before in
+    let d = f .before in
+    let h = own d .seat .ensures in
+    let o = other d .seat2 .ensures in
+    (entry d .pre .3, entry d .pre .4, h .0, h .1, o .0, o .1, room d (f .if1 .left))
 
 add-len : tie.Need-add-len
-add-len c = fits-next (room (c .before .before .before .before .before) (c .before .before .before .before .if1 .left))
+add-len c = fits-next (room (answered c .before) (answered c .if1 .left))
 
 mul-len : tie.Need-mul-len
 mul-len c = search needs
@@ -119,9 +125,9 @@ slice-write-len : tie.Need-slice-write-len
 slice-write-len c =
     omega (
       arith,
-      own (c .before .before .before .before .before) .seat .ensures .0,
-      own (c .before .before .before .before .before) .seat .ensures .1,
-      entry (c .before .before .before .before .before) .pre .2 .eight,
+      own (answered c .before) .seat .ensures .0,
+      own (answered c .before) .seat .ensures .1,
+      entry (answered c .before) .pre .2 .eight,
     )
 
 same-length : tie.Need-same-length
@@ -130,23 +136,25 @@ same-length c = search needs
 same-length-2 : tie.Need-same-length-2
 same-length-2 c = search needs
 
+same-length-3 : tie.Need-same-length-3
+same-length-3 c = search needs
+
 returns-2 : tie.Need-returns-2
-returns-2 c g k acked issued list few full =
-    let d = c .before .before .before .before .before in
-    let z = c .before .before .before .before .if1 .left in
+returns-2 c g k acked issued list list2 few full =
+    let d = answered c .before in
+    let z = answered c .if1 .left in
     let a = entry d .args in
     let p = entry d .pre in
     let h = own d .seat .ensures in
-    let v = d .before .before .before .before .before .before .view .ensures in
-    let m = other d .seat2 .ensures .2 in
     let e = answers d g k acked issued in
     let r = row d g k acked issued in
-    let s = c .before .before .receive-entry .ensures in
-    turns-accepted r (p .2) few _ full _ _ _ _ e z
-    (receive-after r (p .2) _ full (a .b) _ _ _ (h .2) v m (p .0) _ s)
-    (len-short (now (a .len)) (p .2) _ _ (h .0) (h .1) (omega (arith, room d z))) few
-    (ap (λ x. lent x list) (s ∙ receive-place r (a .b) _ (h .2) _ v _ m (p .0) (now (a .store))
-    (zero-accepted (outlineOf r) (receive (a .b)) (sym e ∙ z))))
+    let q = lent (now (a .store)) (now (a .store2)) list list2 in
+    let s = c .before .before .before .before .receive-entry .ensures in
+    let w = (λ i. lent (s .0 i) (s .1 i) list list2)
+    ∙ receive-places r q (a .b) _ (h .2) _ (d .before .before .before .before .before .before .view .ensures) _
+    (other d .seat2 .ensures .2) (p .0) (zero-accepted (outlineOf r) (receive (a .b)) (sym e ∙ z)) in
+    turns-accepted r (p .2) few q full _ _ _ _ e z (receive-after r (p .2) q full (a .b) _ (h .2) _ w)
+    (len-short (now (a .len)) (p .2) _ _ (h .0) (h .1) (omega (arith, room d z))) few w
 
 pub receive-spec : {M : Type 1} → statement M
 receive-spec =
@@ -173,4 +181,5 @@ receive-spec =
     slice-write-len
     same-length
     same-length-2
+    same-length-3
     returns-2)

@@ -15,16 +15,20 @@ use Rattle.cluster.specs.Layout.{outlineOf}
 use Rattle.refinement.specs.Refinement.{lent, rowOf}
 use Rattle.refinement.proofs.Turning.{turns-refused, turns-accepted, fits-next, len-short}
 use Rattle.steps_leader.proofs.Answers.{append-room, append-answer}
-use Rattle.steps_leader.proofs.Afters.{append-after, append-place}
+use Rattle.steps_leader.proofs.Afters.{append-after, append-places}
 use Rattle.steps_leader.proofs.append.Statement.{statement}
 use Rattle.steps_leader.proofs.append.Tie as tie
 
 -- the entry, and where b is found
 abbrev entry : tie.After-may-append → tie.Start
-entry c = c .before .before .before .before .before .before .before
+entry c = c .before .before .before .before .before .before .before .before
 
 abbrev own : tie.After-may-append → tie.After-seat
 own c = c .before .before .before
+
+-- the answer, from where all is written
+abbrev answered : tie.After-slice-known7 → tie.Else1
+answered c = c .before .before .before .before .before .before .before
 
 abbrev row : tie.After-may-append → Registry → Controller → List ℕ → ℕ → Cluster
 row c g k joined issued =
@@ -64,16 +68,17 @@ may-append-requires : tie.Need-may-append-requires
 may-append-requires c κs = search needs
 
 returns : tie.Need-returns
-returns c g k joined issued list few full =
+returns c g k joined issued list list2 few full =
     turns-refused (row (c .before) g k joined issued) (entry (c .before) .pre .1) few _ full _ _
     (answers (c .before) g k joined issued) (c .if1 .taken)
 
 append-entry-requires : tie.Need-append-entry-requires
 append-entry-requires c κs =
-    (entry (c .before .before) .pre .2, search needs, search needs, room (c .before .before) (c .before .if1 .left))
+    let d = c .before .before in
+    (entry (d .before) .pre .2, entry (d .before) .pre .3, search needs, search needs, room (d .before) (d .if1 .left))
 
 add-m : tie.Need-add-m
-add-m c = fits-next (room (c .before .before .before .before .before) (c .before .before .before .before .if1 .left))
+add-m c = fits-next (room (answered c .before) (answered c .if1 .left))
 
 mul-len : tie.Need-mul-len
 mul-len c = search needs
@@ -99,21 +104,26 @@ same-length-2 c = search needs
 same-length-3 : tie.Need-same-length-3
 same-length-3 c = search needs
 
+same-length-4 : tie.Need-same-length-4
+same-length-4 c = search needs
+
 returns-2 : tie.Need-returns-2
-returns-2 c g k joined issued list few full =
-    let d = c .before .before .before .before .before in
-    let z = c .before .before .before .before .if1 .left in
+returns-2 c g k joined issued list list2 few full =
+    let d = answered c .before in
+    let z = answered c .if1 .left in
     let a = entry d .args in
     let p = entry d .pre in
     let h = own d .seat .ensures in
     let e = answers d g k joined issued in
     let r = row d g k joined issued in
-    let s = c .before .before .append-entry .ensures in
-    turns-accepted r (p .1) few _ full _ _ _ _ e z
-    (append-after r (p .1) _ full (a .b) (a .value) _ (h .2) (p .0) _ s)
-    (len-short (now (a .len)) (p .1) _ _ (h .0) (h .1) (omega (arith, room d z))) few
-    (ap (λ x. lent x list) (s ∙ ap (λ x. set (now (a .store)) x (a .value))
-    (append-place r (a .b) (a .value) _ (h .2) (zero-accepted (outlineOf r) (append (a .b) (a .value)) (sym e ∙ z)))))
+    let q = lent (now (a .store)) (now (a .store2)) list list2 in
+    let s = c .before .before .before .before .append-entry .ensures in
+    let w = (λ i. lent (s .0 i) (s .1 i) list list2)
+    ∙ append-places r q (a .b) (a .value) _ (h .2) (d .before .before .view .ensures)
+    (zero-accepted (outlineOf r) (append (a .b) (a .value)) (sym e ∙ z)) in
+    turns-accepted r (p .1) few q full _ _ _ _ e z
+    (append-after r (p .1) q full (a .b) (a .value) _ (h .2) (p .0) _ w)
+    (len-short (now (a .len)) (p .1) _ _ (h .0) (h .1) (omega (arith, room d z))) few w
 
 pub append-spec : {M : Type 1} → statement M
 append-spec =
@@ -137,4 +147,5 @@ append-spec =
     same-length
     same-length-2
     same-length-3
+    same-length-4
     returns-2)

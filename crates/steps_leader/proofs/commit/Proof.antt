@@ -15,13 +15,13 @@ use Rattle.cluster.specs.Layout.{outlineOf}
 use Rattle.refinement.specs.Refinement.{lent, rowOf}
 use Rattle.refinement.proofs.Turning.{turns-refused, turns-accepted, short-at}
 use Rattle.steps_leader.proofs.Answers.{commit-room, commit-answer}
-use Rattle.steps_leader.proofs.Afters.{commit-after, commit-entry}
+use Rattle.steps_leader.proofs.Afters.{commit-after, commit-places}
 use Rattle.steps_leader.proofs.commit.Statement.{statement}
 use Rattle.steps_leader.proofs.commit.Tie as tie
 
 -- the entry, and where b is found
 abbrev entry : tie.After-may-commit → tie.Start
-entry c = c .before .before .before .before .before .before .before .before .before
+entry c = c .before .before .before .before .before .before .before .before .before .before .before
 
 abbrev own : tie.After-may-commit → tie.After-seat
 own c = c .before .before .before .before
@@ -71,39 +71,52 @@ returns c g k joined =
     turns-refused (row (c .before) g k joined) (p .2) (p .0) _ (p .3) _ _ (answers (c .before) g k joined)
     (c .if1 .taken)
 
-entry-requires : tie.Need-entry-requires
-entry-requires c κs =
+value-requires : tie.Need-value-requires
+value-requires c κs =
     let h = own (c .before) .seat .ensures in
     (entry (c .before) .pre .3 .store, h .0, h .1, room (c .before) (c .if1 .left))
 
+term-requires : tie.Need-term-requires
+term-requires c κs =
+    let d = c .before in
+    let h = own (d .before) .seat .ensures in
+    (entry (d .before) .pre .3 .store2, h .0, h .1, room (d .before) (d .if1 .left))
+
 commit-requires : tie.Need-commit-requires
 commit-requires c κs =
-    subst (λ n. entry (c .before .before .before) .args .issued < n)
-    (sym (entry (c .before .before .before) .pre .3 .list))
-    (room (c .before .before .before) (c .before .before .if1 .left))
+    let d = c .before .before .before .before in
+    let s = entry (d .before) in
+    let r = room (d .before) (d .if1 .left) in
+    (subst (λ n. s .args .issued < n) (sym (s .pre .3 .list)) r, subst (λ n. s .args .issued < n) (sym (s .pre .3 .list2)) r)
 
-add-t18 : tie.Need-add-t18
-add-t18 c = search needs
+add-t23 : tie.Need-add-t23
+add-t23 c = search needs
 
 same-length : tie.Need-same-length
 same-length c = search needs
 
+same-length-2 : tie.Need-same-length-2
+same-length-2 c = search needs
+
 returns-2 : tie.Need-returns-2
 returns-2 c g k joined =
-    let d = c .before .before .before .before .before .before in
-    let z = c .before .before .before .before .before .if1 .left in
+    let m = c .before .before .before .before in
+    let v = m .before .before .before .before in
+    let f = v .before in
+    let d = f .before in
+    let z = f .if1 .left in
     let a = entry d .args in
     let p = entry d .pre in
     let e = answers d g k joined in
     let r = row d g k joined in
-    let l = c .before .before .commit .ensures
-    ∙ ap (set (now (a .list)) (a .issued))
-    (c .before .before .before .before .entry .ensures
-    ∙ commit-entry r (a .b) _ (own d .seat .ensures .2) (now (a .store))
-    (zero-accepted (outlineOf r) (commit (a .b)) (sym e ∙ z))) in
+    let q = lent (now (a .store)) (now (a .store2)) (now (a .list)) (now (a .list2)) in
+    let l = m .commit .ensures .0 ∙ ap (set (now (a .list)) (a .issued)) (v .value .ensures) in
+    let t = m .commit .ensures .1 ∙ ap (set (now (a .list2)) (a .issued)) (m .before .before .before .term .ensures) in
+    let w = (λ i. lent (now (a .store)) (now (a .store2)) (l i) (t i))
+    ∙ commit-places r q (a .b) _ (own d .seat .ensures .2) (zero-accepted (outlineOf r) (commit (a .b)) (sym e ∙ z)) in
     let n = room d z in
-    turns-accepted r (p .2) (p .0) _ (p .3) _ _ _ _ e z
-    (commit-after r (p .2) _ (p .3) (a .b) _ l n) (p .2) (omega (arith, n)) (ap (lent (now (a .store))) l)
+    turns-accepted r (p .2) (p .0) q (p .3) _ _ _ _ e z
+    (commit-after r (p .2) q (p .3) (a .b) _ w n) (p .2) (omega (arith, n)) w
 
 pub commit-spec : {M : Type 1} → statement M
 commit-spec =
@@ -115,8 +128,10 @@ commit-spec =
     counted-requires
     may-commit-requires
     returns
-    entry-requires
+    value-requires
+    term-requires
     commit-requires
-    add-t18
+    add-t23
     same-length
+    same-length-2
     returns-2)

@@ -10,11 +10,12 @@ use Rattle.trials.proofs.play.Lts as lts
 use Rattle.trials.proofs.tell.Reads as tell-reads
 
 abbrev Inv-loop : tie.InvT-loop
-Inv-loop store₀ list₀ sheet now₀ i₀ store list now i =
-    (i ≤ length sheet) × (length store ≡ length store₀) × (length list ≡ length list₀)
+Inv-loop store₀ store2₀ list₀ list2₀ sheet now₀ i₀ store store2 list list2 now i =
+    (i ≤ length sheet) × (length store ≡ length store₀) × (length store2 ≡ length store2₀)
+    × (length list ≡ length list₀) × (length list2 ≡ length list2₀)
 
 abbrev μ-loop : tie.MeasureT-loop
-μ-loop store₀ list₀ sheet now₀ i₀ store list now i = length sheet - i
+μ-loop store₀ store2₀ list₀ list2₀ sheet now₀ i₀ store store2 list list2 now i = length sheet - i
 
 loop-holds : tie.Need-loop-holds Inv-loop μ-loop
 loop-holds c = search needs
@@ -25,26 +26,26 @@ mul-k c = search needs
 add-i : tie.Need-add-i Inv-loop μ-loop
 add-i c = search needs
 
-shared-slice-read-t14 : tie.Need-shared-slice-read-t14 Inv-loop μ-loop
-shared-slice-read-t14 c = search needs
-
-add-t10 : tie.Need-add-t10 Inv-loop μ-loop
-add-t10 c = search needs
-
 shared-slice-read-t16 : tie.Need-shared-slice-read-t16 Inv-loop μ-loop
 shared-slice-read-t16 c = search needs
 
-add-t11 : tie.Need-add-t11 Inv-loop μ-loop
-add-t11 c = search needs
+add-t12 : tie.Need-add-t12 Inv-loop μ-loop
+add-t12 c = search needs
 
 shared-slice-read-t18 : tie.Need-shared-slice-read-t18 Inv-loop μ-loop
 shared-slice-read-t18 c = search needs
 
-add-t19 : tie.Need-add-t19 Inv-loop μ-loop
-add-t19 c = search needs
+add-t13 : tie.Need-add-t13 Inv-loop μ-loop
+add-t13 c = search needs
 
-shared-slice-read-t21 : tie.Need-shared-slice-read-t21 Inv-loop μ-loop
-shared-slice-read-t21 c = search needs
+shared-slice-read-t20 : tie.Need-shared-slice-read-t20 Inv-loop μ-loop
+shared-slice-read-t20 c = search needs
+
+add-t21 : tie.Need-add-t21 Inv-loop μ-loop
+add-t21 c = search needs
+
+shared-slice-read-t23 : tie.Need-shared-slice-read-t23 Inv-loop μ-loop
+shared-slice-read-t23 c = search needs
 
 tell-requires : tie.Need-tell-requires Inv-loop μ-loop
 tell-requires c κs = search needs
@@ -61,6 +62,12 @@ same-length c = search needs
 same-length-2 : tie.Need-same-length-2 Inv-loop μ-loop
 same-length-2 c = search needs
 
+same-length-3 : tie.Need-same-length-3 Inv-loop μ-loop
+same-length-3 c = search needs
+
+same-length-4 : tie.Need-same-length-4 Inv-loop μ-loop
+same-length-4 c = search needs
+
 returns : tie.Need-returns Inv-loop μ-loop
 returns c = search needs
 
@@ -73,16 +80,18 @@ play-spec =
     loop-holds
     mul-k
     add-i
-    shared-slice-read-t14
-    add-t10
     shared-slice-read-t16
-    add-t11
+    add-t12
     shared-slice-read-t18
-    add-t19
-    shared-slice-read-t21
+    add-t13
+    shared-slice-read-t20
+    add-t21
+    shared-slice-read-t23
     tell-requires
     loop-less
     loop-again
     same-length
     same-length-2
+    same-length-3
+    same-length-4
     returns)

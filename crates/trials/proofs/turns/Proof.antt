@@ -7,14 +7,14 @@ use Rattle.trials.proofs.turns.Statement.{statement}
 use Rattle.trials.proofs.turns.Tie as tie
 use Rattle.trials.proofs.turns.Reads as reads
 use Rattle.trials.proofs.turns.Lts as lts
-use Rattle.steps.proofs.step.Reads as step-reads
 
 abbrev Inv-loop : tie.InvT-loop
-Inv-loop store₀ list₀ a b times now₀ i₀ store list now i =
-    (i ≤ times) × (length store ≡ length store₀) × (length list ≡ length list₀)
+Inv-loop store₀ store2₀ list₀ list2₀ a b times now₀ i₀ store store2 list list2 now i =
+    (i ≤ times) × (length store ≡ length store₀) × (length store2 ≡ length store2₀)
+    × (length list ≡ length list₀) × (length list2 ≡ length list2₀)
 
 abbrev μ-loop : tie.MeasureT-loop
-μ-loop store₀ list₀ a b times now₀ i₀ store list now i = times - i
+μ-loop store₀ store2₀ list₀ list2₀ a b times now₀ i₀ store store2 list list2 now i = times - i
 
 loop-holds : tie.Need-loop-holds Inv-loop μ-loop
 loop-holds c = search needs
@@ -22,11 +22,8 @@ loop-holds c = search needs
 add-i : tie.Need-add-i Inv-loop μ-loop
 add-i c = search needs
 
-step-requires : tie.Need-step-requires Inv-loop μ-loop
-step-requires c κs = search needs
-
-step-requires-2 : tie.Need-step-requires-2 Inv-loop μ-loop
-step-requires-2 c κs = search needs
+both-requires : tie.Need-both-requires Inv-loop μ-loop
+both-requires c κs = search needs
 
 loop-less : tie.Need-loop-less Inv-loop μ-loop
 loop-less c = search needs
@@ -40,6 +37,12 @@ same-length c = search needs
 same-length-2 : tie.Need-same-length-2 Inv-loop μ-loop
 same-length-2 c = search needs
 
+same-length-3 : tie.Need-same-length-3 Inv-loop μ-loop
+same-length-3 c = search needs
+
+same-length-4 : tie.Need-same-length-4 Inv-loop μ-loop
+same-length-4 c = search needs
+
 returns : tie.Need-returns Inv-loop μ-loop
 returns c = search needs
 
@@ -51,10 +54,11 @@ turns-spec =
     μ-loop
     loop-holds
     add-i
-    step-requires
-    step-requires-2
+    both-requires
     loop-less
     loop-again
     same-length
     same-length-2
+    same-length-3
+    same-length-4
     returns)

@@ -1,9 +1,11 @@
 -- `listing::ending::put_ending` meets its contract: no ending is longer than the slice. Assumes nothing.
-use mathlib.Core.List.{_++_}
+use mathlib.Core.List.{List, _++_}
 use Prim.Native.Nat.{_+_, _≤_}
 use native.Mathlib.Omega.{arith}
 use lib.ListN.{length, take}
 use denote.Ref.{now}
+use Rattle.model.specs.State.{Entry}
+use Rattle.logstore.specs.Log.{pairs}
 use Rattle.cluster.specs.Layout.{registryOf, controllerOf, outlineOf}
 use Rattle.text.specs.Text.{Text}
 use Rattle.text.proofs.Laws.{fits, rest, then}
@@ -14,19 +16,22 @@ use borrow.Author.Needs.{needs}
 use Rattle.listing.proofs.ending.put_ending.Statement.{statement}
 use Rattle.listing.proofs.ending.put_ending.Tie as tie
 
-abbrev text0 : tie.Start → Text
-text0 e = ending (outlineOf (e .args .row)) (take (e .args .row .issued) (now (e .args .list)))
+abbrev all : tie.Start → List Entry
+all e = pairs (now (e .args .list)) (now (e .args .list2))
 
--- The ending is short, as the list's values are words of 32 bits.
-most : (k : tie.After-shared-slice-known) → length (text0 (k .before .before)) ≤ 6144
+abbrev text0 : tie.Start → Text
+text0 e = ending (outlineOf (e .args .row)) (take (e .args .row .issued) (all e))
+
+-- The ending is short, as the list's values are words of 32 bits and their terms are epochs.
+most : (k : tie.After-shared-slice-known) → length (text0 (k .before .before)) ≤ 8704
 most k =
     let e = k .before .before in
-    ending-most (outlineOf (e .args .row)) (now (e .args .list)) (e .pre .0)
-    (λ i. omega (arith, k .shared-slice-known .given i))
+    ending-most (outlineOf (e .args .row)) (now (e .args .list)) (now (e .args .list2)) (e .pre .0)
+    (λ i. omega (arith, k .shared-slice-known .given i)) (e .pre .1)
 
 -- What is still to be written after the call j.
 abbrev text3 : tie.Start → Text
-text3 e = receiptsLine (take (e .args .row .issued) (now (e .args .list)))
+text3 e = receiptsLine (take (e .args .row .issued) (all e))
 
 abbrev text2 : tie.Start → Text
 text2 e = boardLines (outlineOf (e .args .row)) ++ text3 e
@@ -41,11 +46,11 @@ room0 :
     (k : tie.After-shared-slice-known)
     → 0 + length (first (k .before .before) ++ text1 (k .before .before)) ≤ length (now (k .before .before .args .out))
 unfolding ending
-room0 k = let e = k .before .before in omega (arith, e .pre .2, most k)
+room0 k = let e = k .before .before in omega (arith, e .pre .4, most k)
 
 -- What was given at the start, and what is known of the list, from after the call j.
 abbrev known1 : tie.After-put-registry → tie.After-shared-slice-known
-known1 c = c .before .before .before .before
+known1 c = c .before .before .before .before .before
 
 abbrev start1 : tie.After-put-registry → tie.Start
 start1 c = known1 c .before .before
@@ -79,7 +84,7 @@ room3 c =
 
 put-registry-requires : tie.Need-put-registry-requires
 put-registry-requires c κs =
-    let k = c .before .before .before in
+    let k = c .before .before .before .before in
     let e = k .before .before in
     fits _ (first e) (text1 e) (room0 k)
 
@@ -99,7 +104,7 @@ put-receipts-requires : tie.Need-put-receipts-requires
 put-receipts-requires c κs =
     let d = c .before .before .before in
     let e = start3 d in
-    (e .pre .1, room3 d)
+    (e .pre .2, e .pre .3, room3 d)
 
 same-length : tie.Need-same-length
 same-length c = search needs

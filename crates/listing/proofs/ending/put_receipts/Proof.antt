@@ -1,27 +1,37 @@
 -- `listing::ending::put_receipts` meets its contract. Assumes nothing.
-use mathlib.Core.List.{_++_}
+use mathlib.Core.List.{List, _++_}
 use mathlib.Core.Path.{sym, subst}
 use Prim.Native.Nat.{_+_, _≤_}
 use lib.ListN.{length, take}
 use denote.Ref.{now}
+use Rattle.model.specs.State.{Entry}
+use Rattle.logstore.specs.Log.{pairs}
+use Rattle.logstore.proofs.Laws.{pairs-length}
 use Rattle.text.specs.Text.{Text, Wrote, digits}
 use Rattle.text.proofs.Laws.{fits, byte, rest, then}
 use Rattle.lines.specs.Lines.{word, newline}
-use Rattle.listing.specs.Listing.{valuesText}
+use Rattle.listing.specs.Listing.{receiptsText}
 use Rattle.listing.proofs.Endings.{receipts-is}
 use borrow.Author.Needs.{needs}
 use Rattle.listing.proofs.ending.put_receipts.Statement.{statement}
 use Rattle.listing.proofs.ending.put_receipts.Tie as tie
 
+-- The receipts, of which there are n.
+abbrev all : tie.Start → List Entry
+all e = pairs (now (e .args .list)) (now (e .args .list2))
+
+enough : (e : tie.Start) → e .args .n ≤ length (all e)
+enough e = rw (pairs-length (now (e .args .list)) (now (e .args .list2)) (e .pre .1)) (e .pre .0)
+
 -- What is still to be written after the call j.
 abbrev text3 : tie.Start → Text
 text3 e = newline
 
-abbrev values : tie.Start → Text
-values e = valuesText (take (e .args .n) (now (e .args .list)))
+abbrev given : tie.Start → Text
+given e = receiptsText (take (e .args .n) (all e))
 
 abbrev text2 : tie.Start → Text
-text2 e = values e ++ text3 e
+text2 e = given e ++ text3 e
 
 abbrev text1 : tie.Start → Text
 text1 e = digits (e .args .n) ++ text2 e
@@ -29,23 +39,23 @@ text1 e = digits (e .args .n) ++ text2 e
 room0 : (e : tie.Start) → e .args .at + length (word "receipts " ++ text1 e) ≤ length (now (e .args .out))
 room0 e =
     subst (λ t. e .args .at + length t ≤ length (now (e .args .out)))
-    (receipts-is (now (e .args .list)) (e .args .n) (e .pre .0)) (e .pre .1)
+    (receipts-is (all e) (e .args .n) (enough e)) (e .pre .2)
 
 -- What was given at the start, from after the call j.
 abbrev start1 : tie.After-put-bytes → tie.Start
-start1 c = c .before .before .before .before .before
+start1 c = c .before .before .before .before .before .before
 
 abbrev start2 : tie.After-put-number → tie.Start
 start2 c = start1 (c .before .before .before .before)
 
-abbrev start3 : tie.After-put-values → tie.Start
+abbrev start3 : tie.After-put-entries → tie.Start
 start3 c = start2 (c .before .before .before .before)
 
 slice-aggregate-put-bytes : tie.Need-slice-aggregate-put-bytes
 slice-aggregate-put-bytes c = search needs
 
 put-bytes-requires : tie.Need-put-bytes-requires
-put-bytes-requires c κs = let e = c .before .before .before .before in fits _ (word "receipts ") (text1 e) (room0 e)
+put-bytes-requires c κs = let e = c .before .before .before .before .before in fits _ (word "receipts ") (text1 e) (room0 e)
 
 -- The room that is left after the call j, then the need of the next.
 room1 : (c : tie.After-put-bytes) → c .put-bytes .result + length (text1 (start1 c)) ≤ length (c .put-bytes .last .0)
@@ -64,16 +74,16 @@ room2 c =
     let e = start2 c in
     rest (digits (e .args .n)) (text2 e) (c .put-number .ensures) (room1 (c .before .before .before .before))
 
-put-values-requires : tie.Need-put-values-requires
-put-values-requires c κs =
+put-entries-requires : tie.Need-put-entries-requires
+put-entries-requires c κs =
     let d = c .before .before .before in
     let e = start2 d in
-    (e .pre .0, fits _ (values e) (text3 e) (room2 d))
+    (e .pre .0, e .pre .1, fits _ (given e) (text3 e) (room2 d))
 
-room3 : (c : tie.After-put-values) → c .put-values .result + length (text3 (start3 c)) ≤ length (c .put-values .last .0)
+room3 : (c : tie.After-put-entries) → c .put-entries .result + length (text3 (start3 c)) ≤ length (c .put-entries .last .0)
 room3 c =
     let e = start3 c in
-    rest (values e) (text3 e) (c .put-values .ensures) (room2 (c .before .before .before .before))
+    rest (given e) (text3 e) (c .put-entries .ensures) (room2 (c .before .before .before .before))
 
 put-byte-requires : tie.Need-put-byte-requires
 put-byte-requires c κs = byte _ (room3 (c .before .before .before))
@@ -89,8 +99,8 @@ returns c =
     let e = start1 p1 in
     let w = c .before .before .put-byte in
     subst (λ t. Wrote (now (e .args .out)) (e .args .at) t (w .last .0) (w .result))
-    (sym (receipts-is (now (e .args .list)) (e .args .n) (e .pre .0)))
-    (then (p1 .put-bytes .ensures) (then (p2 .put-number .ensures) (then (p3 .put-values .ensures) (w .ensures))))
+    (sym (receipts-is (all e) (e .args .n) (enough e)))
+    (then (p1 .put-bytes .ensures) (then (p2 .put-number .ensures) (then (p3 .put-entries .ensures) (w .ensures))))
 
 pub put-receipts-spec : {M : Type 1} → statement M
 put-receipts-spec =
@@ -99,7 +109,7 @@ put-receipts-spec =
     slice-aggregate-put-bytes
     put-bytes-requires
     put-number-requires
-    put-values-requires
+    put-entries-requires
     put-byte-requires
     same-length
     returns)

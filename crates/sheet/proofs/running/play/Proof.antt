@@ -10,13 +10,13 @@ use Rattle.sheet.proofs.running.play.Tie as tie
 
 -- The ways back: from the opening to the start, to the opening, to the walk.
 abbrev start : tie.After-begin → tie.Start
-start c = c .before .before .before .before .before
+start c = c .before .before .before .before .before .before .before
 
 abbrev begun : tie.After-len2 → tie.After-begin
 begun c = c .before .before .before .before .before .before .before .before .before
 
 abbrev walked : tie.After-next → tie.After-walk
-walked c = c .before .before .before .before .before .before .before .before .before .before .before .before
+walked c = c .before .before .before .before .before .before .before .before .before .before .before .before .before .before .before .before
 
 -- The lengths that the opening's type fixes.
 shape : (c : tie.After-begin) → Shape (c .begin .result)
@@ -47,7 +47,7 @@ slice-aggregate-walk-3 c = sym (shape (begun c) .len)
 
 walk-requires : tie.Need-walk-requires
 walk-requires c κs =
-    let b = begun (c .before .before .before) in
+    let b = begun (c .before .before .before .before .before) in
     let e = start b in
     let ran = ran-none (now (e .args .sheet)) (b .begin .result) (b .begin .ensures) _ (e .pre .1) in
     (e .pre .0, shape b, ran (now (e .args .answers)) (e .pre .2))
@@ -59,10 +59,16 @@ same-length-2 : tie.Need-same-length-2
 same-length-2 c = search needs
 
 same-length-3 : tie.Need-same-length-3
-same-length-3 c =
+same-length-3 c = search needs
+
+same-length-4 : tie.Need-same-length-4
+same-length-4 c = search needs
+
+same-length-5 : tie.Need-same-length-5
+same-length-5 c =
     let w = walked c in
-    let e = start (begun (w .before .before .before .before)) in
-    w .walk .kept .1 .1 .1 .1 .1 .1 .1 .0 ∙ length-set (now (e .args .answers)) 0 0
+    let e = start (begun (w .before .before .before .before .before .before)) in
+    w .walk .kept .1 .1 .1 .1 .1 .1 .1 .1 .1 .0 ∙ length-set (now (e .args .answers)) 0 0
 
 returns : tie.Need-returns
 returns c = search needs
@@ -80,4 +86,6 @@ play-spec =
     same-length
     same-length-2
     same-length-3
+    same-length-4
+    same-length-5
     returns)

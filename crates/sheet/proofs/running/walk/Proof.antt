@@ -14,40 +14,40 @@ use Rattle.sheet.proofs.running.walk.Statement.{statement}
 use Rattle.sheet.proofs.running.walk.Tie as tie
 
 abbrev Inv-loop : tie.InvT-loop
-Inv-loop sheet joined₀ acked₀ len₀ store₀ list₀ answers₀ n g₀ c₀ views₀ issued₀ k₀
-    joined acked len store list answers g c views issued k =
+Inv-loop sheet joined₀ acked₀ len₀ store₀ store2₀ list₀ list2₀ answers₀ n g₀ c₀ views₀ issued₀ k₀
+    joined acked len store store2 list list2 answers g c views issued k =
     (k ≤ n)
     × Shape (rowOf g c views joined acked len issued)
-    × Ran sheet k (rowOf g c views joined acked len issued) (lent store list) answers
+    × Ran sheet k (rowOf g c views joined acked len issued) (lent store store2 list list2) answers
 
 abbrev μ-loop : tie.MeasureT-loop
-μ-loop sheet joined₀ acked₀ len₀ store₀ list₀ answers₀ n g₀ c₀ views₀ issued₀ k₀
-    joined acked len store list answers g c views issued k =
+μ-loop sheet joined₀ acked₀ len₀ store₀ store2₀ list₀ list2₀ answers₀ n g₀ c₀ views₀ issued₀ k₀
+    joined acked len store store2 list list2 answers g c views issued k =
     n - k
 
 -- The ways back: from the loop to the start, and in a turn of the loop from what send answered to its call, to the
 -- record and to the turn's test.
-abbrev entry : tie.After-slice-known6 Inv-loop μ-loop → tie.Start Inv-loop μ-loop
-entry c = c .before .before .before .before .before .before .before
+abbrev entry : tie.After-slice-known8 Inv-loop μ-loop → tie.Start Inv-loop μ-loop
+entry c = c .before .before .before .before .before .before .before .before .before
 
 abbrev start : tie.At-loop Inv-loop μ-loop → tie.Start Inv-loop μ-loop
 start c = entry (c .before .before .before .before)
 
 abbrev decoded : tie.After-send Inv-loop μ-loop → tie.After-decode Inv-loop μ-loop
-decoded c = c .before .before .before .before .before .before
+decoded c = c .before .before .before .before .before .before .before .before
 
 abbrev turn : tie.After-send Inv-loop μ-loop → tie.In-loop Inv-loop μ-loop
 turn c = decoded c .before
 
 abbrev sent : tie.After-s Inv-loop μ-loop → tie.After-send Inv-loop μ-loop
-sent c = c .before .before .before .before .before .before .before .before .before .before .before
+sent c = c .before .before .before .before .before .before .before .before .before .before .before .before .before .before .before
 
 -- The row and the places at a turn.
 abbrev row : tie.At-loop Inv-loop μ-loop → Cluster
 row c = let l = c .loop in rowOf (l .g) (l .c) (l .views) (l .joined) (l .acked) (l .len) (l .issued)
 
 abbrev places : tie.At-loop Inv-loop μ-loop → Places
-places c = lent (c .loop .store) (c .loop .list)
+places c = let l = c .loop in lent (l .store) (l .store2) (l .list) (l .list2)
 
 -- At a record's turn there is room for its answer.
 small : (c : tie.In-loop Inv-loop μ-loop) → c .before .loop .k + 1 < 4096
@@ -72,7 +72,7 @@ decode-requires c κs = omega arith
 
 send-requires : tie.Need-send-requires Inv-loop μ-loop
 send-requires c κs =
-    let t = c .before .before .before .before .before .before in
+    let t = c .before .before .before .before .before .before .before .before in
     let d = t .before in
     let e = start d in
     let h = d .loop .inv .2 in (
@@ -138,6 +138,12 @@ same-length-5 c = search needs
 same-length-6 : tie.Need-same-length-6 Inv-loop μ-loop
 same-length-6 c = search needs
 
+same-length-7 : tie.Need-same-length-7 Inv-loop μ-loop
+same-length-7 c = search needs
+
+same-length-8 : tie.Need-same-length-8 Inv-loop μ-loop
+same-length-8 c = search needs
+
 returns : tie.Need-returns Inv-loop μ-loop
 returns c =
     let d = c .before in
@@ -170,4 +176,6 @@ walk-spec =
     same-length-4
     same-length-5
     same-length-6
+    same-length-7
+    same-length-8
     returns)

@@ -1,0 +1,58 @@
+-- `kept::in_range` meets its contract: the tests of the numbers inside the lengths are those of the entries' terms.
+-- Assumes nothing.
+use mathlib.Core.Path.{_≡_}
+use Prim.Native.Nat.{_-_}
+use native.Mathlib.Omega.{arith}
+use denote.Ref.{now}
+use borrow.Author.Needs.{needs}
+use Rattle.refinement.specs.Refinement.{lent}
+use Rattle.kept.proofs.Terms.{kept-tests}
+use Rattle.kept.proofs.in_range.Statement.{statement}
+use Rattle.kept.proofs.in_range.Tie as tie
+
+cast-n : tie.Need-cast-n
+cast-n c = search needs
+
+sub-epochs : tie.Need-sub-epochs
+sub-epochs c = search needs
+
+part-epochs-start : tie.Need-part-epochs-start
+part-epochs-start c = search needs
+
+part-epochs-end : tie.Need-part-epochs-end
+part-epochs-end c = search needs
+
+epochs-requires : tie.Need-epochs-requires
+epochs-requires c κs = search needs
+
+logs-requires : tie.Need-logs-requires
+logs-requires c κs = search needs
+
+both-requires : tie.Need-both-requires
+both-requires c κs = search needs
+
+returns : tie.Need-returns
+returns c store list full =
+    let a = c .before .before .before .before .before .before .before .before .args in
+    let row = a .row in
+    let e : row .issued - 0 ≡ row .issued = omega arith in
+    rw (
+      c .both .ensures,
+      c .before .before .epochs .ensures,
+      c .before .logs .ensures,
+      e,
+      kept-tests row (lent store (now (a .store2)) list (now (a .list2))) full,
+    )
+
+pub in-range-spec : {M : Type 1} → statement M
+in-range-spec =
+    tie.close
+    (tie.spec
+    cast-n
+    sub-epochs
+    part-epochs-start
+    part-epochs-end
+    epochs-requires
+    logs-requires
+    both-requires
+    returns)
