@@ -1,5 +1,5 @@
 // A row as the hub keeps it, what a step answers and leaves, and what the crates of steps share: seats, checks, epochs,
-// words by number. Refusal 1 stands in ranges.
+// words by number. Refusal 1 of a row's numbers stands in ranges.
 
 ghost use mathlib.Core.Path.{_≡_};
 ghost use mathlib.Core.Bool.{true, cond};

@@ -116,7 +116,7 @@ pub fn reads(c: Controller) -> bool
     either(either(k == 0, k == 3), v.leader != 0)
 }
 
-// A row that refusal 1 lets through.
+// Refusal 1 of a row's numbers; that of its kept epochs is `kept`.
 pub fn in_range(row: Cluster) -> bool
     ensures { λ r. ⌜ r ≡ inRange (outlineOf row) ⌝ }
 {

@@ -59,7 +59,7 @@ pub record LentAsWhole (row : Cluster) (p : Places) : Type 0 where
   pub hear : (b n : ℕ) (c′ : Controller) → Hears (row .controller) (reportOf row b) n c′ → AsWhole (S.hear b) row p n c′
 
 -- So it is for every row and places that refusal 1 lets through. (If it does not, the fault may be in a part of the row
--- that a call lent the controller is not given. The row's type fixes the lengths of its arrays.)
+-- or in a lent place that a call lent the controller is not given. The row's type fixes the lengths of its arrays.)
 unfoldable pub PutBack : Type 0
 PutBack = (row : Cluster) (p : Places) → Shape row → valid row p ≡ true → LentAsWhole row p
 

@@ -1,7 +1,7 @@
 -- The tests of terms, one after the other, and that the terms of a row's entries are the numbers of the second store and
 -- the second list. Assumes nothing.
 use mathlib.Core.Bool.{Bool, true, false, _&&_}
-use mathlib.Core.List.{List, [], _∷_, map}
+use mathlib.Core.List.{List, map, map-map}
 use mathlib.Core.Path.{_≡_, refl, sym, ap, _∙_}
 use Prim.Native.Nat.{ℕ, suc, _+_, _<_, _≤_}
 use native.Mathlib.Numerals.{add-one}
@@ -40,9 +40,8 @@ pub from-all : (xs : List ℕ) (i : ℕ) (ok : Bool) → length xs ≤ i → eve
 from-all xs i ok h e = sym (e ∙ ap (λ ys. ok && every (map isEpoch ys)) (drop-of-length-le xs h) ∙ and-true ok)
 
 -- The tests of entries are the tests of their terms.
-terms-tests : (xs : List Entry) → termsInRange xs ≡ map isEpoch (map (λ x. x .term) xs)
-terms-tests [] = refl
-terms-tests (x ∷ xs) = ap (λ ts. isEpoch (x .term) ∷ ts) (terms-tests xs)
+terms-tests : (xs : List Entry) → termsInRange xs ≡ every (map isEpoch (map (λ x. x .term) xs))
+terms-tests xs = sym (ap every (map-map isEpoch (λ x. x .term) xs))
 
 -- Those of a row are the tests of the numbers inside its lengths.
 pub kept-tests : (row : Cluster) (p : Places) → Full p
@@ -51,11 +50,11 @@ pub kept-tests : (row : Cluster) (p : Places) → Full p
     && every (eight (λ b. every (map isEpoch (logOf (p .store2) b (at 0 (row .len) b))))))
 kept-tests row p full =
     let store = full .store ∙ sym (full .store2) in
-    let log : (b : ℕ) → every (termsInRange (abs row p .log b))
+    let log : (b : ℕ) → termsInRange (abs row p .log b)
     ≡ every (map isEpoch (logOf (p .store2) b (at 0 (row .len) b))) =
-    λ b. ap every (terms-tests (abs row p .log b)
-    ∙ ap (map isEpoch) (log-terms (p .store) (p .store2) b (at 0 (row .len) b) store)) in
-    let list : every (termsInRange (abs row p .committed)) ≡ every (map isEpoch (take (row .issued) (p .list2))) =
-    ap every (terms-tests (abs row p .committed)
-    ∙ ap (map isEpoch) (take-terms (p .list) (p .list2) (row .issued) (full .list ∙ sym (full .list2)))) in
+    λ b. terms-tests (abs row p .log b)
+    ∙ ap (λ ts. every (map isEpoch ts)) (log-terms (p .store) (p .store2) b (at 0 (row .len) b) store) in
+    let list : termsInRange (abs row p .committed) ≡ every (map isEpoch (take (row .issued) (p .list2))) =
+    terms-tests (abs row p .committed) ∙ ap (λ ts. every (map isEpoch ts))
+    (take-terms (p .list) (p .list2) (row .issued) (full .list ∙ sym (full .list2))) in
     λ i. list i && every (eight (λ b. log b i))

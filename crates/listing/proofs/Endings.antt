@@ -88,13 +88,13 @@ receipts-is s n h = rw (length-take-le n s h)
 
 -- A receipt has at most sixteen bytes: a space, ten digits, `@`, four digits.
 receipts-most : (vs ts : List ℕ) (n : ℕ) → ((i : ℕ) → getD vs i 0 < 2 ^ 32)
-    → T (every (termsInRange (take n (pairs vs ts)))) → length (receiptsText (take n (pairs vs ts))) ≤ 16 * n
+    → T (termsInRange (take n (pairs vs ts))) → length (receiptsText (take n (pairs vs ts))) ≤ 16 * n
 unfolding receiptsText receiptText
 receipts-most vs ts zero h k = omega arith
 receipts-most [] ts (suc n) h k = omega arith
 receipts-most (v ∷ vs) [] (suc n) h k = omega arith
 receipts-most (v ∷ vs) (t ∷ ts) (suc n) h k =
-    let z = split-and (isEpoch t) (every (termsInRange (take n (pairs vs ts)))) k in
+    let z = split-and (isEpoch t) (termsInRange (take n (pairs vs ts))) k in
     simp length-append (omega (
       arith,
       digits-most-10 v (h 0),
@@ -111,7 +111,7 @@ line-of-receipts s n k =
 
 module _ (m : M.Outline) (list list2 : List ℕ) (ranges : inRange m ≡ true)
     (words : (i : ℕ) → getD list i 0 < 2 ^ 32)
-    (kept : every (termsInRange (take (m .issued) (pairs list list2))) ≡ true) where
+    (kept : termsInRange (take (m .issued) (pairs list list2)) ≡ true) where
   all : InRange m
   all = to-ranges m (of-true ranges)
 

@@ -1,6 +1,6 @@
--- A listing of document 01, with the mark and the receipts of document 02, byte for byte: the lines of its records, its ending, and its
--- slice. Cited by the promises of `deliver`, of the writers of the ending and, through `listing`, of `run_sheet`.
--- Assumes nothing.
+-- A listing of document 01, with the mark and the receipts of document 02, byte for byte: the lines of its records, its
+-- ending, and its slice. Cited by the promises of `deliver`, of the writers of the ending and, through `listing`, of
+-- `run_sheet`. Assumes nothing.
 use mathlib.Core.Bool.{cond}
 use mathlib.Core.List.{List, [], _∷_, _++_}
 use mathlib.Core.Path.{_≡_}

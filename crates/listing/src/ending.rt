@@ -1,5 +1,5 @@
-// The lines after the answers, from the row, the committed list and its terms. Inner layer: callers see to the room, and that b is
-// a replica.
+// The lines after the answers, from the row, the committed list and its terms. Inner layer: callers see to the room, and
+// that b is a replica.
 
 ghost use mathlib.Core.Bool.{true};
 ghost use mathlib.Core.Path.{_≡_};
@@ -112,7 +112,7 @@ fn put_receipts(out: &mut [u8], at: usize, list: &[u32], list2: &[u16], n: u16) 
 pub fn put_ending(out: &mut [u8], row: Cluster, list: &[u32], list2: &[u16]) -> usize
     requires { ⌜
         (inRange (outlineOf row) ≡ true)
-        × (every (termsInRange (take (row .issued) (pairs (now list) (now list2)))) ≡ true)
+        × (termsInRange (take (row .issued) (pairs (now list) (now list2))) ≡ true)
         × (row .issued ≤ length (now list)) × (length (now list) ≡ length (now list2)) × (8704 ≤ length (now out))
         ⌝ }
     ensures { λ r. ⌜

@@ -1,6 +1,6 @@
 // The log store and the committed list. The store is a lent slice of 4,096 numbers, the values: replica b owns the 512
-// places from 512 * (b - 1); a second slice has the terms (leader epochs) at the same places. Inner layer: callers see
-// to it that b is a replica, 1 to 8, and that a place is inside its log.
+// places from 512 * (b - 1). A second store and a second list have the terms (leader epochs) at the same places. Inner
+// layer: callers see to it that b is a replica, 1 to 8, and that a place is inside its log.
 
 ghost use mathlib.Core.Path.{_≡_};
 ghost use Prim.Native.Nat.{_<_, _≤_};
@@ -22,13 +22,13 @@ pub fn append(part: &mut [u32], terms: &mut [u16], at: usize, v: u32, t: u16)
 
 // A replica's own parts get an entry of its leader's log at the end of its own: the same write as append; document 01
 // names both as what a part is lent on to. Inner layer: callers see to the place.
-pub fn receive(part: &mut [u32], terms: &mut [u16], at: usize, v: u32, t: u16)
+pub fn receive(part: &mut [u32], terms: &mut [u16], at: usize, v: u32, e: u16)
     requires { ⌜ (at < length (now part)) × (at < length (now terms)) ⌝ }
     ensures { λ r. ⌜ (now (part .exit) ≡ set (now (part .entry)) at v)
-        × (now (terms .exit) ≡ set (now (terms .entry)) at t) ⌝ }
+        × (now (terms .exit) ≡ set (now (terms .entry)) at e) ⌝ }
 {
     part[at] = v;
-    terms[at] = t;
+    terms[at] = e;
 }
 
 // Replica b's log of len entries gets the value v under the term t; b's parts alone are lent on. Inner layer: callers

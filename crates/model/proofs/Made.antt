@@ -107,15 +107,15 @@ module _ (𝓔 : Entries) (P : 𝓔 .Entry → Type 0) (made : (v t : ℕ) → I
 abbrev pub TermIn : Entry → Type 0
 TermIn x = IsEpoch (x .term)
 
-terms-in : (xs : List Entry) → All TermIn xs → T (every (termsInRange xs))
+terms-in : (xs : List Entry) → All TermIn xs → T (termsInRange xs)
 terms-in [] h = tt
-terms-in (x ∷ xs) h = join-and (isEpoch (x .term)) (every (termsInRange xs)) (to-epoch (x .term) (h .0)) (terms-in xs (h .1))
+terms-in (x ∷ xs) h = join-and (isEpoch (x .term)) (termsInRange xs) (to-epoch (x .term) (h .0)) (terms-in xs (h .1))
 
 pub kept-in : {s : RowState} → Kept TermIn s → T (keptInRange s)
 kept-in {s} m =
-    join-and (every (termsInRange (s .committed))) (every (eight (λ b. every (termsInRange (s .log b)))))
+    join-and (termsInRange (s .committed)) (every (eight (λ b. termsInRange (s .log b))))
     (terms-in (s .committed) (m .committed))
-    (to-eight (λ b. every (termsInRange (s .log b))) (λ b _. terms-in (s .log b) (m .logs b)))
+    (to-eight (λ b. termsInRange (s .log b)) (λ b _. terms-in (s .log b) (m .logs b)))
 
 pub terms-made : (v t : ℕ) → IsEpoch t → TermIn (entries .make v t)
 terms-made v t h = h

@@ -1,4 +1,4 @@
--- The ranges of document 01, "The row", and the leaders that refusal 1 asks for. Cited by the promise of `ranges` and
+-- The ranges of document 01, "The row", the leaders that refusal 1 asks for, and the kept epochs of document 02. Cited by the promise of `ranges` and
 -- by every call's. Assumes nothing.
 use mathlib.Core.Bool.{Bool, true, not, _&&_, _||_}
 use mathlib.Core.List.{List, [], _∷_, map}
@@ -51,16 +51,16 @@ module _ (m : Outline) where
       ∷ leb issued 512
       ∷ every (eight (λ b. every (replicaRanges b))) ∷ []
 
-  -- A row that refusal 1 lets through.
+  -- The numbers of a row that refusal 1 lets through.
   abbrev pub inRange : Bool
   inRange = every ranges
 
 -- "The kept epoch of an entry inside its log or the receipts is 1 to 4,000" (document 02, Paper 4).
-abbrev pub termsInRange : List Entry → List Bool
-termsInRange xs = map (λ x. isEpoch (x .term)) xs
+abbrev pub termsInRange : List Entry → Bool
+termsInRange xs = every (map (λ x. isEpoch (x .term)) xs)
 
 abbrev pub keptInRange : RowState → Bool
-keptInRange s = every (termsInRange (s .committed)) && every (eight (λ b. every (termsInRange (s .log b))))
+keptInRange s = termsInRange (s .committed) && every (eight (λ b. termsInRange (s .log b)))
 
 -- No state of a run earns refusal 1.
 unfoldable pub RunsInRange : Type 0

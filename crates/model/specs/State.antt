@@ -10,7 +10,7 @@ use lib.ListN.{length}
 use Rattle.model.specs.Members.{Members, isReplica, none, only}
 
 -- What an entry is: made of a value and the term of the replica that appends it, with a test for equality.
--- No rule and no proof looks inside an entry.
+-- No step and no proof of demand 3 looks inside an entry.
 pub record Entries : Type 1 where
   pub Entry : Type 0
   pub make : ℕ → ℕ → Entry

@@ -1,20 +1,27 @@
--- The trials of document 01 marked P as one table, and the others. What P2 says of a sheet stands in the crate `sheet`.
+-- The trials of document 01 marked P as one table, and the others, two of them of document 02. What P2 says of a sheet stands in the crate `sheet`.
 -- Cited by the promise of `trials`. Assumes nothing.
 use mathlib.Core.Bool.{Bool, true, false, _&&_}
 use mathlib.Core.List.{List, [], _∷_, _++_}
 use Prim.Native.Nat.{ℕ, zero, suc}
 use lib.Dec.{T, eqb}
-use lib.ListN.{length, getD, replicate}
+use lib.ListN.{length, replicate}
 use Rattle.model.specs.Members.{size, quorum}
 use Rattle.model.specs.State.{Entry, entry, sameEntry, entries, RowState, openingWith, canOpen, opened, openAnswer, isNormal}
 use Rattle.model.specs.Records.{Record, bare, of, ofBoth, ofValue}
 use Rattle.model.specs.Runs.{stepsOf, run, answers}
 
+-- Two lists are the same, by a test of their elements.
+abbrev pub sameBy : {A : Type 0} → (A → A → Bool) → List A → List A → Bool
+sameBy same [] [] = true
+sameBy same [] (y ∷ ys) = false
+sameBy same (x ∷ xs) [] = false
+sameBy same (x ∷ xs) (y ∷ ys) = same x y && sameBy same xs ys
+
 abbrev pub sameList : List ℕ → List ℕ → Bool
-sameList [] [] = true
-sameList [] (y ∷ ys) = false
-sameList (x ∷ xs) [] = false
-sameList (x ∷ xs) (y ∷ ys) = eqb x y && sameList xs ys
+sameList = sameBy eqb
+
+abbrev pub sameEntries : List Entry → List Entry → Bool
+sameEntries = sameBy sameEntry
 
 -- A row of the table.
 pub data Trial : Type 0 where
@@ -115,34 +122,39 @@ inFour s =
     news : ℕ → Bool
     news b = eqb (s .view b .epoch) (s .registry .view .epoch) && eqb (length (s .log b)) 0
 
--- The one sale of 41 under term t.
-abbrev only : List Entry → ℕ → Bool
-only xs t = eqb (length xs) 1 && sameEntry (getD xs 0 (entry 0 0)) (entry 41 t)
+-- "Change; 2, 3 and the controller take news; 2 and 3 are heard; 2 is installed, takes news".
+abbrev secondLeads : List Record
+secondLeads = bare 5 ∷ of 6 2 ∷ of 6 3 ∷ bare 10 ∷ of 14 2 ∷ of 14 3 ∷ of 15 2 ∷ of 6 2 ∷ []
 
--- "1 appends 41, only 4 receives it. Change; 2, 3 and the controller take news; 2 and 3 are heard; 2 is installed,
--- takes news, appends 42. Board 4 takes news; 2 counting 4 gives 11; 4 joins and its log is empty."
+-- "1 appends 41, only 4 receives it", then that; 2 "appends 42. Board 4 takes news; 2 counting 4 gives 11; 4 joins and
+-- its log is empty."
 abbrev four : Trial
 four = running 1
-    (fourReady ++ (ofValue 1 1 41 ∷ of 8 4 ∷ bare 5 ∷ of 6 2 ∷ of 6 3 ∷ bare 10 ∷ of 14 2 ∷ of 14 3 ∷ of 15 2 ∷ of 6 2
-    ∷ ofValue 1 2 42
-    ∷ of 6 4 ∷ ofBoth 9 2 4 ∷ of 7 4 ∷ []))
+    (fourReady ++ ((ofValue 1 1 41 ∷ of 8 4 ∷ []) ++ (secondLeads
+    ++ (ofValue 1 2 42 ∷ of 6 4 ∷ ofBoth 9 2 4 ∷ of 7 4 ∷ []))))
     (replicate 25 0 ++ (11 ∷ 0 ∷ []))
     (λ s. eqb (length (s .log 4)) 0)
 
--- Document 02, Paper 4, worked out by hand: "Two tills sold the same item at the same price". As the trial before, but 2
--- appends 41 too, under leader epoch 7. Board 4's 41 of leader epoch 1 is another sale: 4 joins and its log is empty.
+-- Document 02, Paper 4, worked out by hand: "Two tills sold the same item at the same price". 1 appends 40, which 2 and
+-- 4 receive, then 41, which 4 alone receives. 2 leads, under leader epoch 7, and appends 41 too. 4 takes news and joins:
+-- its own 41 is another sale, and its log is cut to 40.
 abbrev twoSales : List Record
 twoSales =
-    fourReady ++ (ofValue 1 1 41 ∷ of 8 4 ∷ bare 5 ∷ of 6 2 ∷ of 6 3 ∷ bare 10 ∷ of 14 2 ∷ of 14 3 ∷ of 15 2 ∷ of 6 2
-    ∷ ofValue 1 2 41 ∷ of 6 4 ∷ of 7 4 ∷ [])
+    fourReady ++ ((ofValue 1 1 40 ∷ of 8 2 ∷ of 8 4 ∷ ofValue 1 1 41 ∷ of 8 4 ∷ []) ++ (secondLeads
+    ++ (ofValue 1 2 41 ∷ of 6 4 ∷ of 7 4 ∷ [])))
 
 abbrev cut : Trial
-cut = running 1 twoSales (replicate 26 0) (λ s. eqb (length (s .log 4)) 0 && only (s .log 1) 1 && only (s .log 2) 7)
+cut = running 1 twoSales (replicate 29 0)
+    (λ s. sameEntries (s .log 4) (entry 40 1 ∷ [])
+    && sameEntries (s .log 1) (entry 40 1 ∷ entry 41 1 ∷ [])
+    && sameEntries (s .log 2) (entry 40 1 ∷ entry 41 7 ∷ []))
 
--- Board 4 receives the sale of 2, is counted, and a receipt is given for it; what 1 goes on to sell is of leader epoch 1.
+-- 4 receives the sale of 2 and is counted; two receipts are given; and 1, which was replaced, goes on selling.
 abbrev resold : Trial
-resold = running 1 (twoSales ++ (of 8 4 ∷ ofBoth 9 2 4 ∷ of 2 2 ∷ ofValue 1 1 41 ∷ [])) (replicate 30 0)
-    (λ s. only (s .log 4) 7 && only (s .committed) 7 && sameEntry (getD (s .log 1) 1 (entry 0 0)) (entry 41 1))
+resold = running 1 (twoSales ++ (of 8 4 ∷ ofBoth 9 2 4 ∷ of 2 2 ∷ of 2 2 ∷ ofValue 1 1 41 ∷ [])) (replicate 34 0)
+    (λ s. sameEntries (s .log 4) (entry 40 1 ∷ entry 41 7 ∷ [])
+    && sameEntries (s .committed) (entry 40 1 ∷ entry 41 7 ∷ [])
+    && sameEntries (s .log 1) (entry 40 1 ∷ entry 41 1 ∷ entry 41 1 ∷ []))
 
 -- No trial of document 01, but its rules worked out by hand: every answer of steps 7 and 8.
 abbrev follower : Trial

@@ -1,4 +1,4 @@
-// What is proved of the rules of document 01 alone. Nothing here is to be run: each function is the carrier of a
+// What is proved of the papers' rules alone. Nothing here is to be run: each function is the carrier of a
 // statement, which is its promise.
 
 ghost use Rattle.model.specs.Claim.{DemandThree};
@@ -28,8 +28,8 @@ pub fn records()
     ensures { λ r. ⌜ Forms ⌝ }
 {}
 
-// The trials of document 01 hold of the definitions: P1 to P9, the three longer ones, and
-// two that have every answer of steps 7 and 8.
+// The trials of document 01 hold of the definitions: P1 to P9 and the three longer ones; two more that have every answer
+// of steps 7 and 8; and two of document 02, Paper 4, with one value sold under two leader epochs.
 pub fn trials()
     ensures { λ r. ⌜ TrialsHold × OthersHold ⌝ }
 {}

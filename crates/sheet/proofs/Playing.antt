@@ -116,12 +116,12 @@ module _ (s : Text) (sheet : isSheet s ≡ true) (k : ℕ) (row : Cluster) (p : 
   kept-fits : T (keptInRange (stateAt s k))
   kept-fits = kept-in (all-made entries TermIn terms-made opening (sheet-real s sheet) past)
 
-  pub ran-terms : every (termsInRange (abs row p .committed)) ≡ true
+  pub ran-terms : termsInRange (abs row p .committed) ≡ true
   ran-terms =
-      ap (λ (x : RowState). every (termsInRange (x .committed))) (h .state)
-      ∙ is-true (every (termsInRange (stateAt s k .committed)))
-      (split-and (every (termsInRange (stateAt s k .committed)))
-      (every (eight (λ b. every (termsInRange (stateAt s k .log b))))) kept-fits .0)
+      ap (λ (x : RowState). termsInRange (x .committed)) (h .state)
+      ∙ is-true (termsInRange (stateAt s k .committed))
+      (split-and (termsInRange (stateAt s k .committed))
+      (every (eight (λ b. termsInRange (stateAt s k .log b)))) kept-fits .0)
 
   pub ran-issued : row .issued ≤ length (p .list)
   ran-issued = omega (arith, h .full .list, to-ranges (outlineOf row) (of-true ran-fits) .committed)

@@ -1,4 +1,4 @@
--- Sheets and listings of document 01, byte for byte, through the model's run; the records stand in the crate records,
+-- Sheets and listings of the papers, byte for byte, through the model's run; the records stand in the crate records,
 -- single lines in lines, the parts of a listing in listing. Cited by the promises of `run_sheet` and `sample`.
 -- Assumes nothing.
 use mathlib.Core.Bool.{true, cond, _&&_}
@@ -45,7 +45,8 @@ left s out = cond (isSheet s && leb (length (listing s)) (length out)) (over out
 
 -- Trials
 
--- The paper's sample: opening 1; append 1, 41; receipt by 1; add 2.
+-- The sample of document 01: opening 1; append 1, 41; receipt by 1; add 2. Its listing as document 02 has it: boards
+-- `late` (Paper 1), the receipt `41@1` (Paper 4).
 abbrev pub sampleSheet : Text
 sampleSheet =
     0 ∷ 1 ∷ 0 ∷ 0 ∷ 0 ∷ 0 ∷ 0 ∷ 0

@@ -6,7 +6,7 @@ ghost use Rattle.sheet.specs.Sheet.{SampleHolds, RoomHolds, RefusedHolds
 
 mod running;
 
-// The paper's sample sheet has the paper's listing, byte for byte; short slices and bad openings are refused; no
+// The papers' sample sheet has the papers' listing, byte for byte; short slices and bad openings are refused; no
 // listing is so short that its length could be a refusal. By the definitions: nothing to run.
 pub fn sample()
     ensures { λ r. ⌜ SampleHolds × RoomHolds × RefusedHolds × LengthsTell × TrialsHold ⌝ }

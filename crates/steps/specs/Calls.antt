@@ -52,7 +52,7 @@ pub record Follows (o : Opening) (sts : List Step) (h : Held) (ns : List ℕ) : 
   pub outlined : outlineOf (h .row) ≡ outline (after entries o sts)
   -- No row of a run earns refusal 1.
   pub fit : valid (h .row) (h .places) ≡ true
-  -- The receipts given are the first entries of the log of the leader that the registry names; the list holds just
+  -- The receipts given are the first entries of the log of the leader that the registry names; the two lists hold just
   -- them.
   pub leading : h .row .registry .view .leader ≢ 0
       → receipts entries o sts ⊑ stateOf h .log (h .row .registry .view .leader)

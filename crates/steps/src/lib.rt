@@ -11,6 +11,7 @@ ghost use Rattle.refinement.specs.Refinement.{lent, Full, Shape, Ready, Turns};
 ghost use Rattle.refinement.specs.Rows.{RowsFixed};
 ghost use Rattle.steps_central.specs.Opening.{Opens};
 ghost use Rattle.steps.specs.Calls.{CallsSafe, NamesHold};
+ghost use Rattle.steps.specs.Refusals.{RefusalsHold};
 ghost use Rattle.records.specs.Record.{recordOf};
 ghost use Rattle.steps.specs.Call.{lengthsFit, valid, Did, shownValues, shownTerms, shownAt};
 use cluster::Cluster;
@@ -627,4 +628,10 @@ pub fn visible_terms<'a>(
 // held before. Nothing to run: the promise is the statement.
 pub fn claim()
     ensures { λ r. ⌜ CallsSafe × NamesHold × RowsFixed ⌝ }
+{}
+
+// Refusal 1 of kept epochs and of the second pair's lengths, on rows and places worked out by hand. By the definitions:
+// nothing to run.
+pub fn refusals()
+    ensures { λ r. ⌜ RefusalsHold ⌝ }
 {}

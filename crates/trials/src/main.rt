@@ -1,6 +1,6 @@
-// The trials of document 01 on the calls, and one of document 02, Paper 4: after each trial's name, the answers in order.
-// P1 is about majorities, which no step answers: `model` proves it. The lent places hold what no entry may: only those
-// inside a length are looked at.
+// The trials of document 01 on the calls, and three of document 02, Paper 4: after each trial's name, the answers in
+// order. P1 is about majorities, which no step answers: `model` proves it. At first every place of the second store and
+// the second list holds what no entry may: only places inside a length are looked at.
 use cluster::Cluster;
 use records::Record;
 
@@ -183,6 +183,8 @@ fn main() {
     worn();
     four();
     sales();
+    vacant();
+    kept();
 }
 
 // The trials that go on from each other.
@@ -445,21 +447,23 @@ fn four() {
     length(b);
 }
 
-// Shows the first entry of the shown list, value and term, both below 256 here.
-fn first<'a>(row: Cluster, store: &'a [u32], store2: &'a [u16], list: &'a [u32], list2: &'a [u16]) {
+// Shows how long the shown list is, and its last entry, value and term; all are below 256 here.
+fn last<'a>(row: Cluster, store: &'a [u32], store2: &'a [u16], list: &'a [u32], list2: &'a [u16]) {
     io::write_all(1, b"shown ");
     let v = steps::visible(row, store, store2, list, list2);
-    if v.len() != 0 {
-        show((v[0] % 256) as u8);
+    show((v.len() % 256) as u8);
+    if 0 < v.len() {
+        show((v[v.len() - 1] % 256) as u8);
     }
     let t = steps::visible_terms(row, store, store2, list, list2);
-    if t.len() != 0 {
-        show((t[0] % 256) as u8);
+    if 0 < t.len() {
+        show((t[t.len() - 1] % 256) as u8);
     }
 }
 
-// Document 02, Paper 4: as the last case, but 2 appends 41 too. Board 4's 41 is another sale: it joins and its log is
-// empty. Then it receives the sale of 2, is counted, and a receipt is given.
+// Document 02, Paper 4: 1 appends 40, which 2 and 4 receive, then 41, which 4 alone receives. 2 leads, under leader
+// epoch 7, and appends 41 too. Board 4's own 41 is another sale: it joins, and its log is cut to 40. Then it receives the
+// sale of 2, is counted, and two receipts are given.
 fn sales() {
     let mut store = [7u32; 4096];
     let mut store2 = [65535u16; 4096];
@@ -469,6 +473,18 @@ fn sales() {
     let a = four_ready(&mut store, &mut store2, &mut list, &mut list2);
     let rest = [
         1u8,
+        1,
+        0,
+        40,
+        8,
+        2,
+        0,
+        0,
+        8,
+        4,
+        0,
+        0,
+        1,
         1,
         0,
         41,
@@ -523,8 +539,83 @@ fn sales() {
     ];
     let b = play(a, &mut store, &mut store2, &mut list, &mut list2, &rest);
     length(b);
-    let end = [8u8, 4, 0, 0, 9, 2, 4, 0, 2, 2, 0, 0];
+    let end = [8u8, 4, 0, 0, 9, 2, 4, 0, 2, 2, 0, 0, 2, 2, 0, 0];
     let c = play(b, &mut store, &mut store2, &mut list, &mut list2, &end);
-    first(c, &store, &store2, &list, &list2);
+    last(c, &store, &store2, &list, &list2);
+}
+
+// While no leader is named the receipts are shown: 1 appends 41, 2 and 3 receive it and are counted, a receipt is given,
+// and the leader is changed.
+fn vacant() {
+    let mut store = [7u32; 4096];
+    let mut store2 = [65535u16; 4096];
+    let mut list = [7u32; 512];
+    let mut list2 = [65535u16; 512];
+    io::write_all(1, b"\nvacant ");
+    let a = four_ready(&mut store, &mut store2, &mut list, &mut list2);
+    let rest = [
+        1u8,
+        1,
+        0,
+        41,
+        8,
+        2,
+        0,
+        0,
+        8,
+        3,
+        0,
+        0,
+        9,
+        1,
+        2,
+        0,
+        9,
+        1,
+        3,
+        0,
+        2,
+        1,
+        0,
+        0,
+        5,
+        0,
+        0,
+        0,
+    ];
+    let b = play(a, &mut store, &mut store2, &mut list, &mut list2, &rest);
+    last(b, &store, &store2, &list, &list2);
+}
+
+// Kept epochs: 1 appends 41; a receipt with that entry's epoch made 0, 4,001 and 4,000; adding 2 with the receipt's made
+// 0 and 1. A refused row shows nothing.
+fn kept() {
+    let mut store = [7u32; 4096];
+    let mut store2 = [65535u16; 4096];
+    let mut list = [7u32; 512];
+    let mut list2 = [65535u16; 512];
+    io::write_all(1, b"\nkept ");
+    let append = [1u8, 1, 0, 41];
+    let receipt = [2u8, 1, 0, 0];
+    let add = [3u8, 2, 0, 0];
+    let a = play(
+        opened(1),
+        &mut store,
+        &mut store2,
+        &mut list,
+        &mut list2,
+        &append,
+    );
+    store2[0] = 0;
+    let b = play(a, &mut store, &mut store2, &mut list, &mut list2, &receipt);
+    last(b, &store, &store2, &list, &list2);
+    store2[0] = 4001;
+    let c = play(b, &mut store, &mut store2, &mut list, &mut list2, &receipt);
+    store2[0] = 4000;
+    let d = play(c, &mut store, &mut store2, &mut list, &mut list2, &receipt);
+    list2[0] = 0;
+    let e = play(d, &mut store, &mut store2, &mut list, &mut list2, &add);
+    list2[0] = 1;
+    play(e, &mut store, &mut store2, &mut list, &mut list2, &add);
     io::write_all(1, b"\n");
 }
