@@ -1,5 +1,5 @@
--- The tests of terms, one after the other, and that the terms of a row's entries are the numbers of the second store and
--- the second list. Assumes nothing.
+-- The tests of terms, one after the other, and that the terms of a row's entries are the numbers of the second store
+-- and the second list. Assumes nothing.
 use mathlib.Core.Bool.{Bool, true, false, _&&_}
 use mathlib.Core.List.{List, map, map-map}
 use mathlib.Core.Path.{_≡_, refl, sym, ap, _∙_}

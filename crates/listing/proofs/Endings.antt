@@ -45,7 +45,8 @@ replica-is views joined len r b h = rw (at-index noView views b h, at-index 0 jo
 receipts-append : (xs ys : List Entry) → receiptsText (xs ++ ys) ≡ receiptsText xs ++ receiptsText ys
 unfolding receiptsText
 receipts-append [] ys = refl
-receipts-append (x ∷ xs) ys = rw (receipts-append xs ys, append-assoc (receiptText x) (receiptsText xs) (receiptsText ys))
+receipts-append (x ∷ xs) ys =
+    rw (receipts-append xs ys, append-assoc (receiptText x) (receiptsText xs) (receiptsText ys))
 
 -- The first i receipts and then the next are the first i + 1.
 pub receipts-next : (s : List Entry) (i : ℕ) → i < length s

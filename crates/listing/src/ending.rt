@@ -1,5 +1,5 @@
-// The lines after the answers, from the row, the committed list and its terms. Inner layer: callers see to the room, and
-// that b is a replica.
+// The lines after the answers, from the row, the committed list and its terms. Inner layer: callers see to the room,
+// and that b is a replica.
 
 ghost use mathlib.Core.Bool.{true};
 ghost use mathlib.Core.Path.{_≡_};
@@ -107,8 +107,8 @@ fn put_receipts(out: &mut [u8], at: usize, list: &[u32], list2: &[u16], n: u16) 
 }
 
 // Writes the ending at the start of a slice: the registry, the controller, the replicas, the receipts. Inner layer:
-// callers see to it that the row and the kept epochs of its receipts are in range, the two lists as long as it says, and
-// the slice long enough for any ending.
+// callers see to it that the row and the kept epochs of its receipts are in range, the two lists as long as it says,
+// and the slice long enough for any ending.
 pub fn put_ending(out: &mut [u8], row: Cluster, list: &[u32], list2: &[u16]) -> usize
     requires { ⌜
         (inRange (outlineOf row) ≡ true)

@@ -115,7 +115,8 @@ pub part-set :
 part-set s part a n v h k e = rw e (set-mid-at a (a + 512 - a) n s v (rw (mid-len a (a + 512) s h) (omega arith)))
 
 -- A list of n entries, as the committed one, that gets v has v at its end.
-pub list-gains : {A : Type 0} (s : List A) (n : ℕ) (v : A) → n < length s → take (n + 1) (set s n v) ≡ take n s ++ (v ∷ [])
+pub list-gains : {A : Type 0} (s : List A) (n : ℕ) (v : A) → n < length s
+    → take (n + 1) (set s n v) ≡ take n s ++ (v ∷ [])
 list-gains s n v h = rw (add-one n, take-suc-set s n v h)
 
 -- Logs
@@ -189,7 +190,8 @@ module _ {A : Type 0} (same : A → A → Bool) where
   pub shared-next : (d : A) (xs ys : List A) (i : ℕ) → i < length xs → i < length ys
       → sharedFrom xs ys i ≡ cond (same (getD xs i d) (getD ys i d)) (suc (sharedFrom xs ys (i + 1))) 0
   shared-next d xs ys i h k =
-      rw (add-one i, drop-cons xs i d h, drop-cons ys i d k) (counted (getD xs i d) _ (same (getD xs i d) (getD ys i d)))
+      rw (add-one i, drop-cons xs i d h, drop-cons ys i d k)
+      (counted (getD xs i d) _ (same (getD xs i d) (getD ys i d)))
 
 -- The log of a replica b in a whole store
 module _ {A : Type 0} (s : List A) (full : length s ≡ 4096) (b : ℕ) (low : 1 ≤ b) (high : b ≤ 8) (n : ℕ) where

@@ -56,13 +56,14 @@ module _ (𝓔 : Entries) (P : 𝓔 .Entry → Type 0) (made : (v t : ℕ) → I
 
     keeps : (st : Step) → Holds (checks (outline s) st) → Kept P (next 𝓔 s st)
     keeps (append b v) h = record {
-      logs = all-upd P log b _ (m .logs) (all-snoc P (log b) _ (m .logs b) (made v (view b .term) (view-in i k b (h 1) .term)));
+      logs = all-upd P log b _ (m .logs)
+          (all-snoc P (log b) _ (m .logs b) (made v (view b .term) (view-in i k b (h 1) .term)));
       committed = m .committed;
     }
     keeps (commit b) h = record {
       logs = m .logs;
-      committed = all-snoc P committed _ (m .committed)
-          (all-at P (log b) (length committed) (make 0 0) (ltb→lt (length committed) (length (log b)) (h 12)) (m .logs b));
+      committed = all-snoc P committed _ (m .committed) (all-at P (log b) (length committed) (make 0 0)
+          (ltb→lt (length committed) (length (log b)) (h 12)) (m .logs b));
     }
     keeps (join b) h = record {
       logs = all-upd P log b _ (m .logs) (all-shared P same (log b) (log (view b .leader)) (m .logs b));
@@ -72,7 +73,8 @@ module _ (𝓔 : Entries) (P : 𝓔 .Entry → Type 0) (made : (v t : ℕ) → I
         let o = view b .leader in
         record {
           logs = all-upd P log b _ (m .logs) (all-snoc P (log b) _ (m .logs b)
-              (all-at P (log o) (length (log b)) (make 0 0) (ltb→lt (length (log b)) (length (log o)) (h 12)) (m .logs o)));
+              (all-at P (log o) (length (log b)) (make 0 0)
+              (ltb→lt (length (log b)) (length (log o)) (h 12)) (m .logs o)));
           committed = m .committed;
         }
     keeps (add b) h = record { logs = m .logs; committed = m .committed }

@@ -1,5 +1,5 @@
--- The ranges of document 01, "The row", the leaders that refusal 1 asks for, and the kept epochs of document 02. Cited by the promise of `ranges` and
--- by every call's. Assumes nothing.
+-- The ranges of document 01, "The row", the leaders that refusal 1 asks for, and the kept epochs of document 02. Cited
+-- by the promise of `ranges` and by every call's. Assumes nothing.
 use mathlib.Core.Bool.{Bool, true, not, _&&_, _||_}
 use mathlib.Core.List.{List, [], _∷_, map}
 use Prim.Native.Nat.{ℕ}

@@ -341,8 +341,8 @@ module _ (𝓔 : Entries) where
 
     -- The state after an accepted step.
     abbrev pub next : Step → State Entry
-    -- 1. "The value is added; b's count for itself becomes the length." The entry "carries the leader epoch of the board
-    -- that appended it" (document 02, Paper 4).
+    -- 1. "The value is added; b's count for itself becomes the length." The entry "carries the leader epoch of the
+    -- board that appended it" (document 02, Paper 4).
     next (append b value) =
         withAcked (withLog s b (log b ++ (make value (view b .term) ∷ []))) b (upd (acked b) b (suc (length (log b))))
     -- 2. "The next entry of b's log joins the receipts."

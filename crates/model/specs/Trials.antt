@@ -1,5 +1,5 @@
--- The trials of document 01 marked P as one table, and the others, two of them of document 02. What P2 says of a sheet stands in the crate `sheet`.
--- Cited by the promise of `trials`. Assumes nothing.
+-- The trials of document 01 marked P as one table, and the others, two of them of document 02. What P2 says of a sheet
+-- stands in the crate `sheet`. Cited by the promise of `trials`. Assumes nothing.
 use mathlib.Core.Bool.{Bool, true, false, _&&_}
 use mathlib.Core.List.{List, [], _∷_, _++_}
 use Prim.Native.Nat.{ℕ, zero, suc}
@@ -136,8 +136,8 @@ four = running 1
     (λ s. eqb (length (s .log 4)) 0)
 
 -- Document 02, Paper 4, worked out by hand: "Two tills sold the same item at the same price". 1 appends 40, which 2 and
--- 4 receive, then 41, which 4 alone receives. 2 leads, under leader epoch 7, and appends 41 too. 4 takes news and joins:
--- its own 41 is another sale, and its log is cut to 40.
+-- 4 receive, then 41, which 4 alone receives. 2 leads, under leader epoch 7, and appends 41 too. 4 takes news and
+-- joins: its own 41 is another sale, and its log is cut to 40.
 abbrev twoSales : List Record
 twoSales =
     fourReady ++ ((ofValue 1 1 40 ∷ of 8 2 ∷ of 8 4 ∷ ofValue 1 1 41 ∷ of 8 4 ∷ []) ++ (secondLeads

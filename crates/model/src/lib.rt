@@ -28,8 +28,8 @@ pub fn records()
     ensures { λ r. ⌜ Forms ⌝ }
 {}
 
-// The trials of document 01 hold of the definitions: P1 to P9 and the three longer ones; two more that have every answer
-// of steps 7 and 8; and two of document 02, Paper 4, with one value sold under two leader epochs.
+// The trials of document 01 hold of the definitions: P1 to P9 and the three longer ones; two more that have every
+// answer of steps 7 and 8; and two of document 02, Paper 4, with one value sold under two leader epochs.
 pub fn trials()
     ensures { λ r. ⌜ TrialsHold × OthersHold ⌝ }
 {}

@@ -15,8 +15,7 @@ use Rattle.model.specs.Claim.{receipts}
 use Rattle.model.proofs.Theorem.{safe}
 use Rattle.cluster.specs.declared.Cluster.{Cluster}
 use Rattle.cluster.specs.Layout.{outlineOf}
-use Rattle.refinement.specs.Refinement as Refinement
-use Rattle.refinement.specs.Refinement.{Places}
+use Rattle.refinement.specs.Refinement.{Places, listed}
 use Rattle.text.specs.Text.{Text, over}
 use Rattle.text.proofs.Laws.{over-length, digits-one-length}
 use Rattle.records.specs.Bytes.{recordAt, records, wholeRecords, isSheet}
@@ -91,21 +90,21 @@ module _ (s : Text) (e : isSheet s ≡ true) (row : Cluster) (p : Places) (ns : 
   some = omega (arith, room (length s) (sheet-whole s e))
 
   -- The list holds the receipts given.
-  kept : take (row .issued) (Refinement.listed p) ≡ receipts entries opening past
+  kept : take (row .issued) (listed p) ≡ receipts entries opening past
   kept = ap (λ x. x .committed) (h .state) ∙ safe entries opening (sheet-real s e) past .kept
 
-  pub listed : lines s ns (length s / 8) ++ ending (outlineOf row) (take (row .issued) (Refinement.listed p)) ≡ listing s
+  pub whole : lines s ns (length s / 8) ++ ending (outlineOf row) (take (row .issued) (listed p)) ≡ listing s
   unfolding listing listingOf
-  listed =
+  whole =
       ap₂ (λ x y. x ++ y) (ap (lines s ns) (sym some) ∙ lines-are s k row p ns e h) (ap₂ ending (h .outlined) kept)
       ∙ append-assoc (answerLine 1 0 0) (answerLines 2 (following s k) (answers entries (opened opening) past))
       (ending (outline (stateAt s k)) (receipts entries opening past))
 
-  pub delivered : {text out out′ : Text} {r : ℕ} → text ≡ ending (outlineOf row) (take (row .issued) (Refinement.listed p))
+  pub delivered : {text out out′ : Text} {r : ℕ} → text ≡ ending (outlineOf row) (take (row .issued) (listed p))
       → Delivered (lines s ns (length s / 8) ++ text) out out′ r → (r ≡ result s out) × (out′ ≡ left s out)
   unfolding result left
   delivered {text} {out} {out′} {r} t d =
-      let l : lines s ns (length s / 8) ++ text ≡ listing s = ap (λ x. lines s ns (length s / 8) ++ x) t ∙ listed in (
+      let l : lines s ns (length s / 8) ++ text ≡ listing s = ap (λ x. lines s ns (length s / 8) ++ x) t ∙ whole in (
         d .answer ∙ ap (λ x. cond (leb (length x) (length out)) (length x) 3) l
             ∙ ap (λ t. cond t (cond (leb (length (listing s)) (length out)) (length (listing s)) 3) 2) (sym e),
         d .left ∙ ap (λ x. cond (leb (length x) (length out)) (over out 0 x) out) l

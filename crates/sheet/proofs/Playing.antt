@@ -140,7 +140,8 @@ module _ (s : Text) (sheet : isSheet s ≡ true) (k : ℕ) (row : Cluster) (p : 
   module _ (r : Record) (place : r ≡ recordAt (drop (8 * k + 8) s)) {x : Outcome} {p′ : Places}
       (t : Turns (stepOf r) row p x p′) (small : k + 1 < length ns) where
     valid-here : valid row p ≡ true
-    valid-here = all-tests row p (h .full) ran-fits ∙ ap keptInRange (h .state) ∙ is-true (keptInRange (stateAt s k)) kept-fits
+    valid-here =
+        all-tests row p (h .full) ran-fits ∙ ap keptInRange (h .state) ∙ is-true (keptInRange (stateAt s k)) kept-fits
 
     did : Did (stepOf r) row p x p′
     did = did-step (stepOf r) row p valid-here (h .full) t

@@ -23,8 +23,8 @@ lengthsFit p =
     eqb (length (p .store)) 4096 && eqb (length (p .store2)) 4096
     && eqb (length (p .list)) 512 && eqb (length (p .list2)) 512
 
--- Refusal 1, apart from a step's fields: those lengths, "a row with a number outside the ranges", leaders, and "the kept
--- epoch of an entry inside its log or the receipts"; "places past a length may hold anything".
+-- Refusal 1, apart from a step's fields: those lengths, "a row with a number outside the ranges", leaders, and "the
+-- kept epoch of an entry inside its log or the receipts"; "places past a length may hold anything".
 abbrev pub valid : Cluster → Places → Bool
 valid row p = lengthsFit p && inRange (outlineOf row) && keptInRange (abs row p)
 

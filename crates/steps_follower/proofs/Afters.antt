@@ -112,7 +112,8 @@ module _ (row : Cluster) (short : Short (row .len)) (p : Places) (full : Full p)
   pub join-after : (b k l n : ℕ) (v : View) → (isReplica b ≡ true → k ≡ b) → length (row .joined) ≡ 8 → v
       ≡ getD (row .views) (k - 1) noView
       → (isReplica (v .leader) ≡ true → l ≡ v .leader) → ((x : ℕ) → at noView (row .views) x .leader ≤ 8)
-      → n ≡ length (shared sameEntry (logOf store k (getD (row .len) (k - 1) 0)) (logOf store l (getD (row .len) (l - 1) 0)))
+      → n ≡ length (shared sameEntry (logOf store k (getD (row .len) (k - 1) 0))
+      (logOf store l (getD (row .len) (l - 1) 0)))
       → accepted (outlineOf row) (join b) ≡ true
       → abs (record {
         registry = row .registry;
@@ -179,7 +180,8 @@ module _ (row : Cluster) (short : Short (row .len)) (p : Places) (full : Full p)
       let lt = ltb→lt n (at 0 (row .len) o) (h 12) in
       let e : storeAt p (place o n) ≡ getD (logOf store o (at 0 (row .len) o)) (length (logOf store b n)) (entry 0 0) =
       sym (logged-at p full (place o n)) ∙ sym (log-entry (entry 0 0) store o (at 0 (row .len) o) n lt)
-      ∙ ap (λ x. getD (logOf store o (at 0 (row .len) o)) x (entry 0 0)) (sym (log-len store whole (row .len) short b)) in
+      ∙ ap (λ x. getD (logOf store o (at 0 (row .len) o)) x (entry 0 0))
+      (sym (log-len store whole (row .len) short b)) in
       let logs : (λ x. logOf (logged p′) x (at 0 (set (row .len) (k - 1) (getD (row .len) (k - 1) 0 + 1)) x))
       ≡ upd (λ x. logOf store x (at 0 (row .len) x)) b
       (logOf store b n ++ (getD (logOf store o (at 0 (row .len) o)) (length (logOf store b n)) (entry 0 0) ∷ [])) =

@@ -1,7 +1,8 @@
 // The steps by which a replica follows: refresh (6), join (7), receive (8), over the parts of a row that they use: the
-// replicas' views by value; their joined epochs, counts and lengths and the two stores lent. Each promise is for every row
-// with these parts, at most 512 receipts and lent places of their lengths. Inner layer: callers see to it that the lent
-// places have their lengths, that no log is longer than 512, and that the leaders in the views are replicas or none.
+// replicas' views by value; their joined epochs, counts and lengths and the two stores lent. Each promise is for every
+// row with these parts, at most 512 receipts and lent places of their lengths. Inner layer: callers see to it that the
+// lent places have their lengths, that no log is longer than 512, and that the leaders in the views are replicas or
+// none.
 
 ghost use mathlib.Core.Path.{_≡_};
 ghost use mathlib.Core.Bool.{not, cond, _&&_};

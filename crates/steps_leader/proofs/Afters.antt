@@ -28,7 +28,12 @@ pub append-places : (row : Cluster) (p : Places) (b value k : ℕ) → (isReplic
     → putLog p (place k (getD (row .len) (k - 1) 0)) (entry value (v .term)) ≡ placesAfter (append b value) row p
 append-places row p b value k hk ev t =
     let h = facts (checks (outlineOf row) (append b value)) (of-true t) in
-    rw (ev, at-seat noView (row .views) b k hk (h 1), at-seat 0 (row .len) b k hk (h 1), hk (is-true (isReplica b) (h 1)))
+    rw (
+      ev,
+      at-seat noView (row .views) b k hk (h 1),
+      at-seat 0 (row .len) b k hk (h 1),
+      hk (is-true (isReplica b) (h 1)),
+    )
 
 -- The entry that step 2 writes.
 pub commit-places : (row : Cluster) (p : Places) (b k : ℕ) → (isReplica b ≡ true → k ≡ b)

@@ -1,7 +1,7 @@
 // The steps of a leader: append (1), commit (2), acknowledge (9), over the parts of a row that they use: the replicas'
 // views by value; their joined epochs, counts and lengths, the two stores and the two lists lent. Each promise is for
-// every row with these parts, at most 512 receipts and lent places of their lengths. Inner layer: callers see to it that
-// the lent places have their lengths and that no log is longer than 512.
+// every row with these parts, at most 512 receipts and lent places of their lengths. Inner layer: callers see to it
+// that the lent places have their lengths and that no log is longer than 512.
 
 ghost use mathlib.Core.Path.{_≡_};
 ghost use mathlib.Core.Bool.{not, _&&_};

@@ -462,8 +462,8 @@ fn last<'a>(row: Cluster, store: &'a [u32], store2: &'a [u16], list: &'a [u32], 
 }
 
 // Document 02, Paper 4: 1 appends 40, which 2 and 4 receive, then 41, which 4 alone receives. 2 leads, under leader
-// epoch 7, and appends 41 too. Board 4's own 41 is another sale: it joins, and its log is cut to 40. Then it receives the
-// sale of 2, is counted, and two receipts are given.
+// epoch 7, and appends 41 too. Board 4's own 41 is another sale: it joins, and its log is cut to 40. Then it receives
+// the sale of 2, is counted, and two receipts are given.
 fn sales() {
     let mut store = [7u32; 4096];
     let mut store2 = [65535u16; 4096];
@@ -544,8 +544,8 @@ fn sales() {
     last(c, &store, &store2, &list, &list2);
 }
 
-// While no leader is named the receipts are shown: 1 appends 41, 2 and 3 receive it and are counted, a receipt is given,
-// and the leader is changed.
+// While no leader is named the receipts are shown: 1 appends 41, 2 and 3 receive it and are counted, a receipt is
+// given, and the leader is changed.
 fn vacant() {
     let mut store = [7u32; 4096];
     let mut store2 = [65535u16; 4096];
@@ -587,8 +587,8 @@ fn vacant() {
     last(b, &store, &store2, &list, &list2);
 }
 
-// Kept epochs: 1 appends 41; a receipt with that entry's epoch made 0, 4,001 and 4,000; adding 2 with the receipt's made
-// 0 and 1. A refused row shows nothing.
+// Kept epochs: 1 appends 41; a receipt with that entry's epoch made 0, 4,001 and 4,000; adding 2 with the receipt's
+// made 0 and 1. A refused row shows nothing.
 fn kept() {
     let mut store = [7u32; 4096];
     let mut store2 = [65535u16; 4096];

@@ -29,6 +29,9 @@ number c = start c .args .r .step
 abbrev appended : tie.After-slice-known11 → tie.After-append
 appended c = c .before .before .before .before .before .before .before .before
 
+abbrev given : tie.After-slice-known14 → tie.After-commit
+given c = c .before .before .before .before
+
 abbrev refreshed : tie.After-v2 → tie.After-refresh
 refreshed c = c .before .before .before .before .before
 
@@ -276,13 +279,13 @@ same-length-15 c = search needs
 
 returns-9 : tie.Need-returns-9
 returns-9 c =
-    let z = c .before .before .before .before .before .before .before .before .before .before .before .before .before .before .before in
+    let d = given c in
+    let t = d .before .before .before .before .before .before .before in
+    let z = t .before .before .before .before in
     let a = start z .args in
-    let p = start z .pre in
-    rw (c .before .before .before .before .before .before .before .before .before .before .before .if4 .taken)
+    rw (t .if4 .taken)
     (sends-kept (by-board _ (places z) _ _ commit (a .r .board) (a .r .other) (a .r .spare) (a .r .value) _
-    (c .before .before .before .before .before .before .before .before .before .before .before .before .board4 .ensures) (λ m. refl) (λ m. refl)
-    (c .before .before .before .before .commit .ensures (a .g) (a .c) (now (a .joined)))))
+    (t .before .board4 .ensures) (λ m. refl) (λ m. refl) (d .commit .ensures (a .g) (a .c) (now (a .joined)))))
 
 returns-10 : tie.Need-returns-10
 returns-10 c =

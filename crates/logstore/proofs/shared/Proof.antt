@@ -18,41 +18,42 @@ use Rattle.logstore.proofs.shared.Tie as tie
 
 -- What the two logs share from i on.
 module _ (vs ts : List ℕ) (a m b n i : ℕ)
-    (pre : (length vs ≡ 4096) × (length ts ≡ 4096) × (1 ≤ a) × (a ≤ 8) × (m ≤ 512) × (1 ≤ b) × (b ≤ 8) × (n ≤ 512)) where
-  abbrev s : List Entry
-  s = pairs vs ts
+    (pre : (length vs ≡ 4096) × (length ts ≡ 4096) × (1 ≤ a) × (a ≤ 8) × (m ≤ 512) × (1 ≤ b) × (b ≤ 8) × (n ≤ 512))
+  where
+    abbrev s : List Entry
+    s = pairs vs ts
 
-  abbrev more : ℕ → ℕ
-  more = sharedFrom sameEntry (logOf s a m) (logOf s b n)
+    abbrev more : ℕ → ℕ
+    more = sharedFrom sameEntry (logOf s a m) (logOf s b n)
 
-  full : length s ≡ 4096
-  full = pairs-length vs ts (pre .0 ∙ sym (pre .1)) ∙ pre .0
+    full : length s ≡ 4096
+    full = pairs-length vs ts (pre .0 ∙ sym (pre .1)) ∙ pre .0
 
-  long : length (logOf s a m) ≡ m
-  long = log-length s full a (pre .2) (pre .3) m (pre .4)
+    long : length (logOf s a m) ≡ m
+    long = log-length s full a (pre .2) (pre .3) m (pre .4)
 
-  long-2 : length (logOf s b n) ≡ n
-  long-2 = log-length s full b (pre .5) (pre .6) n (pre .7)
+    long-2 : length (logOf s b n) ≡ n
+    long-2 = log-length s full b (pre .5) (pre .6) n (pre .7)
 
-  ends : m ≤ i → more i ≡ 0
-  ends h = shared-first sameEntry (logOf s a m) (logOf s b n) i (rw long h)
+    ends : m ≤ i → more i ≡ 0
+    ends h = shared-first sameEntry (logOf s a m) (logOf s b n) i (rw long h)
 
-  ends-2 : n ≤ i → more i ≡ 0
-  ends-2 h = shared-second sameEntry (logOf s a m) (logOf s b n) i (rw long-2 h)
+    ends-2 : n ≤ i → more i ≡ 0
+    ends-2 h = shared-second sameEntry (logOf s a m) (logOf s b n) i (rw long-2 h)
 
-  -- One more where the entries at i are the same, none where they differ.
-  module _ (h : i < m) (k : i < n) {t : Bool}
-      (e : t ≡ sameEntry (getD s (place a i) (entry 0 0)) (getD s (place b i) (entry 0 0))) where
-    by-same : more i ≡ cond t (suc (more (i + 1))) 0
-    by-same =
-        shared-next sameEntry (entry 0 0) (logOf s a m) (logOf s b n) i (rw long h) (rw long-2 k)
-        ∙ rw (log-entry (entry 0 0) s a m i h, log-entry (entry 0 0) s b n i k, e)
+    -- One more where the entries at i are the same, none where they differ.
+    module _ (h : i < m) (k : i < n) {t : Bool}
+        (e : t ≡ sameEntry (getD s (place a i) (entry 0 0)) (getD s (place b i) (entry 0 0))) where
+      by-same : more i ≡ cond t (suc (more (i + 1))) 0
+      by-same =
+          shared-next sameEntry (entry 0 0) (logOf s a m) (logOf s b n) i (rw long h) (rw long-2 k)
+          ∙ rw (log-entry (entry 0 0) s a m i h, log-entry (entry 0 0) s b n i k, e)
 
-    goes-on : t ≡ true → more i ≡ suc (more (i + 1))
-    goes-on z = by-same ∙ rw z
+      goes-on : t ≡ true → more i ≡ suc (more (i + 1))
+      goes-on z = by-same ∙ rw z
 
-    stops : t ≡ false → more i ≡ 0
-    stops z = by-same ∙ rw z
+      stops : t ≡ false → more i ≡ 0
+      stops z = by-same ∙ rw z
 
 abbrev Inv-loop : tie.InvT-loop
 Inv-loop store terms a m b n i₀ i =

@@ -54,7 +54,8 @@ returns-2 c =
     let a = c .before .before .args in
     let from = 512 * (a .leader - 1) in
     let e : from + a .len - from ≡ a .len = omega arith in
-    (rw (e, ne-eqb _ _ (c .before .if1 .left)), rw (ne-eqb _ _ (c .before .if1 .left)) (from-place 2 (a .store .ptr) from))
+    let n = ne-eqb _ _ (c .before .if1 .left) in
+    (rw (e, n), rw n (from-place 2 (a .store .ptr) from))
 
 pub visible-terms-spec : {M : Type 1} → statement M
 visible-terms-spec =

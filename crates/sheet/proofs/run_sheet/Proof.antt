@@ -57,8 +57,11 @@ slice-aggregate-play-5 : tie.Need-slice-aggregate-play-5
 slice-aggregate-play-5 c = search needs
 
 play-requires : tie.Need-play-requires
-play-requires c κs =
-    (passed (c .before .before .before .before .before), record { store = refl; store2 = refl; list = refl; list2 = refl }, refl)
+play-requires c κs = (
+  passed (c .before .before .before .before .before),
+  record { store = refl; store2 = refl; list = refl; list2 = refl },
+  refl,
+)
 
 slice-aggregate-put-ending : tie.Need-slice-aggregate-put-ending
 slice-aggregate-put-ending c = search needs

@@ -13,8 +13,8 @@ use Rattle.sheet.specs.Sheet.{SampleHolds, RoomHolds, result, left, list
 
 returns : tie.Need-returns
 unfolding SampleHolds RoomHolds result left over listing listingOf records answerLine answerLines
-    registryLine controlLine boardLine boardLines receiptsLine receiptsText receiptText ending viewText membersText digits
-    digitsWithin run answers given
+    registryLine controlLine boardLine boardLines receiptsLine receiptsText receiptText ending viewText membersText
+    digits digitsWithin run answers given
 returns c =
     ((refl, refl, refl), (refl, refl, refl, refl, refl, refl), refused-holds, lengths-tell, trials-hold)
 

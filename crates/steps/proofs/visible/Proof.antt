@@ -76,8 +76,8 @@ returns-2 c =
     let s = start d in
     let row = s .args .t1 in
     let seat = c .before .before .seat in (
-      c .visible .ensures .0 ∙ shown-values row (places s) (valid-full row (places s) (passed d)) (seat .result) (passed d)
-          (leader-small row (valid-range row (places s) (passed d))) (seat .ensures .2),
+      c .visible .ensures .0 ∙ shown-values row (places s) (valid-full row (places s) (passed d)) (seat .result)
+          (passed d) (leader-small row (valid-range row (places s) (passed d))) (seat .ensures .2),
       rw (passed d) (c .visible .ensures .1),
     )
 

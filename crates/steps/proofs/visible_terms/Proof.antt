@@ -1,5 +1,5 @@
--- `steps::visible_terms` meets its contract: an empty part of the second list, else the part that the second store's and
--- list's own function shows. Assumes nothing.
+-- `steps::visible_terms` meets its contract: an empty part of the second list, else the part that the second store's
+-- and list's own function shows. Assumes nothing.
 use mathlib.Core.Bool.{true}
 use mathlib.Core.Path.{_≡_, sym, _∙_}
 use denote.Ref.{now}
@@ -76,8 +76,8 @@ returns-2 c =
     let s = start d in
     let row = s .args .t1 in
     let seat = c .before .before .seat in (
-      c .visible-terms .ensures .0 ∙ shown-terms row (places s) (valid-full row (places s) (passed d)) (seat .result) (passed d)
-          (leader-small row (valid-range row (places s) (passed d))) (seat .ensures .2),
+      c .visible-terms .ensures .0 ∙ shown-terms row (places s) (valid-full row (places s) (passed d)) (seat .result)
+          (passed d) (leader-small row (valid-range row (places s) (passed d))) (seat .ensures .2),
       rw (passed d) (c .visible-terms .ensures .1),
     )
 

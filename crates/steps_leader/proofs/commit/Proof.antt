@@ -87,7 +87,8 @@ commit-requires c κs =
     let d = c .before .before .before .before in
     let s = entry (d .before) in
     let r = room (d .before) (d .if1 .left) in
-    (subst (λ n. s .args .issued < n) (sym (s .pre .3 .list)) r, subst (λ n. s .args .issued < n) (sym (s .pre .3 .list2)) r)
+    let n = s .args .issued in
+    (subst (λ m. n < m) (sym (s .pre .3 .list)) r, subst (λ m. n < m) (sym (s .pre .3 .list2)) r)
 
 add-t23 : tie.Need-add-t23
 add-t23 c = search needs

@@ -1,5 +1,5 @@
--- `listing::ending::put_entries` meets its contract. The loop's invariant: the first i receipts are written, up to place
--- p. Assumes nothing.
+-- `listing::ending::put_entries` meets its contract. The loop's invariant: the first i receipts are written, up to
+-- place p. Assumes nothing.
 use mathlib.Core.List.{List, _++_}
 use mathlib.Core.Path.{_≡_, sym, subst}
 use Prim.Native.Nat.{ℕ, _+_, _-_, _<_, _≤_}

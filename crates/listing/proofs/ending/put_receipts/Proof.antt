@@ -55,7 +55,8 @@ slice-aggregate-put-bytes : tie.Need-slice-aggregate-put-bytes
 slice-aggregate-put-bytes c = search needs
 
 put-bytes-requires : tie.Need-put-bytes-requires
-put-bytes-requires c κs = let e = c .before .before .before .before .before in fits _ (word "receipts ") (text1 e) (room0 e)
+put-bytes-requires c κs =
+    let e = c .before .before .before .before .before in fits _ (word "receipts ") (text1 e) (room0 e)
 
 -- The room that is left after the call j, then the need of the next.
 room1 : (c : tie.After-put-bytes) → c .put-bytes .result + length (text1 (start1 c)) ≤ length (c .put-bytes .last .0)
@@ -80,7 +81,8 @@ put-entries-requires c κs =
     let e = start2 d in
     (e .pre .0, e .pre .1, fits _ (given e) (text3 e) (room2 d))
 
-room3 : (c : tie.After-put-entries) → c .put-entries .result + length (text3 (start3 c)) ≤ length (c .put-entries .last .0)
+room3 : (c : tie.After-put-entries)
+    → c .put-entries .result + length (text3 (start3 c)) ≤ length (c .put-entries .last .0)
 room3 c =
     let e = start3 c in
     rest (given e) (text3 e) (c .put-entries .ensures) (room2 (c .before .before .before .before))

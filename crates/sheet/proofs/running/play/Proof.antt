@@ -16,7 +16,8 @@ abbrev begun : tie.After-len2 → tie.After-begin
 begun c = c .before .before .before .before .before .before .before .before .before
 
 abbrev walked : tie.After-next → tie.After-walk
-walked c = c .before .before .before .before .before .before .before .before .before .before .before .before .before .before .before .before
+walked c =
+    let s = c .before .before .before .before .before .before .before .before .before .before .before .before in s .before .before .before .before
 
 -- The lengths that the opening's type fixes.
 shape : (c : tie.After-begin) → Shape (c .begin .result)

@@ -40,7 +40,8 @@ abbrev turn : tie.After-send Inv-loop μ-loop → tie.In-loop Inv-loop μ-loop
 turn c = decoded c .before
 
 abbrev sent : tie.After-s Inv-loop μ-loop → tie.After-send Inv-loop μ-loop
-sent c = c .before .before .before .before .before .before .before .before .before .before .before .before .before .before .before
+sent c =
+    let s = c .before .before .before .before .before .before .before .before .before in s .before .before .before .before .before .before
 
 -- The row and the places at a turn.
 abbrev row : tie.At-loop Inv-loop μ-loop → Cluster
