@@ -20,7 +20,7 @@ use Rattle.cluster.specs.Layout.{stageOf, at, outlineOf}
 use Rattle.refinement.specs.Refinement.{Places, logged, abs, Shape, Ready, written}
 use Rattle.refinement.proofs.Turning.{logged-full, log-len, outline-abs}
 use Rattle.steps.specs.Call.{valid}
-use Rattle.steps.proofs.Calling.{ready, valid-full, valid-range}
+use Rattle.shown.proofs.Valid.{ready, valid-full, valid-range}
 use Rattle.hub.specs.Lent.{registryFits, controllerFits, reportRanges, reportFits, leaderFits, Reported, Lends}
 use Rattle.hub.specs.Whole.{putBack, reportOf, AsWhole, PutBack}
 use Rattle.hub.proofs.Fitting.{registry-fits, hearings, controller-fits}

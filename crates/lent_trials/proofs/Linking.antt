@@ -11,7 +11,7 @@ use Rattle.cluster.specs.declared.Told.{Told}
 use Rattle.refinement.specs.Refinement.{Places, Shape}
 use Rattle.steps.specs.Call.{valid}
 use Rattle.steps.specs.Calls.{Held}
-use Rattle.steps.proofs.Calling.{ready, valid-range}
+use Rattle.shown.proofs.Valid.{ready, valid-range}
 use Rattle.hub.specs.Whole.{putInto, TellsOfLeader, Link}
 use Rattle.lent_trials.specs.Put.{putTo}
 

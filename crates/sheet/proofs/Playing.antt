@@ -27,7 +27,8 @@ use Rattle.cluster.specs.Layout.{outlineOf}
 use Rattle.refinement.specs.Refinement.{Places, Full, abs, Shape, Ready, Turns}
 use Rattle.steps_central.specs.Opening.{Opens, OpenedWith}
 use Rattle.steps.specs.Call.{valid, Did}
-use Rattle.steps.proofs.Calling.{ready, all-tests, did-step, did-full}
+use Rattle.shown.proofs.Valid.{ready, all-tests}
+use Rattle.steps.proofs.Calling.{did-step, did-full}
 use Rattle.text.specs.Text.{Text}
 use Rattle.records.specs.Bytes.{recordAt, records, wholeRecords, isOpening, isSheet}
 use Rattle.listing.proofs.AnswerLines.{records-suc}

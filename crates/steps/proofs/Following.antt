@@ -19,7 +19,8 @@ use Rattle.cluster.specs.Layout.{outlineOf}
 use Rattle.refinement.specs.Refinement.{Full}
 use Rattle.steps.specs.Call.{valid}
 use Rattle.steps.specs.Calls.{Held, stateOf, Called, Calls, stop, call, Begins, Follows, CallsSafe}
-use Rattle.steps.proofs.Calling.{all-tests, did-full}
+use Rattle.shown.proofs.Valid.{all-tests}
+use Rattle.steps.proofs.Calling.{did-full}
 
 -- A caller holds the state s, which a run reaches.
 pub record Holds (s : RowState) (h : Held) : Type 0 where

@@ -1,47 +1,20 @@
-// The public calls: the opening, the fifteen steps, any record, the shown list and its terms. None asks anything of its
-// caller: refusal 1 is tested first. `store` and `list` hold values, `store2` and `list2` the terms (leader epochs) at
+// The public calls: the opening, the fifteen steps, any record. None asks anything of its caller: refusal 1 is tested
+// first. `store` and `list` hold values, `store2` and `list2` the terms (leader epochs) at
 // the same places.
 
 ghost use mathlib.Core.Path.{_≡_};
-ghost use denote.Ref.{ptr};
 ghost use Rattle.model.specs.State as M;
 ghost use Rattle.model.specs.Steps as S;
 ghost use Rattle.model.specs.Records as R;
-ghost use Rattle.refinement.specs.Refinement.{lent, Full, Shape, Ready, Turns};
+ghost use Rattle.refinement.specs.Refinement.{lent, Full, Ready, Turns};
 ghost use Rattle.refinement.specs.Rows.{RowsFixed};
 ghost use Rattle.steps_central.specs.Opening.{Opens};
 ghost use Rattle.steps.specs.Calls.{CallsSafe, NamesHold};
-ghost use Rattle.steps.specs.Refusals.{RefusalsHold};
 ghost use Rattle.records.specs.Record.{recordOf};
-ghost use Rattle.steps.specs.Call.{lengthsFit, valid, Did, shownValues, shownTerms, shownAt};
+ghost use Rattle.steps.specs.Call.{Did};
 use cluster::Cluster;
 use cluster::Outcome;
 use records::Record;
-
-// Whether the lent places have their lengths.
-fn lengths(store: &[u32], store2: &[u16], list: &[u32], list2: &[u16]) -> bool
-    ensures { λ r. ⌜
-        r ≡ lengthsFit (lent (now (store .entry)) (now (store2 .entry)) (now (list .entry)) (now (list2 .entry)))
-        ⌝ }
-{
-    (store.len() == 4096) & (store2.len() == 4096) & (list.len() == 512) & (list2.len() == 512)
-}
-
-// Whether refusal 1 lets the row and the lent places through; and what the row's type fixes, for the callers' proofs.
-fn fits(row: Cluster, store: &[u32], store2: &[u16], list: &[u32], list2: &[u16]) -> bool
-    ensures { λ r. ⌜
-        (r ≡ valid row (lent (now (store .entry)) (now (store2 .entry)) (now (list .entry)) (now (list2 .entry))))
-        × Shape row
-        ⌝ }
-{
-    if !lengths(store, store2, list, list2) {
-        return false;
-    }
-    if !cluster::ranges::in_range(row) {
-        return false;
-    }
-    kept::in_range(row, store2, list2)
-}
 
 // Refusal 1 of the row or of the lent places: the answer 1, and the row as it was.
 fn refused(row: Cluster) -> Outcome
@@ -120,7 +93,7 @@ pub fn step(
         (lent (now (store .entry)) (now (store2 .entry)) (now (list .entry)) (now (list2 .entry)))
         x (lent (now (store .exit)) (now (store2 .exit)) (now (list .exit)) (now (list2 .exit))) ⌝ }
 {
-    if !fits(row, &*store, &*store2, &*list, &*list2) {
+    if !shown::fits(row, &*store, &*store2, &*list, &*list2) {
         return refused(row);
     }
     turn(row, &mut *store, &mut *store2, &mut *list, &mut *list2, r)
@@ -569,69 +542,8 @@ pub fn install(
     )
 }
 
-// The shown list, its values: a part of the store or of the list, not a copy (the promise says where it begins); an
-// empty part of the list where refusal 1 turns the row or the lent places away.
-pub fn visible<'a>(
-    row: Cluster,
-    store: &'a [u32],
-    store2: &[u16],
-    list: &'a [u32],
-    list2: &[u16],
-) -> &'a [u32]
-    ensures { λ r. ⌜
-        (now r ≡ shownValues row
-        (lent (now (store .entry)) (now (store2 .entry)) (now (list .entry)) (now (list2 .entry))))
-        × (ptr r ≡ shownAt 4 row
-        (lent (now (store .entry)) (now (store2 .entry)) (now (list .entry)) (now (list2 .entry)))
-        (ptr (store .entry)) (ptr (list .entry)))
-        ⌝ }
-{
-    if !fits(row, store, store2, list, list2) {
-        return &list[0..0];
-    }
-    let g = row.registry;
-    let v = g.view;
-    let l = cluster::seat(v.leader);
-    let i = (l - 1) as usize;
-    let n = row.len[i];
-    logstore::visible(store, list, v.leader, n, row.issued)
-}
-
-// The like part of the terms, in the same way: of the second store or of the second list.
-pub fn visible_terms<'a>(
-    row: Cluster,
-    store: &[u32],
-    store2: &'a [u16],
-    list: &[u32],
-    list2: &'a [u16],
-) -> &'a [u16]
-    ensures { λ r. ⌜
-        (now r ≡ shownTerms row
-        (lent (now (store .entry)) (now (store2 .entry)) (now (list .entry)) (now (list2 .entry))))
-        × (ptr r ≡ shownAt 2 row
-        (lent (now (store .entry)) (now (store2 .entry)) (now (list .entry)) (now (list2 .entry)))
-        (ptr (store2 .entry)) (ptr (list2 .entry)))
-        ⌝ }
-{
-    if !fits(row, store, store2, list, list2) {
-        return &list2[0..0];
-    }
-    let g = row.registry;
-    let v = g.view;
-    let l = cluster::seat(v.leader);
-    let i = (l - 1) as usize;
-    let n = row.len[i];
-    logstore::visible_terms(store2, list2, v.leader, n, row.issued)
-}
-
 // Demand 3 about the calls: for every opening and every list of calls, by record or by name, whatever the lent places
 // held before. Nothing to run: the promise is the statement.
 pub fn claim()
     ensures { λ r. ⌜ CallsSafe × NamesHold × RowsFixed ⌝ }
-{}
-
-// Refusal 1 of kept epochs and of the second pair's lengths, on rows and places worked out by hand. By the definitions:
-// nothing to run.
-pub fn refusals()
-    ensures { λ r. ⌜ RefusalsHold ⌝ }
 {}

@@ -450,12 +450,12 @@ fn four() {
 // Shows how long the shown list is, and its last entry, value and term; all are below 256 here.
 fn last<'a>(row: Cluster, store: &'a [u32], store2: &'a [u16], list: &'a [u32], list2: &'a [u16]) {
     io::write_all(1, b"shown ");
-    let v = steps::visible(row, store, store2, list, list2);
+    let v = shown::visible(row, store, store2, list, list2);
     show((v.len() % 256) as u8);
     if 0 < v.len() {
         show((v[v.len() - 1] % 256) as u8);
     }
-    let t = steps::visible_terms(row, store, store2, list, list2);
+    let t = shown::visible_terms(row, store, store2, list, list2);
     if 0 < t.len() {
         show((t[t.len() - 1] % 256) as u8);
     }

@@ -6,7 +6,8 @@ use borrow.Author.Tests.{not-true, not-false}
 use borrow.Author.Needs.{needs}
 use Rattle.refinement.specs.Refinement.{Places, lent}
 use Rattle.steps.specs.Call.{valid}
-use Rattle.steps.proofs.Calling.{ready, valid-full, valid-range, did-refused, did-step}
+use Rattle.shown.proofs.Valid.{ready, valid-full, valid-range}
+use Rattle.steps.proofs.Calling.{did-refused, did-step}
 use Rattle.steps.proofs.step.Statement.{statement}
 use Rattle.steps.proofs.step.Tie as tie
 

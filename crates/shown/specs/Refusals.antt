@@ -1,4 +1,4 @@
--- Refusal 1 of document 02, Paper 4, on rows and places worked out by hand. Cited by the promise of `steps::refusals`.
+-- Refusal 1 of document 02, Paper 4, on rows and places worked out by hand. Cited by the promise of `shown::refusals`.
 -- Assumes nothing.
 use mathlib.Core.Bool.{Bool, not}
 use mathlib.Core.List.{List, [], _∷_}
@@ -11,7 +11,7 @@ use Rattle.cluster.specs.declared.Cluster.{Cluster}
 use Rattle.cluster.specs.declared.Status.the-variants.{Normal}
 use Rattle.cluster.specs.declared.Stage.the-variants.{Idle}
 use Rattle.refinement.specs.Refinement.{lent}
-use Rattle.steps.specs.Call.{valid}
+use Rattle.shown.specs.Shown.{valid}
 
 -- The row opened with board 1, but with one entry in the logs of boards 1 and 8, and one receipt.
 abbrev first : View

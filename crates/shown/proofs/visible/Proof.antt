@@ -1,4 +1,4 @@
--- `steps::visible` meets its contract: an empty part of the list, else the part that the store's and the list's own
+-- `shown::visible` meets its contract: an empty part of the list, else the part that the store's and the list's own
 -- function shows. Assumes nothing.
 use mathlib.Core.Bool.{true}
 use mathlib.Core.Path.{_≡_, sym, _∙_}
@@ -8,10 +8,11 @@ use borrow.Author.Needs.{needs}
 use Rattle.logstore.proofs.Laws.{from-start}
 use Rattle.refinement.specs.Refinement.{Places, lent}
 use Rattle.refinement.proofs.Turning.{short-at}
-use Rattle.steps.specs.Call.{valid}
-use Rattle.steps.proofs.Calling.{ready, valid-full, valid-range, shown-values, leader-small}
-use Rattle.steps.proofs.visible.Statement.{statement}
-use Rattle.steps.proofs.visible.Tie as tie
+use Rattle.shown.specs.Shown.{valid}
+use Rattle.shown.proofs.Valid.{ready, valid-full, valid-range}
+use Rattle.shown.proofs.Showing.{shown-values, leader-small}
+use Rattle.shown.proofs.visible.Statement.{statement}
+use Rattle.shown.proofs.visible.Tie as tie
 
 abbrev places : tie.Start → Places
 places c = let a = c .args in lent (now (a .store)) (now (a .store2)) (now (a .list)) (now (a .list2))

@@ -1,4 +1,4 @@
--- `steps::fits` meets its contract: refusal 1 by its three tests. Assumes nothing.
+-- `shown::fits` meets its contract: refusal 1 by its three tests. Assumes nothing.
 use mathlib.Core.Bool.{true}
 use mathlib.Core.Path.{_≡_, sym, _∙_}
 use lib.ListN.{length-map}
@@ -8,9 +8,9 @@ use borrow.Author.Needs.{needs}
 use Rattle.model.specs.Ranges.{inRange}
 use Rattle.cluster.specs.Layout.{outlineOf}
 use Rattle.refinement.specs.Refinement.{Places, lent, Full, Shape}
-use Rattle.steps.proofs.Calling.{ready, fits-full, bad-lengths, bad-range, all-tests}
-use Rattle.steps.proofs.fits.Statement.{statement}
-use Rattle.steps.proofs.fits.Tie as tie
+use Rattle.shown.proofs.Valid.{ready, fits-full, bad-lengths, bad-range, all-tests}
+use Rattle.shown.proofs.fits.Statement.{statement}
+use Rattle.shown.proofs.fits.Tie as tie
 
 abbrev places : tie.Start → Places
 places c = let a = c .args in lent (now (a .store)) (now (a .store2)) (now (a .list)) (now (a .list2))
