@@ -53,7 +53,8 @@ fn logs(terms: &[u16], len: [u16; 8]) -> bool
     ok
 }
 
-// Whether all kept epochs of a row are. Inner layer: callers see to the lengths.
+// Whether all kept epochs of a row, of its logs and of its receipts, are 1 to 4,000, whatever values stand beside them.
+// Inner layer: callers see to the lengths.
 pub fn in_range(row: Cluster, store2: &[u16], list2: &[u16]) -> bool
     requires { ⌜
         (length (now store2) ≡ 4096) × (length (now list2) ≡ 512) × Short (row .len) × (row .issued ≤ 512)

@@ -44,6 +44,6 @@ module _ (𝓔 : Entries) (o : Opening) where
 unfoldable pub Safety : Type 1
 Safety = (𝓔 : Entries) (o : Opening) → T (canOpen o) → (sts : List Step) → Safe 𝓔 o sts
 
--- and for the calls' entries.
+-- and for the calls' entries: "The epoch now counts in what a receipt guarantees" (document 02, Paper 4).
 unfoldable pub DemandThree : Type 0
 DemandThree = (o : Opening) → T (canOpen o) → (sts : List Step) → Safe entries o sts

@@ -99,7 +99,7 @@ abbrev pub stepOf : Record → Step
 stepOf r = getD (rules r) (r .step) malformed
 
 -- Refusal 1 of a record's fields is just that: the step's checks do not answer 1, whatever they look at. (A row that
--- refusal 1 turns away answers 1 to every record: `valid`, crate steps.)
+-- refusal 1 turns away answers 1 to every record: `valid`, crate shown.)
 -- Step 0 stands for no step; it is well formed where it is a valid opening.
 pub record Forms : Type 0 where
   pub steps : (m : Outline) (r : Record) → r .step ≢ 0 → wellFormed r ≡ not (eqb (answerOf m (stepOf r)) 1)

@@ -30,6 +30,7 @@ entry value term = record { value = value; term = term }
 abbrev pub sameEntry : Entry → Entry → Bool
 sameEntry x y = eqb (x .value) (y .value) && eqb (x .term) (y .term)
 
+-- (Used for the next alone: a conjunction of tests holds just where both do.)
 both : (a b : Bool) → T (a && b) ↔ (T a × T b)
 both true b = (λ t. (tt, t), λ h. h .1)
 both false b = (λ t. absurd t, λ h. h .0)

@@ -364,7 +364,8 @@ module _ (𝓔 : Entries) where
         (withJoined (withView s b (registry .view)) b
         (cond (changed && eqb (registry .view .leader) b) (registry .view .term) (joined b)))
         b (cond changed (upd zeros b (length (log b))) (acked b))
-    -- 7. "Its log is cut to the longest beginning shared with the leader's; joined becomes its leader epoch."
+    -- 7. "Its log is cut to the longest beginning shared with the leader's; joined becomes its leader epoch." The epoch
+    -- of an entry counts "in where joining cuts" (document 02, Paper 4): `same` is by value and epoch.
     next (join b) = withJoined (withLog s b (shared same (log b) (log (view b .leader)))) b (view b .term)
     -- 8. "It takes the leader's next entry."
     next (receive b) = withLog s b (log b ++ (entryAt (view b .leader) (length (log b)) ∷ []))

@@ -39,7 +39,7 @@ stored i t = taken (set (replicate 4096 1) i t) (replicate 512 1)
 abbrev listed : ℕ → ℕ → Bool
 listed i t = taken (replicate 4096 1) (set (replicate 512 1) i t)
 
--- With places of these lengths.
+-- With a second store and a second list of these lengths.
 abbrev long : ℕ → ℕ → Bool
 long n m = taken (replicate n 1) (replicate m 1)
 
