@@ -2,7 +2,7 @@
 use mathlib.Core.List.{map}
 use mathlib.Core.Path.{_≡_, subst}
 use Prim.Native.Nat.{_≤_}
-use denote.Ref.{now}
+use native.Mathlib.Omega.{arith}
 use borrow.Author.Needs.{needs}
 use Rattle.model.specs.Ranges.{every, isEpoch}
 use Rattle.logstore.specs.Log.{logOf}
@@ -38,7 +38,9 @@ array-read-n c = search needs
 log-requires : tie.Need-log-requires Inv-loop μ-loop
 log-requires c κs =
     let f = c .before .before .before in
-    (f .pre .0, search needs, search needs, short-at (f .args .t2) _ (f .pre .1) (search needs))
+    let b = c .before .loop .b in
+    let h : 1 ≤ b = search needs in
+    (f .pre .0, search needs, search needs, omega (arith, short-at (f .args .t2) b (f .pre .1) h))
 
 both-requires : tie.Need-both-requires Inv-loop μ-loop
 both-requires c κs = search needs

@@ -2,6 +2,7 @@
 -- function shows. Assumes nothing.
 use mathlib.Core.Bool.{true}
 use mathlib.Core.Path.{_≡_, sym, _∙_}
+use native.Mathlib.Omega.{arith}
 use denote.Ref.{now}
 use borrow.Author.Tests.{not-true, not-false}
 use borrow.Author.Needs.{needs}
@@ -63,12 +64,14 @@ visible-requires c κs =
     let row = s .args .t1 in
     let f = valid-full row (places s) (passed d) in
     let t = valid-range row (places s) (passed d) in
-    let r = ready row (d .before .fits2 .ensures .1) t in (
+    let r = ready row (d .before .fits2 .ensures .1) t in
+    let seat = c .before .seat in
+    let n = short-at (row .len) (seat .result) (r .short) (seat .ensures .0) in (
       f .store,
       f .list,
-      leader-small row t,
-      short-at (row .len) (c .before .seat .result) (r .short) (c .before .seat .ensures .0),
-      r .issued,
+      omega (arith, leader-small row t, seat .ensures .1),
+      n,
+      omega (arith, r .issued, n),
     )
 
 returns-2 : tie.Need-returns-2
