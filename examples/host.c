@@ -1,6 +1,6 @@
 /*
  * A host to start from: builds the sample sheet in memory, runs it, and prints
- * its listing.
+ * its listing; then says why a record is refused.
  *
  *   gcc -std=c99 -Iinclude examples/host.c target/staticlib/librow.a -o host
  */
@@ -58,6 +58,18 @@ static enum row_answer answer(const uint8_t *listing, size_t n)
     return (enum row_answer)number;
 }
 
+/* Prints a record and its answer in words. Returns 0 if all went well. */
+static int tell(const uint8_t *record, enum row_answer answer)
+{
+    uint8_t line[ROW_LINE_LEN];
+    size_t len = describe_record(record, ROW_RECORD_LEN, answer, line, sizeof line);
+
+    /* Every line is longer than 3 bytes, and ends in byte 10. */
+    if (len == ROW_BAD_RECORD || len == ROW_SHORT_LINE)
+        return 1;
+    return fwrite(line, 1, len, stdout) != len;
+}
+
 int main(void)
 {
     static uint8_t sheet[RECORDS * ROW_RECORD_LEN];
@@ -76,5 +88,12 @@ int main(void)
         return 1;
 
     /* Should the till print the receipt? */
-    return answer(listing, 2) == ROW_ACCEPTED ? 0 : 1;
+    if (answer(listing, 2) != ROW_ACCEPTED)
+        return 1;
+
+    /* Another receipt in place of the last step is refused: no entry is left for it. */
+    put(sheet, 3, ROW_STEP_RECEIPT, 1, 0, 0);
+    if (run_sheet(sheet, sizeof sheet, listing, sizeof listing) <= ROW_SHORT_LISTING)
+        return 1;
+    return tell(sheet + 3 * ROW_RECORD_LEN, answer(listing, 3));
 }

@@ -1,5 +1,6 @@
 /*
- * A row of telemetry boards: runs a sheet of steps and writes its listing, makes
+ * A row of telemetry boards: runs a sheet of steps and writes its listing, or a
+ * line in words for each record, describes a record and its answer in words, makes
  * sheets from a seed, and looks up how many boards make a majority.
  *
  * Link with librow.a. docs/FORMATS.md has the same formats with an example of
@@ -157,6 +158,69 @@ enum row_answer {
  */
 size_t run_sheet(const uint8_t *sheet, size_t sheet_len,
                  uint8_t *listing, size_t listing_len);
+
+/*
+ * A record and its answer in words is one line of ASCII, which ends in byte 10:
+ *
+ *   board 1 appends value 41: accepted
+ *   leader 1 counts board 2: refused, the counted board has not joined yet
+ *   record 09 02 02 00 00 00 00 00: refused, a field is outside its values
+ *
+ * A record that is malformed by itself shows its eight bytes. docs/PHRASES.md has
+ * every phrase. Two different pairs of record and answer never give the same line.
+ *
+ * ROW_LINE_LEN bytes suffice for any line, and some line has as many. So
+ * ROW_TEXT_LEN(n) suffice for a line for each of n records: 393,120 for the longest
+ * sheet. Both may be used in #if.
+ */
+#define ROW_LINE_LEN 96
+#define ROW_TEXT_LEN(n) (ROW_LINE_LEN * (n))
+
+/* The results of describe_record that are refusals. Every line is longer than 3 bytes. */
+#define ROW_BAD_RECORD 1 /* the record is not ROW_RECORD_LEN bytes long, or there is no such answer */
+#define ROW_SHORT_LINE 3 /* the line slice is shorter than the line */
+
+/*
+ * Writes the line of a record and its answer.
+ *
+ *   record      the record; it is only read
+ *   record_len  its length in bytes, ROW_RECORD_LEN
+ *   answer      0 to 16: row_answer, or 2 or 3 of a refused sheet. It need not be
+ *               one that the record could have: any answer goes with any record
+ *   line        where the line goes, with no byte 0 at the end
+ *   line_len    the length of that slice in bytes
+ *
+ * Returns the line's length in bytes, or ROW_BAD_RECORD, or, for a record and an
+ * answer that are not refused so, ROW_SHORT_LINE.
+ *
+ * Both refusals leave the slice untouched. Bytes of it past the end of a line keep
+ * their values. The slices must not overlap. Neither pointer may be null, even
+ * where the length is 0.
+ */
+size_t describe_record(const uint8_t *record, size_t record_len, size_t answer,
+                       uint8_t *line, size_t line_len);
+
+/* The results of explain_sheet that are refusals: ROW_BAD_SHEET, and */
+#define ROW_SHORT_TEXT 3 /* the text slice is shorter than the text */
+
+/*
+ * Runs a sheet from its opening and writes a line in words for each record, with
+ * the answer that its run gave: what run_sheet has as numbers in its first lines.
+ *
+ *   sheet      the records; they are only read
+ *   sheet_len  their length in bytes, 8 times the number of records
+ *   text       where the lines go, with no byte 0 at the end
+ *   text_len   the length of that slice in bytes
+ *
+ * Returns the text's length in bytes, or ROW_BAD_SHEET, or, for a sheet that is not
+ * refused so, ROW_SHORT_TEXT. Every text is longer than 3 bytes.
+ *
+ * Both refusals leave the slice untouched. Bytes of it past the end of a text keep
+ * their values. The slices must not overlap. Neither pointer may be null, even
+ * where the length is 0.
+ */
+size_t explain_sheet(const uint8_t *sheet, size_t sheet_len,
+                     uint8_t *text, size_t text_len);
 
 /*
  * The results of seed_sheet that are refusals. Every sheet has ROW_RECORD_LEN

@@ -21,6 +21,15 @@ enum { SEEDED_LEN = ROW_SHEET_LEN(1 + 2) };
 #if ROW_BAD_COUNT != 2 || ROW_SHORT_SLICE != 3
 #error "the refusals of a seed are 2 and 3"
 #endif
+#if ROW_LINE_LEN != 96 || ROW_TEXT_LEN(1) != 96 || ROW_TEXT_LEN(ROW_RECORDS_MAX) != 393120
+#error "the longest line has 96 bytes"
+#endif
+#if ROW_TEXT_LEN(1 + 1) == 192
+enum { TEXT_LEN = ROW_TEXT_LEN(1 + 1) };
+#endif
+#if ROW_BAD_RECORD != 1 || ROW_SHORT_LINE != 3 || ROW_SHORT_TEXT != 3
+#error "the refusals of a line are 1 and 3, and that of a text, beside 2 for the sheet, is 3"
+#endif
 
 /* C99 has no static assertion: an array of a negative length does not compile. */
 #define SAME(name, number) typedef char same_##name[(name) == (number) ? 1 : -1]
@@ -137,11 +146,62 @@ static int look_up(void)
     return 0;
 }
 
+/* A record and an answer in words, as docs/PHRASES.md has them. Returns as above. */
+static int describe(void)
+{
+    static const uint8_t record[2 * ROW_RECORD_LEN] = {ROW_STEP_COUNT, 1, 2, 0, 0, 0, 0, 0};
+    static const char words[] = "leader 1 counts board 2: refused, the counted board has not joined yet\n";
+    static uint8_t line[ROW_LINE_LEN];
+    const size_t len = sizeof words - 1;
+
+    if (describe_record(record, sizeof record, ROW_REFUSED_JOINING, line, sizeof line) != ROW_BAD_RECORD)
+        return 31;
+    if (describe_record(record, ROW_RECORD_LEN, 17, line, 0) != ROW_BAD_RECORD)
+        return 32;
+    if (describe_record(record, ROW_RECORD_LEN, ROW_REFUSED_JOINING, line, len - 1) != ROW_SHORT_LINE)
+        return 33;
+    if (line[0] != 0)
+        return 34;
+    if (describe_record(record, ROW_RECORD_LEN, ROW_REFUSED_JOINING, line, sizeof line) != len)
+        return 35;
+    return memcmp(line, words, len) == 0 && line[len] == 0 ? 0 : 36;
+}
+
+/* The same of a sheet: with an empty log a receipt is refused 12, document 01. Returns as above. */
+static int explain(void)
+{
+    static const uint8_t sheet[2 * ROW_RECORD_LEN] = {
+        ROW_STEP_OPENING, 1, 0, 0, 0, 0, 0, 0,
+        ROW_STEP_RECEIPT, 1, 0, 0, 0, 0, 0, 0,
+    };
+    static const char words[] =
+        "opening with board 1: accepted\n"
+        "board 1 gives a receipt: refused, its log is no longer than the receipts\n";
+    static uint8_t text[TEXT_LEN];
+    const size_t n = 2, len = sizeof words - 1;
+
+    if (ROW_TEXT_LEN(n) != sizeof text)
+        return 41;
+    if (explain_sheet(sheet, sizeof sheet - 1, text, 0) != ROW_BAD_SHEET)
+        return 42;
+    if (explain_sheet(sheet, sizeof sheet, text, len - 1) != ROW_SHORT_TEXT)
+        return 43;
+    if (text[0] != 0)
+        return 44;
+    if (explain_sheet(sheet, sizeof sheet, text, sizeof text) != len)
+        return 45;
+    return memcmp(text, words, len) == 0 && text[len] == 0 ? 0 : 46;
+}
+
 int main(void)
 {
     int wrong = run_sample();
 
     if (wrong == 0)
         wrong = run_seeded();
-    return wrong != 0 ? wrong : look_up();
+    if (wrong == 0)
+        wrong = look_up();
+    if (wrong == 0)
+        wrong = describe();
+    return wrong != 0 ? wrong : explain();
 }

@@ -6,7 +6,6 @@ from pathlib import Path
 
 import listing
 import sheet
-from phrases import phrase
 
 HELLO = "A step a line; help lists them."
 FIRST = " The row begins with an opening, such as: open 1"
@@ -50,7 +49,7 @@ class Session:
                 say(why)
                 return
         self.steps, self.now = steps, after
-        say(said if said else phrase(steps[-1].record[0], after.answers[-1]))
+        say(said if said else after.told[-1])
         if after:
             changes = listing.changes(before, after)
             if not changes and not said and after.answers[-1] == 0:

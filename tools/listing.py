@@ -1,9 +1,8 @@
 """A listing taken apart, shown with its columns named, and compared with another."""
 
+import re
 from itertools import takewhile
 from typing import NamedTuple
-
-from phrases import phrase
 
 VIEW = ["epoch", "leader epoch", "leader", "members"]
 REGISTRY = [*VIEW, "status"]
@@ -12,9 +11,10 @@ BOARD = ["board", *VIEW, "joined", "length", "mark"]
 
 
 class Listing(NamedTuple):
-    """The answers, and the other lines as fields by name; a receipt as it stands there, value@epoch."""
+    """The answers, as numbers and as told, and the other lines as fields by name; a receipt as value@epoch."""
 
     answers: list
+    told: list
     registry: dict
     control: dict
     boards: list
@@ -28,17 +28,32 @@ def fields(columns, values):
 
 
 def parse(text):
-    """The listing that the program printed."""
+    """The listing that the program printed. Its answers are not told yet."""
     lines = [line.split(" ") for line in text.split("\n")[:-1]]
     answers = list(takewhile(lambda line: line[0] != "registry", lines))
     registry, control, *boards, receipts = lines[len(answers) :]
     return Listing(
         [int(answer) for _, _, answer in answers],
+        [],
         fields(REGISTRY, registry[1:]),
         fields(CONTROL, control[1:]),
         [fields(BOARD, board[1:]) for board in boards],
         receipts[2:],
     )
+
+
+def tell_answer(answer, line):
+    """`accepted`, or the number of the refusal and the reason that the line in words has."""
+    said = re.fullmatch(r"[^:]*: (?:accepted|refused, (.+))", line)
+    if not said or (said[1] is None) != (answer == 0):
+        raise ValueError(f"'{line}' with answer {answer}")
+    return "accepted" if answer == 0 else f"refused {answer}: {said[1]}"
+
+
+def tell(listing, text):
+    """The listing with its answers told, by the lines in words of the same sheet."""
+    lines = text.split("\n")[:-1]
+    return listing._replace(told=[tell_answer(*pair) for pair in zip(listing.answers, lines, strict=True)])
 
 
 def table(rows):
@@ -54,8 +69,8 @@ def table(rows):
 def in_words(steps, listing):
     """The listing for people."""
     rows = [["record", "line", "step", "answer"]]
-    for n, (step, answer) in enumerate(zip(steps, listing.answers, strict=True), 1):
-        rows.append([str(n), str(step.line or ""), step.words, phrase(step.record[0], answer)])
+    for n, (step, told) in enumerate(zip(steps, listing.told, strict=True), 1):
+        rows.append([str(n), str(step.line or ""), step.words, told])
     # Records have no lines, nor has what is typed.
     if not any(step.line for step in steps):
         rows = [[row[0], *row[2:]] for row in rows]

@@ -1,8 +1,9 @@
 #!/usr/bin/env python3
-"""Tests of tools/run-sheet, with the programs that RUNSHEET and SEEDSHEET name.
+"""Tests of tools/run-sheet, with the programs that RUNSHEET, SEEDSHEET and EXPLAINSHEET name.
 
 What a row answers is taken from document 01, its sample, its trials, its rules,
-a board's mark, the records of a seed and the epochs of entries from document 02.
+a board's mark, the records of a seed and the epochs of entries from document 02;
+the words of an answer from docs/PHRASES.md.
 """
 
 import os
@@ -19,11 +20,11 @@ ROOT = Path(__file__).resolve().parents[2]
 TOOL = ROOT / "tools" / "run-sheet"
 PROGRAM = os.environ.get("RUNSHEET") or str(ROOT / "target" / "bin" / "runsheet")
 MAKER = os.environ.get("SEEDSHEET") or str(ROOT / "target" / "bin" / "seedsheet")
+EXPLAINER = os.environ.get("EXPLAINSHEET") or str(ROOT / "target" / "bin" / "explainsheet")
 sys.dont_write_bytecode = True
 sys.path.insert(0, str(TOOL.parent))
 
-import phrases  # noqa: E402  (from tools/)
-import sheet  # noqa: E402
+import sheet  # noqa: E402  (from tools/)
 
 LISTED, REFUSED, NOT_RUN, FAILED = range(4)
 WORDS = b"open 1\nappend 1 41\nreceipt 1\nadd 2\n"
@@ -46,6 +47,13 @@ board 7 1 1 1 1 1 0 late
 board 8 1 1 1 1 1 0 late
 receipts 1 41@1
 """
+# The sample in words: all its answers are 0.
+LINES = b"""\
+opening with board 1: accepted
+board 1 appends value 41: accepted
+board 1 gives a receipt: accepted
+add board 2: accepted
+"""
 # The first records of seed 0: tests/peer/tests/seed.rs says how they were worked out. Board
 # 7 opens the row, so that neither board 6, 3 nor 1 is leader, and board 4 has all news.
 SEED_0 = ["open 7", "count 6 2", "receipt 3", "news 4", "receipt 1"]
@@ -67,6 +75,13 @@ board 7 1 1 7 7 1 0 current
 board 8 1 1 7 7 1 0 current
 receipts 0
 """
+SEED_0_LINES = b"""\
+opening with board 7: accepted
+leader 6 counts board 2: refused, the counting board does not hold itself leader
+board 3 gives a receipt: refused, it does not hold itself leader
+board 4 takes news: refused, it has the newest news already
+board 1 gives a receipt: refused, it does not hold itself leader
+"""
 # The refusals in each step's text, in its order.
 CHECKS = {
     1: [8, 13],
@@ -87,9 +102,9 @@ CHECKS = {
 }
 
 
-def run(*words, given=b"", tool=TOOL, program=PROGRAM, maker=MAKER, **more):
+def run(*words, given=b"", tool=TOOL, program=PROGRAM, maker=MAKER, explainer=EXPLAINER, **more):
     """Runs the tool. What it wrote is there as bytes on standard output and as text on standard error."""
-    env = os.environ | {"RUNSHEET": str(program), "SEEDSHEET": str(maker)}
+    env = os.environ | {"RUNSHEET": str(program), "SEEDSHEET": str(maker), "EXPLAINSHEET": str(explainer)}
     more = {"stdout": subprocess.PIPE, "stderr": subprocess.PIPE, "env": env} | more
     done = subprocess.run([tool, *words], input=given, check=False, **more)
     if done.stderr is not None:
@@ -176,12 +191,16 @@ class Sheets(InFolder):
             done = run(*words)
             self.assertEqual((done.returncode, done.stderr), (0, ""))
             text = done.stdout.decode()
-            for said in ["docs/FORMATS.md", "Exit status", "--words", "--ask", "--seed SEED COUNT", "four minutes"]:
+            for said in ["docs/FORMATS.md", "docs/PHRASES.md", "Exit status", "four minutes"]:
                 self.assertIn(said, text)
+            for way in ["--words", "--explain", "--ask", "--seed SEED COUNT"]:
+                self.assertIn(f"\n  {way}", text)
             for form in sheet.FORMS:
                 self.assertIn("  " + " ".join(form), text)
-        for words in [["--list"], ["one", "two"], ["--words", "--ask"], ["--ask", "-"], ["--seed"], ["--seed", "1"]]:
+        for words in [["--list"], ["one", "two"], ["--ask", "-"], ["--seed"], ["--seed", "1"]]:
             self.not_run(run(*words))
+        for words in [["--words", "--ask"], ["--words", "--explain"], ["--ask", "--explain"]]:
+            self.not_run(run(*words), "not allowed with argument")
 
     def test_a_link_to_the_tool(self):
         link = self.folder / "bin" / "row"
@@ -193,7 +212,7 @@ class Sheets(InFolder):
 
 class Refused(InFolder):
     def refused(self, data, *said):
-        for words in [[], ["--words"]]:
+        for words in [[], ["--words"], ["--explain"]]:
             done = run(*words, "-", given=data)
             self.assertEqual((done.stdout, done.returncode), (b"refused 2\n", REFUSED))
             self.assertEqual(done.stderr, f"run-sheet: refused 2: {''.join(said)}\n")
@@ -235,8 +254,17 @@ class Seeded(InFolder):
         rows = [re.split(r"  +", line.strip()) for line in done.stdout.decode().split("\n\n")[0].splitlines()]
         self.assertEqual(rows[0], ["record", "step", "answer"])
         self.assertEqual([row[:2] for row in rows[1:]], [[str(n), words] for n, words in enumerate(SEED_0, 1)])
-        answers = [re.match(r"accepted|refused \d+(?=: .)", row[2])[0] for row in rows[1:]]
-        self.assertEqual(answers, ["accepted", "refused 8", "refused 8", "refused 12", "refused 8"])
+        not_leader = "refused 8: it does not hold itself leader"
+        self.assertEqual(
+            [row[2] for row in rows[1:]],
+            [
+                "accepted",
+                "refused 8: the counting board does not hold itself leader",
+                not_leader,
+                "refused 12: it has the newest news already",
+                not_leader,
+            ],
+        )
 
     def test_a_prompt_after_it(self):
         story = self.folder / "story"
@@ -261,12 +289,13 @@ class Seeded(InFolder):
         counts = ["0", "4096", "65537", "4294967297", "05", "-5", "+5", "", "5 ", "5 5", "5\n", "x", "\udcff"]
         for seed, count in [*((seed, "5") for seed in seeds), *(("0", count) for count in counts)]:
             self.refused(seed, count)
-        for way in ["--words", "--ask"]:
+        for way in ["--words", "--explain", "--ask"]:
             self.refused("0", "0", way)
 
     def test_no_sheet_beside_it(self):
         for name in ["-", "none", str(self.file("story", WORDS))]:
-            for words in [["--seed", "0", "5", name], [name, "--seed", "0", "5"], ["--ask", "--seed", "0", "5", name]]:
+            seed = ["--seed", "0", "5"]
+            for words in [[*seed, name], [name, *seed], ["--ask", *seed, name], ["--explain", *seed, name]]:
                 self.not_run(run(*words), "--seed makes the sheet: it takes no SHEET")
 
     def test_programs_that_fail(self):
@@ -306,7 +335,7 @@ class Errors(InFolder):
 
 
 class Writing(InFolder):
-    WAYS = [([], b""), (["--words"], b""), (["--ask"], b"open 1\n"), (["-"], b"")]
+    WAYS = [([], b""), (["--words"], b""), (["--explain"], b""), (["--ask"], b"open 1\n"), (["-"], b"")]
     WAYS += [(["--seed", "0", "5"], b""), (["--seed", "0", "0"], b"")]
 
     def failed(self, done, said):
@@ -387,17 +416,66 @@ class InWords(InFolder):
         self.assertEqual(told, 7)
 
 
-class Phrases(unittest.TestCase):
-    def test_every_refusal_of_a_step_has_its_reason(self):
-        pairs = {(step, answer) for step, answers in CHECKS.items() for answer in answers}
-        self.assertEqual(set(phrases.REASONS), pairs | {(0, 1)})
-        self.assertEqual(set(phrases.ANSWERS), {*range(17)} - {2, 3})
+class Explained(InFolder):
+    def test_the_sample_in_words_and_in_records(self):
+        for name, data in [("words", WORDS), ("records", RECORDS)]:
+            with self.subTest(name):
+                self.listed(run("--explain", self.file(name, data)), LINES)
+                self.listed(run("--explain", "-", given=data), LINES)
+        self.listed(run("--explain"), LINES)
 
-    def test_phrases(self):
-        self.assertEqual(phrases.phrase(3, 0), "accepted")
-        self.assertEqual(phrases.phrase(12, 1), "refused 1: a field is outside its values")
-        self.assertEqual(phrases.phrase(200, 1), "refused 1: a field is outside its values")
-        self.assertRegex(phrases.phrase(4, 6), "^refused 6: .*leader")
+    def test_the_sheet_of_a_seed(self):
+        self.listed(run("--explain", "--seed", "0", "5"), SEED_0_LINES)
+
+    def test_refused_and_malformed_records(self):
+        """Trial P6 of document 01, then records that are malformed, and an opening that stands second."""
+        story = b"open 1\nadd 2\nadd 2\nraw 9 2 2 0 0 0 0 0\nraw 200 1 2 3 4 5 6 255\nopen 1\n"
+        lines = b"""\
+opening with board 1: accepted
+add board 2: accepted
+add board 2: refused, the board is a member already
+record 09 02 02 00 00 00 00 00: refused, a field is outside its values
+record C8 01 02 03 04 05 06 FF: refused, a field is outside its values
+opening with board 1: refused, an opening stands first and nowhere else
+"""
+        self.listed(run("--explain", "-", given=story), lines)
+
+    def test_what_the_program_prints_is_printed_as_it_is(self):
+        program = self.script("other", "cat; printf 'one: two\\303\\274\\377\\n\\n'")
+        # The program that lists is not run.
+        done = run("--explain", "-", given=RECORDS, explainer=program, program=self.folder / "none")
+        self.listed(done, RECORDS + b"one: two\303\274\377\n\n")
+
+    def test_reasons_are_the_programs(self):
+        """No other place has words for an answer: what --words and --ask show follows the program."""
+        program = self.script("other", "echo 'a: accepted'; [ $(wc -c) = 8 ] || echo 'b, c: refused, for: no reason'")
+        story = b"open 1\nreceipt 1\n"
+        lines = run("--words", "-", given=story, explainer=program).stdout.decode().splitlines()
+        self.assertEqual(re.split("  +", lines[2].strip()), ["2", "2", "receipt 1", "refused 12: for: no reason"])
+        said = run("--ask", given=story, explainer=program).stdout.decode().splitlines()
+        self.assertEqual((said[1], said[-1]), ("accepted", "refused 12: for: no reason"))
+
+    def test_programs_that_fail(self):
+        name = self.folder / "none"
+        ways = [["--words"], ["--ask", self.file("story", WORDS)]]
+        for explainer, said in [
+            (name, f"{name} does not run: No such file"),
+            (self.script("ends", "exit 7"), "ends ended with status 7"),
+        ]:
+            for words in [["--explain"], *ways]:
+                done = run(*words, explainer=explainer)
+                self.assertEqual((done.stdout, done.returncode), (b"", FAILED))
+                self.assertIn(said, done.stderr)
+        # Lines that are too few, too many, no words, or of other answers than the listing's.
+        wrong = [LINES[31:], LINES + LINES, b"refused 2\n", LINES.replace(b"41: accepted", b"41: accepted not")]
+        wrong.append(LINES.replace(b"41: accepted", b"41: refused, its log is full"))
+        for text in wrong:
+            given = self.file("text", text)
+            for words in ways:
+                done = run(*words, explainer=self.script("other", f"cat '{given}'"))
+                self.assertEqual((done.stdout, done.returncode), (b"", FAILED))
+                self.assertIn("other printed does not tell the answers of the listing", done.stderr)
+                self.assertNotIn("Traceback", done.stderr)
 
 
 class Formats(unittest.TestCase):
@@ -429,13 +507,11 @@ class Formats(unittest.TestCase):
         self.assertEqual([int(row[0]) for row in rows], list(range(17)))
         for number, *_, name in rows:
             self.assertRegex(self.header, rf"{name.strip('`')}(?: =)? {number}\b")
-        for number, phrase in phrases.ANSWERS.items():
-            if number > 1 and number != 7:
-                self.assertEqual(rows[number][1].replace(",", ""), phrase.replace(",", ""))
 
-    def test_the_refusals_of_a_seed(self):
+    def test_the_refusals_of_other_calls(self):
+        """Those of a seed, and any others that the page tells with their numbers."""
         told = re.findall(r"(\d)\s\(`(ROW_\w+)`\)", self.page)
-        self.assertEqual([number for number, _ in told], ["2", "3"])
+        self.assertLessEqual({("2", "ROW_BAD_COUNT"), ("3", "ROW_SHORT_SLICE")}, set(told))
         for number, name in told:
             self.assertRegex(self.header, rf"#define {name} {number}\b")
 
@@ -481,7 +557,7 @@ class Asking(InFolder):
             [
                 "accepted",
                 "  registry: epoch 1, leader epoch 1, leader 1, members 1, status normal",
-                "refused 12: its log is not longer than the receipts",
+                "refused 12: its log is no longer than the receipts",
                 "accepted",
                 "  board 1: length 0 -> 1",
                 "accepted",
@@ -522,7 +598,7 @@ class Asking(InFolder):
                 "  board 1: joined 1 -> 6, length 2 -> 1, mark late -> current",
                 "accepted",
                 "  board 1: length 1 -> 2",
-                "refused 12: its log is not shorter than its leader's",
+                "refused 12: its log is no shorter than its leader's",
             ],
         )
 
@@ -627,16 +703,17 @@ class Building(InFolder):
         self.root = self.folder / "a row"
         shutil.copytree(TOOL.parent, self.root / "tools")
         shutil.copytree(ROOT / "examples", self.root / "examples")
-        crates = b"runsheet: rules io libc\nseedsheet: rules io libc\nother: rules\nrules:\n"
-        self.file("a row/crates.txt", b"# NAME: DEPENDENCIES\n" + crates)
+        programs = {"runsheet": PROGRAM, "seedsheet": MAKER, "explainsheet": EXPLAINER}
+        crates = "".join(f"{name}: rules io libc\n" for name in programs) + "other: rules\nrules:\n"
+        self.file("a row/crates.txt", b"# NAME: DEPENDENCIES\n" + crates.encode())
         self.file("a row/crates/rules/src/lib.rt", b"// The rules of a row. And more.\n")
         self.file("a row/crates/runsheet/src/main.rt", b"use libc;\n")
         self.script("bin/rt", PROVER)
         proved = self.folder / "proved"
         proved.mkdir()
-        (proved / "runsheet").symlink_to(PROGRAM)
-        (proved / "seedsheet").symlink_to(MAKER)
-        self.env = {name: value for name, value in os.environ.items() if name not in ("RUNSHEET", "SEEDSHEET")}
+        for name, program in programs.items():
+            (proved / name).symlink_to(program)
+        self.env = {name: value for name, value in os.environ.items() if name.lower() not in programs}
         self.env |= {"PATH": f"{self.folder}/bin:{self.env['PATH']}", "PROVED": str(proved)}
 
     def run_copy(self, *words, **more):
@@ -670,6 +747,33 @@ class Building(InFolder):
             self.listed(self.run_copy(*seed, env=self.env | named), SEED_0_LISTING)
         both = "check runsheet seedsheet"
         self.assertEqual(self.called(), ["check runsheet", both, both, "check seedsheet", "check runsheet"])
+
+    def test_words_need_the_program_that_has_them(self):
+        self.listed(self.run_copy("--explain", env=self.env | {"EXPLAINSHEET": EXPLAINER}), LINES)
+        self.assertEqual(self.called(), [])
+        done = self.run_copy("--explain")
+        told = "run-sheet: proving and building the program; about four minutes the first time\n"
+        self.assertEqual((done.stdout, done.stderr), (LINES, told))
+        self.listed(self.run_copy("--explain"), LINES)
+        done = self.run_copy("--explain", "--seed", "0", "5")
+        self.assertEqual((done.stdout, done.stderr), (SEED_0_LINES, "run-sheet: proving and building the programs\n"))
+        words = run("--words").stdout
+        done = self.run_copy("--words")
+        self.assertEqual((done.stdout, done.stderr), (words, "run-sheet: proving and building the programs\n"))
+        self.listed(self.run_copy("--words", env=self.env | {"RUNSHEET": PROGRAM}), words)
+        done = self.run_copy("--ask", given=b"open 1\n", env=self.env | {"EXPLAINSHEET": EXPLAINER})
+        self.assertIn(b"\naccepted\n", done.stdout)
+        self.assertEqual(
+            self.called(),
+            [
+                "check explainsheet",
+                "check explainsheet",
+                "check explainsheet seedsheet",
+                "check runsheet explainsheet",
+                "check explainsheet",
+                "check runsheet",
+            ],
+        )
 
     def test_one_line_of_progress_at_a_terminal(self):
         leader, follower = pty.openpty()

@@ -2,19 +2,18 @@
 use mathlib.Core.List.{List, [], _∷_, _++_, append-assoc, append-nil}
 use mathlib.Core.Path.{_≡_, refl, sym, subst, ap, ap₂, _∙_}
 use Prim.Native.Nat.{ℕ, zero, suc, _+_, _-_, _*_, _^_, _≤_, _<_}
-use native.Mathlib.Nat.{zero-add, add-zero, add-suc}
+use native.Mathlib.Nat.{add-zero, add-suc}
 use native.Mathlib.Numerals.{add-one}
 use native.Mathlib.Omega.{arith}
 use lib.ListN.{length, take, drop, getD, length-append}
 use lib.Seq.{take-suc, length-take-le, getD-drop, drop-drop}
 use Rattle.model.specs.Records.{Record}
-use borrow.Author.Tests.{lt-leb, le-leb}
-use Rattle.text.specs.Text.{Text, Wrote, digits}
+use Rattle.text.specs.Text.{Text, digits}
 use Rattle.text.proofs.Laws.{digits-most, digits-most-4, digits-most-10}
 use Rattle.records.specs.Bytes.{recordAt, records}
 use Rattle.lines.specs.Lines.{answerLine}
 use Rattle.lines.proofs.Lengths.{line-length}
-use Rattle.listing.specs.Listing.{answerLines, lines, Delivered}
+use Rattle.listing.specs.Listing.{answerLines, lines}
 
 -- One record more.
 pub records-suc : (k : ℕ) (s : Text) → records (suc k) s ≡ records k s ++ (recordAt (drop (8 * k) s) ∷ [])
@@ -108,16 +107,3 @@ lines-most s ns hs (suc n) hn h l = omega (
   digits-most 2 (getD s (8 * n) 0) (omega (arith, hs (8 * n))),
   digits-most 1 (getD ns n 0) (omega (arith, hn n (omega arith))),
 )
-
--- A text that is too long, and one that was written.
-pub too-long : {text out : Text} → length out < length text → Delivered text out out 3
-too-long {text} {out} h =
-    record { answer = rw (lt-leb (length text) (length out) h); left = rw (lt-leb (length text) (length out) h) }
-
-pub fitting : {text out out′ : Text} {r : ℕ} → length text ≤ length out → Wrote out 0 text out′ r
-    → Delivered text out out′ r
-fitting {text} {out} h w =
-    record {
-      answer = w .next ∙ rw (le-leb (length text) (length out) h, zero-add (length text));
-      left = w .text ∙ rw (le-leb (length text) (length out) h);
-    }

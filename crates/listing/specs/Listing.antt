@@ -1,15 +1,12 @@
--- A listing of document 01, with the mark and the receipts of document 02, byte for byte: the lines of its records, its
--- ending, and its slice. Cited by the promises of `deliver`, of the writers of the ending and, through `listing`, of
+-- A listing of document 01, with the mark and the receipts of document 02, byte for byte: the lines of its records and
+-- its ending. Cited by the promises of `deliver`, of the writers of the ending and, through `listing`, of
 -- `run_sheet`. Assumes nothing.
-use mathlib.Core.Bool.{cond}
 use mathlib.Core.List.{List, [], _∷_, _++_}
-use mathlib.Core.Path.{_≡_}
 use Prim.Native.Nat.{ℕ, suc}
-use lib.Dec.{leb}
 use lib.ListN.{length, take}
 use Rattle.model.specs.State.{Entry, Outline}
 use Rattle.model.specs.Records.{Record}
-use Rattle.text.specs.Text.{Text, digits, over}
+use Rattle.text.specs.Text.{Text, digits}
 use Rattle.lines.specs.Lines.{word, space, newline, eight, answerLine, registryLine, controlLine, boardText, receiptText}
 use Rattle.mark.specs.Mark.{lateIn}
 use Rattle.records.specs.Bytes.{records}
@@ -51,10 +48,3 @@ receiptsLine xs = word "receipts " ++ (digits (length xs) ++ (receiptsText xs ++
 -- The lines after the answers: the state, in outline m, and the receipts xs.
 unfoldable pub ending : Outline → List Entry → Text
 ending m xs = registryLine (m .registry) ++ (controlLine (m .controller) ++ (boardLines m ++ receiptsLine xs))
-
--- A listing's slice
-
--- A text for a slice whose bytes are `out`: its length and the slice with it, or refusal 3 and the slice as it was.
-pub record Delivered (text out out′ : Text) (r : ℕ) : Type 0 where
-  pub answer : r ≡ cond (leb (length text) (length out)) (length text) 3
-  pub left : out′ ≡ cond (leb (length text) (length out)) (over out 0 text) out

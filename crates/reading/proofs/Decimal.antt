@@ -23,7 +23,7 @@ module _ (P : ℕ → Text → Type 0) (one : (n : ℕ) → n < 10 → P n ((48 
       by-size true e f = let l = ltb-true n 10 e in rw (digits-one n l) (one n l)
       by-size false e f = let l = ltb-false n 10 e in rw (digits-more n l) (more n (digits (n / 10)) l (f l))
 
-  by-digits : (n : ℕ) → P n (digits n)
+  pub by-digits : (n : ℕ) → P n (digits n)
   by-digits n = within (suc n) n (omega arith)
 
 reads-append : (v : ℕ) (xs ys : Text) → reads v (xs ++ ys) ≡ reads (reads v xs) ys
@@ -52,17 +52,24 @@ digits-lead =
     let e = is-digit (48 + n % 10) (omega arith) (omega arith) in
     rw (append-assoc xs d rest, append-assoc xs d (leading isDigit rest), h (d ++ rest), e))
 
--- and they end before a byte that is none.
-pub number-lead : (n c : ℕ) (cs : Text) → isDigit c ≡ false → leading isDigit (digits n ++ (c ∷ cs)) ≡ digits n
-number-lead n c cs e = digits-lead n (c ∷ cs) ∙ rw e (append-nil (digits n))
+-- and they end where no digit follows.
+number-ends : (n : ℕ) (xs : Text) → leading isDigit xs ≡ [] → leading isDigit (digits n ++ xs) ≡ digits n
+number-ends n xs e = digits-lead n xs ∙ ap (λ t. digits n ++ t) e ∙ append-nil (digits n)
 
--- Where a number stands before such a byte, number and rest are known.
-pub cut-number : (n m c d : ℕ) (xs ys : Text) → isDigit c ≡ false → isDigit d ≡ false
-    → digits n ++ (c ∷ xs) ≡ digits m ++ (d ∷ ys) → (n ≡ m) × (c ∷ xs ≡ d ∷ ys)
-cut-number n m c d xs ys h k e = (digits-differ n m same, append-cancel-left (digits m) (c ∷ xs) (d ∷ ys) rest)
+pub number-lead : (n c : ℕ) (cs : Text) → isDigit c ≡ false → leading isDigit (digits n ++ (c ∷ cs)) ≡ digits n
+number-lead n c cs e = number-ends n (c ∷ cs) (rw e)
+
+-- So number and rest are known.
+pub cut-digits : (n m : ℕ) (xs ys : Text) → leading isDigit xs ≡ [] → leading isDigit ys ≡ []
+    → digits n ++ xs ≡ digits m ++ ys → (n ≡ m) × (xs ≡ ys)
+cut-digits n m xs ys h k e = (digits-differ n m same, append-cancel-left (digits m) xs ys rest)
   where
     same : digits n ≡ digits m
-    same = sym (number-lead n c xs h) ∙ ap (leading isDigit) e ∙ number-lead m d ys k
+    same = sym (number-ends n xs h) ∙ ap (leading isDigit) e ∙ number-ends m ys k
 
-    rest : digits m ++ (c ∷ xs) ≡ digits m ++ (d ∷ ys)
-    rest = ap (λ l. l ++ (c ∷ xs)) (sym same) ∙ e
+    rest : digits m ++ xs ≡ digits m ++ ys
+    rest = ap (λ l. l ++ xs) (sym same) ∙ e
+
+pub cut-number : (n m c d : ℕ) (xs ys : Text) → isDigit c ≡ false → isDigit d ≡ false
+    → digits n ++ (c ∷ xs) ≡ digits m ++ (d ∷ ys) → (n ≡ m) × (c ∷ xs ≡ d ∷ ys)
+cut-number n m c d xs ys h k e = cut-digits n m (c ∷ xs) (d ∷ ys) (rw h) (rw k) e

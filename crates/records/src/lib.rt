@@ -64,7 +64,7 @@ pub fn decode(sheet: &[u8], at: usize) -> Record
 }
 
 // The eight bytes of a record.
-fn bytes(r: Record) -> [u8; 8]
+pub fn bytes(r: Record) -> [u8; 8]
     ensures { λ b. ⌜ b ≡ recordBytes (recordOf r) ⌝ }
 {
     let v = r.value;

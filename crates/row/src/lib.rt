@@ -3,6 +3,8 @@
 
 ghost use mathlib.Core.Path.{_≡_};
 ghost use Rattle.sheet.specs.Sheet as Sheet;
+ghost use Rattle.explain.specs.Explain as Explain;
+ghost use Rattle.phrases.specs.Describe as Describe;
 ghost use Rattle.generator.specs.Seeded as Seeded;
 ghost use Rattle.model.specs.Members as Members;
 ghost use Rattle.members.specs.Mask.{bits};
@@ -15,6 +17,27 @@ pub extern "C" fn run_sheet(sheet: &[u8], listing: &mut [u8]) -> usize
         × (now (listing .exit) ≡ Sheet.left (now (sheet .entry)) (now (listing .entry))) ⌝ }
 {
     sheet::run_sheet(sheet, &mut *listing)
+}
+
+// Sheet in, a line in words for each record out, with the answer that its run gave: the text's length, 2 for a sheet of
+// wrong length or without a valid opening, then 3 for a slice that is shorter than the text; both leave the slice
+// untouched.
+#[no_mangle]
+pub extern "C" fn explain_sheet(sheet: &[u8], text: &mut [u8]) -> usize
+    ensures { λ r. ⌜ (r ≡ Explain.result (now (sheet .entry)) (now (text .entry)))
+        × (now (text .exit) ≡ Explain.left (now (sheet .entry)) (now (text .entry))) ⌝ }
+{
+    explain::explain_sheet(sheet, &mut *text)
+}
+
+// One line in words of a record and its answer: the line's length, 1 for a record that is not 8 bytes long or an answer
+// that is not on the list, then 3 for a slice that is shorter than the line; both leave the slice untouched.
+#[no_mangle]
+pub extern "C" fn describe_record(bytes: &[u8], answer: usize, line: &mut [u8]) -> usize
+    ensures { λ r. ⌜ (r ≡ Describe.result (now (bytes .entry)) answer (now (line .entry)))
+        × (now (line .exit) ≡ Describe.left (now (bytes .entry)) answer (now (line .entry))) ⌝ }
+{
+    phrases::describe_record(bytes, answer, &mut *line)
 }
 
 // Writes the sheet of a seed and a count of records, the opening included: the sheet's length, 2 for a count outside 1

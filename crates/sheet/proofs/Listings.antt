@@ -16,11 +16,11 @@ use Rattle.model.proofs.Theorem.{safe}
 use Rattle.cluster.specs.declared.Cluster.{Cluster}
 use Rattle.cluster.specs.Layout.{outlineOf}
 use Rattle.refinement.specs.Refinement.{Places, listed}
-use Rattle.text.specs.Text.{Text, over}
+use Rattle.text.specs.Text.{Text, over, Delivered}
 use Rattle.text.proofs.Laws.{over-length, digits-one-length}
 use Rattle.records.specs.Bytes.{recordAt, records, wholeRecords, isSheet}
 use Rattle.lines.specs.Lines.{answerLine}
-use Rattle.listing.specs.Listing.{answerLines, lines, ending, Delivered}
+use Rattle.listing.specs.Listing.{answerLines, lines, ending}
 use Rattle.lines.proofs.Lengths.{line-length}
 use Rattle.sheet.specs.Sheet.{listingOf, listing, result, left, openingBytes, Refused, RefusedHolds, LengthsTell}
 use Rattle.sheet.specs.Running.{following, stateAt, Ran}
@@ -112,7 +112,7 @@ module _ (s : Text) (e : isSheet s ≡ true) (row : Cluster) (p : Places) (ns : 
       )
 
 -- A result that is no refusal is a length within the slice,
-within : (a t : Bool) (n m : ℕ) → leb n m ≡ t → 3 < cond a (cond t n 3) 2 → cond a (cond t n 3) 2 ≤ m
+pub within : (a t : Bool) (n m : ℕ) → leb n m ≡ t → 3 < cond a (cond t n 3) 2 → cond a (cond t n 3) 2 ≤ m
 within true true n m e h = leb-true n m e
 within true false n m e h = absurd (omega (arith, h))
 within false t n m e h = absurd (omega (arith, h))
@@ -123,7 +123,7 @@ result-within s out h =
     within (isSheet s) (leb (length (listing s)) (length out)) (length (listing s)) (length out) refl h
 
 -- and the slice is as long as it was.
-kept-length : (t : Bool) (out xs : Text) → length (cond t (over out 0 xs) out) ≡ length out
+pub kept-length : (t : Bool) (out xs : Text) → length (cond t (over out 0 xs) out) ≡ length out
 kept-length true out xs = over-length out 0 xs
 kept-length false out xs = refl
 

@@ -90,15 +90,15 @@ answers-suc s [] st = refl
 answers-suc s (q ∷ sts) st = ap (λ ns. answerOf (outline s) q ∷ ns) (answers-suc (step entries s q) sts st)
 
 -- No answer is above 16.
-answers-small : (t : RowState) (sts : List Step) (i : ℕ) → getD (answers entries t sts) i 0 < 100
+answers-most : (t : RowState) (sts : List Step) (i : ℕ) → getD (answers entries t sts) i 0 ≤ 16
 unfolding answers
-answers-small t [] i = omega arith
-answers-small t (st ∷ sts) zero = omega (arith, answer-most (outline t) st)
-answers-small t (st ∷ sts) (suc i) = answers-small (step entries t st) sts i
+answers-most t [] i = omega arith
+answers-most t (st ∷ sts) zero = omega (arith, answer-most (outline t) st)
+answers-most t (st ∷ sts) (suc i) = answers-most (step entries t st) sts i
 
-all-small : (t : RowState) (sts : List Step) (i : ℕ) → getD (0 ∷ answers entries t sts) i 0 < 100
-all-small t sts zero = omega arith
-all-small t sts (suc i) = answers-small t sts i
+pub all-most : (t : RowState) (sts : List Step) (i : ℕ) → getD (0 ∷ answers entries t sts) i 0 ≤ 16
+all-most t sts zero = omega arith
+all-most t sts (suc i) = answers-most t sts i
 
 module _ (s : Text) (sheet : isSheet s ≡ true) (k : ℕ) (row : Cluster) (p : Places) (ns : List ℕ)
     (h : Ran s k row p ns) where
@@ -127,12 +127,13 @@ module _ (s : Text) (sheet : isSheet s ≡ true) (k : ℕ) (row : Cluster) (p : 
   pub ran-issued : row .issued ≤ length (p .list)
   ran-issued = omega (arith, h .full .list, to-ranges (outlineOf row) (of-true ran-fits) .committed)
 
-  -- An answer has two digits at most.
-  pub ran-small : (i : ℕ) → i ≤ k → getD ns i 0 < 100
-  ran-small i q =
-      let n : getD ns i 0 ≡ getD (0 ∷ answers entries (opened opening) past) i 0 =
-      sym (getD-take (suc k) ns i 0 (omega (arith, q))) ∙ ap (λ xs. getD xs i 0) (h .answered) in
-      subst (λ m. m < 100) (sym n) (all-small (opened opening) past i)
+  -- The answers that were kept are those of the model's run,
+  pub ran-answer : (i : ℕ) → i ≤ k → getD ns i 0 ≡ getD (0 ∷ answers entries (opened opening) past) i 0
+  ran-answer i q = sym (getD-take (suc k) ns i 0 (omega (arith, q))) ∙ ap (λ xs. getD xs i 0) (h .answered)
+
+  -- 16 at most.
+  pub ran-most : (i : ℕ) → i ≤ k → getD ns i 0 ≤ 16
+  ran-most i q = subst (λ m. m ≤ 16) (sym (ran-answer i q)) (all-most (opened opening) past i)
 
   pub ran-ready : Shape row → Ready row
   ran-ready shape = ready row shape ran-fits

@@ -4,7 +4,7 @@ ghost use mathlib.Core.Path.{_≡_};
 ghost use Rattle.model.specs.Trials.{TrialsHold};
 ghost use Rattle.sheet.specs.Sheet.{SampleHolds, RoomHolds, RefusedHolds, LengthsTell, result, left};
 
-mod running;
+pub mod running;
 
 // The papers' sample sheet has the papers' listing, byte for byte; short slices and bad openings are refused; no
 // listing is so short that its length could be a refusal. By the definitions: nothing to run.

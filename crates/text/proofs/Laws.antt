@@ -1,15 +1,16 @@
 -- What a stored text leaves as it was, texts one after the other, and how many digits a number has. Assumes nothing.
 use mathlib.Core.Bool.{Bool, true, false, cond}
 use mathlib.Core.List.{[], _∷_, _++_, append-assoc}
-use mathlib.Core.Path.{_≡_, refl, sym, ap, subst, _∙_}
-use Prim.Native.Nat.{ℕ, zero, suc, zero-le, _+_, _/_, _%_, _^_, _<_, _≤_}
-use native.Mathlib.Nat.{add-zero, add-suc, suc-add, not-suc-le-zero, pow-le-pow-right}
+use mathlib.Core.Path.{_≡_, refl, sym, ap, ap₂, subst, _∙_}
+use Prim.Native.Nat.{ℕ, zero, suc, zero-le, _+_, _-_, _*_, _/_, _%_, _^_, _<_, _≤_}
+use native.Mathlib.Nat.{zero-add, add-zero, add-suc, suc-add, mul-suc, not-suc-le-zero, pow-le-pow-right}
+use native.Mathlib.Numerals.{add-one}
 use native.Mathlib.Omega.{arith}
 use lib.Dec.{ltb}
 use lib.ListN.{length, take, drop, set, length-append}
 use lib.Seq.{length-sets, sets-eq, length-take-le, drop-at, take-append-seam, take-set-le, drop-set-lt, set-comm}
-use borrow.Author.Tests.{lt-ltb, le-ltb, ltb-true, ltb-false}
-use Rattle.text.specs.Text.{Text, over, Wrote, digitsWithin, digits}
+use borrow.Author.Tests.{lt-ltb, le-ltb, ltb-true, ltb-false, lt-leb, le-leb}
+use Rattle.text.specs.Text.{Text, over, Wrote, Delivered, joined, digitsWithin, digits}
 
 -- Storing a text
 
@@ -100,6 +101,10 @@ pub then-both : {d e f : Text} {at p q : ℕ} (xs ys : Text) {zs : Text} → Wro
     → Wrote d at (xs ++ (ys ++ zs)) f q
 then-both {d} {e} {f} {at} {p} {q} xs ys {zs} w v = subst (λ t. Wrote d at t f q) (append-assoc xs ys zs) (then w v)
 
+-- The same text, known by another name.
+pub wrote-as : {d e xs ys : Text} {at r : ℕ} → xs ≡ ys → Wrote d at xs e r → Wrote d at ys e r
+wrote-as {d} {e} {at = at} {r} q w = subst (λ t. Wrote d at t e r) q w
+
 -- A writer leaves the slice as long as it was.
 pub wrote-length : {d e xs : Text} {at r : ℕ} → Wrote d at xs e r → length e ≡ length d
 wrote-length {d} {e} {xs} {at} w = ap length (w .text) ∙ over-length d at xs
@@ -109,6 +114,62 @@ pub read-back : {d xs e : Text} {r : ℕ} → Wrote d 0 xs e r → r ≤ length 
 read-back {d} {xs} {e} {r} w h =
     let n : r ≡ length xs = omega (arith, w .next) in
     rw (n, w .text) (over-holds d 0 xs (omega (arith, h, n)))
+
+-- A text that is too long, and one that was written.
+pub too-long : {text out : Text} → length out < length text → Delivered text out out 3
+too-long {text} {out} h =
+    record { answer = rw (lt-leb (length text) (length out) h); left = rw (lt-leb (length text) (length out) h) }
+
+pub fitting : {text out out′ : Text} {r : ℕ} → length text ≤ length out → Wrote out 0 text out′ r
+    → Delivered text out out′ r
+fitting {text} {out} h w =
+    record {
+      answer = w .next ∙ rw (le-leb (length text) (length out) h, zero-add (length text));
+      left = w .text ∙ rw (le-leb (length text) (length out) h);
+    }
+
+-- Texts of numbers, one after the other
+
+-- One more takes no less room,
+pub joined-more : (text : ℕ → Text) (i d : ℕ) → length (joined text i) ≤ length (joined text (i + d))
+unfolding joined
+joined-more text i zero = rw (add-zero i) (omega arith)
+joined-more text i (suc d) =
+    rw (add-suc i d)
+    (omega (arith, joined-more text i d, length-append (joined text (i + d)) (text (i + d))))
+
+-- so room for n of them is room for each after those before it.
+pub joined-room : (text : ℕ → Text) (i n : ℕ) → i < n
+    → length (joined text i) + length (text i) ≤ length (joined text n)
+unfolding joined
+joined-room text i n h =
+    let e : suc i + (n - suc i) ≡ n = omega (arith, h) in
+    let m = subst (λ k. length (joined text (suc i)) ≤ length (joined text k)) e
+    (joined-more text (suc i) (n - suc i)) in
+    omega (arith, m, length-append (joined text i) (text i))
+
+pub joined-none : (text : ℕ → Text) → joined text 0 ≡ []
+unfolding joined
+joined-none text = refl
+
+pub joined-next : (text : ℕ → Text) (i : ℕ) → joined text (i + 1) ≡ joined text i ++ text i
+unfolding joined
+joined-next text i = rw (add-one i)
+
+-- Texts of at most k bytes are n times k at most.
+pub joined-most : (text : ℕ → Text) (k n : ℕ) → ((i : ℕ) → i < n → length (text i) ≤ k) → length (joined text n) ≤ k * n
+unfolding joined
+joined-most text k zero h = omega arith
+joined-most text k (suc n) h =
+    let l = joined-most text k n (λ i q. h i (omega (arith, q))) in
+    let m : k * suc n ≡ k * n + k = mul-suc k n in
+    omega (arith, l, m, h n (omega arith), length-append (joined text n) (text n))
+
+-- Texts that are the same one by one are the same together.
+pub joined-same : (f g : ℕ → Text) (n : ℕ) → ((i : ℕ) → i < n → f i ≡ g i) → joined f n ≡ joined g n
+unfolding joined
+joined-same f g zero h = refl
+joined-same f g (suc n) h = ap₂ (λ x y. x ++ y) (joined-same f g n (λ i q. h i (omega (arith, q)))) (h n (omega arith))
 
 -- Digits
 

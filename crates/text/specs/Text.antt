@@ -6,7 +6,7 @@ use mathlib.Core.Bool.{cond}
 use mathlib.Core.List.{List, [], _∷_, _++_}
 use mathlib.Core.Path.{_≡_}
 use Prim.Native.Nat.{ℕ, zero, suc, _+_, _/_, _%_}
-use lib.Dec.{ltb}
+use lib.Dec.{leb, ltb}
 use lib.ListN.{length}
 use lib.Seq.{sets}
 
@@ -22,6 +22,16 @@ over d at xs = sets d at xs
 pub record Wrote (d : Text) (at : ℕ) (xs e : Text) (r : ℕ) : Type 0 where
   pub next : r ≡ at + length xs
   pub text : e ≡ over d at xs
+
+-- A text for a slice whose bytes are `out`: its length and the slice with it, or refusal 3 and the slice as it was.
+pub record Delivered (text out out′ : Text) (r : ℕ) : Type 0 where
+  pub answer : r ≡ cond (leb (length text) (length out)) (length text) 3
+  pub left : out′ ≡ cond (leb (length text) (length out)) (over out 0 text) out
+
+-- The texts of 0 to n - 1, one after the other.
+unfoldable pub joined : (ℕ → Text) → ℕ → Text
+joined text zero = []
+joined text (suc n) = joined text n ++ text n
 
 -- The decimal digits of n, if k are enough; byte 48 is 0. The `let` lets antt compute only the digits that there are.
 unfoldable pub digitsWithin : ℕ → ℕ → Text

@@ -35,6 +35,18 @@ const CAN_MEET: [&[u8]; STEPS] = [
     &[1],                      // 16 to 255, no step
 ];
 
+/// Can a text in words tell this answer of a step? There 16 stands for every record
+/// malformed by itself, whatever its step byte; a run answers 1 to it, and of the
+/// others only to an opening.
+fn can_tell(step: usize, answer: usize) -> bool {
+    let alone = answer != 1 || [0, STEPS - 1].contains(&step);
+    alone && can_meet(step, answer)
+}
+
+fn can_meet(step: usize, answer: usize) -> bool {
+    CAN_MEET[step].contains(&(answer as u8))
+}
+
 /// A record's effect, and what came before it in the sheet.
 struct Seen<'a> {
     before: &'a Row,
@@ -186,9 +198,14 @@ const LINES: [(&str, fn(&Line) -> bool); 5] = [
     ),
 ];
 
+/// How often each answer of each step.
+type Pairs = [[u64; ANSWERS]; STEPS];
+
 #[derive(Default)]
 pub struct Coverage {
-    met: [[u64; ANSWERS]; STEPS],
+    met: Pairs,
+    /// In texts in words.
+    told: Pairs,
     events: [u64; EVENTS.len()],
     tallied: [u64; TALLIED.len()],
     lines: [u64; LINES.len()],
@@ -238,6 +255,16 @@ impl Coverage {
         }
     }
 
+    /// Notes a line of a text in words, of this record and the answer that a run gave.
+    pub fn tell(&mut self, record: &[u8; 8], answer: usize) {
+        let step = match record {
+            [0, 1..=8, 0, 0, 0, 0, 0, 0] => 0,
+            _ if answer == 1 => STEPS - 1,
+            [step, ..] => usize::from(*step).min(STEPS - 1),
+        };
+        self.told[step][answer] += 1;
+    }
+
     /// What is counted besides the pairs, with its number.
     fn counts(&self) -> impl Iterator<Item = (&'static str, u64)> {
         let events = EVENTS.map(|(name, _)| name).into_iter().zip(self.events);
@@ -248,20 +275,26 @@ impl Coverage {
 
     /// What can be met and was not, and what cannot and was.
     pub fn faults(&self) -> Vec<String> {
-        let mut faults = Vec::new();
-        for (step, answers) in self.met.iter().enumerate() {
-            for (answer, &number) in answers.iter().enumerate() {
-                match (CAN_MEET[step].contains(&(answer as u8)), number) {
-                    (true, 0) => faults.push(format!("not met: step {step}, answer {answer}")),
-                    (false, 1..) => faults.push(format!("met: step {step}, answer {answer}")),
-                    _ => {}
-                }
-            }
-        }
+        let mut faults = pair_faults("met", &self.met, can_meet);
+        faults.extend(pair_faults("told", &self.told, can_tell));
         let absent = self.counts().filter(|&(_, number)| number == 0);
         faults.extend(absent.map(|(name, _)| format!("not met: {name}")));
         faults
     }
+}
+
+fn pair_faults(what: &str, pairs: &Pairs, can: fn(usize, usize) -> bool) -> Vec<String> {
+    let mut faults = Vec::new();
+    for (step, answers) in pairs.iter().enumerate() {
+        for (answer, &number) in answers.iter().enumerate() {
+            match (can(step, answer), number) {
+                (true, 0) => faults.push(format!("not {what}: step {step}, answer {answer}")),
+                (false, 1..) => faults.push(format!("{what}: step {step}, answer {answer}")),
+                _ => {}
+            }
+        }
+    }
+    faults
 }
 
 impl fmt::Display for Coverage {
@@ -281,9 +314,7 @@ impl fmt::Display for Coverage {
             for (answer, number) in answers.iter().enumerate() {
                 match (answer, number) {
                     (2 | 3, _) => {}
-                    (_, 0) if !CAN_MEET[step].contains(&(answer as u8)) => {
-                        write!(out, "{:>8}", "-")?
-                    }
+                    (_, 0) if !can_meet(step, answer) => write!(out, "{:>8}", "-")?,
                     _ => write!(out, "{number:>8}")?,
                 }
             }

@@ -141,6 +141,26 @@ pub fn edges() -> Vec<Vec<u8>> {
         sheet[place] = byte;
         sheets.push(sheet);
     }
+    // Board 2 becomes leader, as in trials P7 to P9.
+    let change = [
+        (3, 2),
+        (6, 1),
+        (10, 0),
+        (11, 0),
+        (12, 2),
+        (13, 0),
+        (5, 0),
+        (6, 2),
+    ];
+    let change = change.map(|(step, b)| record(step, b, 0, 0));
+    // About the longest text in words (document 02, Paper 5): the controller reads board 3
+    // again and again, which has not joined under its leader epoch. It stands first among
+    // the longest sheets, so that tests/mutants/try takes it.
+    let then = [(3, 3), (10, 0), (6, 2), (11, 0)].map(|(step, b)| record(step, b, 0, 0));
+    let reads = iter::repeat(record(12, 3, 0, 0));
+    let steps = change.into_iter().chain(then).chain(reads);
+    let records = iter::once(opening).chain(steps);
+    sheets.push(records.take(RECORDS_MAX).flatten().collect());
     // Lengths about 0, 1 record, 4,095 records, and far too long.
     let longest = RECORDS_MAX * 8;
     for length in (0..=17).chain(longest - 9..=longest + 9).chain([100_000]) {
@@ -174,19 +194,8 @@ pub fn edges() -> Vec<Vec<u8>> {
     let late = [record(3, 3, 0, 0)];
     let steps = turns(EPOCH_MAX.into()).chain(late);
     sheets.push(iter::once(opening).chain(steps).flatten().collect());
-    // The longest receipts: board 2 becomes leader, as in trials P7 to P9 but under leader
-    // epoch 1,002, and appends values of ten digits.
-    let change = [
-        (3, 2),
-        (6, 1),
-        (10, 0),
-        (11, 0),
-        (12, 2),
-        (13, 0),
-        (5, 0),
-        (6, 2),
-    ];
-    let change = change.map(|(step, b)| record(step, b, 0, 0));
+    // The longest receipts: board 2 becomes leader under leader epoch 1,002, and appends
+    // values of ten digits.
     let steps = turns(998).chain(change);
     let steps = steps.chain(full(1, 2, u32::MAX)).chain(full(2, 2, 0));
     sheets.push(iter::once(opening).chain(steps).flatten().collect());

@@ -1,28 +1,34 @@
 //! compare [SHEETS [SEED]]
 //! compare --edges DIR
+//! compare --texts DIR
 //! compare --lines DIR
 //! compare --sets
+//! compare --pairs
 //!
 //! Holds the proved programs to the second one: each sheet goes through the C
-//! entry `run_sheet` in several slices, and the edge sheets and every fourth
-//! random one through the program that RUNSHEET names, over standard input. As
-//! many random seeds go through the C entry `seed_sheet` and the program that
-//! SEEDSHEET names in the same way, and their sheets are then sheets like the
-//! others. That program is also given inputs that it must refuse.
+//! entries `run_sheet` and `explain_sheet` in several slices, and the edge sheets
+//! and every fourth random one through the programs that RUNSHEET and EXPLAINSHEET
+//! name, over standard input. As many random seeds go through the C entry
+//! `seed_sheet` and the program that SEEDSHEET names in the same way, and their
+//! sheets are then sheets like the others. That program is also given inputs that
+//! it must refuse.
 //! With --edges it compares nothing: it writes edge sheet N to DIR/N.sheet, and
-//! what the second program prints of it to DIR/N.printed. With --lines it writes
-//! the inputs of the other program so, N to DIR/N.line. With --sets it asks the C
-//! entry `look_up_majority` and the second program of every set of boards alone.
+//! what the second program prints of it to DIR/N.printed; with --texts its text in
+//! words. With --lines it writes the inputs of the program that makes sheets so, N
+//! to DIR/N.line. With --sets it asks the C entry `look_up_majority` and the second
+//! program of every set of boards alone, with --pairs the C entry `describe_record`
+//! of records of every kind with every answer.
 //!
-//! Exit status: 0 all agree; 1 a sheet, a line or a set differs; 2 bad usage, or a
-//! program does not run; 3 all agree, but something that a run can meet was not
-//! met (as may be with fewer than 1,000 sheets).
+//! Exit status: 0 all agree; 1 a sheet, a line, a set or a pair differs; 2 bad
+//! usage, or a program does not run; 3 all agree, but something that a run can meet
+//! was not met (as may be with fewer than 1,000 sheets).
 
 mod both;
 mod coverage;
 mod seeds;
 mod sets;
 mod sheets;
+mod words;
 
 use both::{differs, Fault};
 use coverage::Coverage;
@@ -30,6 +36,7 @@ use generate::{Kind, Rng};
 use std::path::{Path, PathBuf};
 use std::process::ExitCode;
 use std::{env, fs, io};
+use words::Told;
 
 const SHEETS: u64 = 3000;
 const SEED: u64 = 1;
@@ -43,8 +50,10 @@ fn main() -> ExitCode {
     let words: Vec<&str> = args.iter().map(String::as_str).collect();
     let done = match words[..] {
         ["--edges", dir] => write(dir, "sheet", &generate::edges(), sheets::printed),
+        ["--texts", dir] => write(dir, "sheet", &generate::edges(), words::printed),
         ["--lines", dir] => write(dir, "line", &seeds::lines(), peer::seed::print),
         ["--sets"] => told(sets::compare()),
+        ["--pairs"] => told(words::compare()),
         _ => compare_with(&words),
     };
     match done {
@@ -77,7 +86,8 @@ fn write(
 fn compare_with(words: &[&str]) -> io::Result<u8> {
     let number = |n: usize, default| words.get(n).map_or(Ok(default), |word| word.parse());
     let (Ok(sheets), Ok(seed), 0..=2) = (number(0, SHEETS), number(1, SEED), words.len()) else {
-        eprintln!("usage: compare [SHEETS [SEED]] | --edges DIR | --lines DIR | --sets");
+        let ways = "--edges DIR | --texts DIR | --lines DIR | --sets | --pairs";
+        eprintln!("usage: compare [SHEETS [SEED]] | {ways}");
         return Ok(2);
     };
     let named = |name: &str| match env::var_os(name) {
@@ -89,8 +99,10 @@ fn compare_with(words: &[&str]) -> io::Result<u8> {
     let mut comparison = Comparison {
         runsheet: named("RUNSHEET")?,
         seedsheet: named("SEEDSHEET")?,
+        explainsheet: named("EXPLAINSHEET")?,
         rng: Rng::new(seed),
         coverage: Coverage::default(),
+        told: Told::default(),
         sheets: 0,
         printed: 0,
     };
@@ -119,9 +131,11 @@ fn told(compared: Result<u8, Fault>) -> io::Result<u8> {
 struct Comparison {
     runsheet: PathBuf,
     seedsheet: PathBuf,
+    explainsheet: PathBuf,
     /// What the slices hold.
     rng: Rng,
     coverage: Coverage,
+    told: Told,
     /// How many sheets were compared, and how many of them were printed too.
     sheets: usize,
     printed: usize,
@@ -168,7 +182,7 @@ impl Comparison {
         Ok(())
     }
 
-    /// The C entry does the same as the second program; so does the program if it prints.
+    /// The C entries do the same as the second program; so do the programs if they print.
     /// Of a seeded sheet they first make the sheet.
     fn agree(&mut self, kind: Kind, sheet: &[u8], print: bool) -> Result<(), Fault> {
         if let Kind::Seeded { seed, count } = kind {
@@ -181,8 +195,11 @@ impl Comparison {
             }
         }
         sheets::call(sheet, &mut self.rng)?;
+        self.told
+            .explain(sheet, &mut self.coverage, &mut self.rng)?;
         if print {
             sheets::print(&self.runsheet, sheet)?;
+            words::print(&self.explainsheet, sheet)?;
         }
         Ok(())
     }
@@ -190,7 +207,8 @@ impl Comparison {
     /// Tells what was met. Returns the exit status.
     fn tell(&self, sheets: u64) -> u8 {
         let (all, printed) = (self.sheets, self.printed);
-        println!("all agree; {printed} of {all} sheets were also printed by the program");
+        println!("all agree; {printed} of {all} sheets were also printed by the programs");
+        println!("{}", self.told.said());
         println!("{}", self.coverage);
         let faults = self.coverage.faults();
         for fault in &faults {

@@ -62,11 +62,19 @@ fn differing(sheet: &[u8]) -> String {
     }
 }
 
+/// The answers in a listing, record by record.
+pub fn answers(listing: &str) -> impl Iterator<Item = usize> + '_ {
+    let lines = listing.lines().map(|line| line.rsplit_once(' '));
+    lines.map_while(|line| line?.1.parse().ok())
+}
+
 /// The first lines that differ.
-fn lines(ours: &[u8], theirs: &[u8]) -> String {
+pub fn lines(ours: &[u8], theirs: &[u8]) -> String {
     let split = |text: &[u8]| -> Vec<String> {
         let lines = text.split(|&byte| byte == b'\n');
-        lines.map(|line| line.escape_ascii().to_string()).collect()
+        // A line in words may have an apostrophe, which can be shown as it is.
+        let shown = |line: &[u8]| line.escape_ascii().to_string().replace("\\'", "'");
+        lines.map(shown).collect()
     };
     let (ours, theirs) = (split(ours), split(theirs));
     let differ = iter::zip(&ours, &theirs).find(|(a, b)| a != b);

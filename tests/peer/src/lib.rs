@@ -1,15 +1,16 @@
-//! A second program for document 01 and Papers 1 to 4 of document 02: it turns a
-//! sheet into its listing, or into the number of the refusal, and a seed and a
-//! count of records into a bench sheet.
+//! A second program for document 01 and Papers 1 to 5 of document 02: it turns a
+//! sheet into its listing or its lines in words, or into the number of the refusal,
+//! and a seed and a count of records into a bench sheet.
 //!
-//! It was written from these, document 003 and the readings alone, apart from
-//! the proved program, so that a misreading in one shows in the other.
-//! Numbers in brackets are the paper's refusals.
+//! It was written from these, document 003, the readings and the list of phrases
+//! alone, apart from the proved program, so that a misreading in one shows in the
+//! other. Numbers in brackets are the paper's refusals.
 
 pub mod listing;
 pub mod row;
 pub mod seed;
 pub mod tally;
+pub mod words;
 
 use row::Row;
 
@@ -23,11 +24,7 @@ pub fn run(sheet: &[u8], slice: &mut [u8]) -> usize {
     let Some((records, mut row)) = opened(sheet) else {
         return 2;
     };
-    let mut answers = [0; RECORDS_MAX];
-    for (answer, record) in answers.iter_mut().zip(records).skip(1) {
-        *answer = row.step(record);
-    }
-    let answers = &answers[..records.len()];
+    let answers = &answers(records, &mut row)[..records.len()];
     // [3] a listing slice shorter than the listing
     let length = listing::length(records, answers, &row);
     if slice.len() < length {
@@ -51,6 +48,16 @@ fn opened(sheet: &[u8]) -> Option<(&[[u8; 8]], Row)> {
     };
     let row = Row::open(*board).ok()?;
     Some((records, row))
+}
+
+/// The answers of a sheet's records on the row that the first of them opened; its own
+/// is 0. What stands past the last record's answer means nothing.
+fn answers(records: &[[u8; 8]], row: &mut Row) -> [u8; RECORDS_MAX] {
+    let mut answers = [0; RECORDS_MAX];
+    for (answer, record) in answers.iter_mut().zip(records).skip(1) {
+        *answer = row.step(record);
+    }
+    answers
 }
 
 /// The listing of a sheet, or refusal 2.

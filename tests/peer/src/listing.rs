@@ -19,17 +19,18 @@ pub fn write(slice: &mut [u8], records: &[[u8; 8]], answers: &[u8], row: &Row) {
     list(&mut Place { slice, end: 0 }, records, answers, row);
 }
 
-trait Out {
+/// Where a text goes: it is counted or written.
+pub(crate) trait Out {
     fn byte(&mut self, byte: u8);
     fn text(&mut self, text: &[u8]);
     fn number(&mut self, n: u32);
 }
 
-struct Count(usize);
+pub(crate) struct Count(pub usize);
 
-struct Place<'a> {
-    slice: &'a mut [u8],
-    end: usize,
+pub(crate) struct Place<'a> {
+    pub slice: &'a mut [u8],
+    pub end: usize,
 }
 
 /// How many digits a number has.

@@ -10,7 +10,7 @@ use borrow.Author.Tests.{not-true, not-false}
 use Rattle.records.specs.Bytes.{isSheet}
 use Rattle.text.specs.Text.{Text}
 use Rattle.text.proofs.Laws.{wrote-length, read-back}
-use Rattle.sheet.proofs.Playing.{sheet-most, ran-fits, ran-terms, ran-issued, ran-small}
+use Rattle.sheet.proofs.Playing.{sheet-most, ran-fits, ran-terms, ran-issued, ran-most}
 use Rattle.sheet.proofs.Listings.{no-sheet, delivered}
 use borrow.Author.Needs.{needs}
 use Rattle.sheet.proofs.run_sheet.Statement.{statement}
@@ -108,7 +108,7 @@ deliver-requires c κs =
       most,
       omega (arith, most, h .room),
       omega (arith, w .put-ending .ensures .1, length-take (w .put-ending .result) (w .put-ending .last .0)),
-      λ i q. ran-small s (passed d) (length s / 8 - 1) _ _ _ h i (omega (arith, q)),
+      λ i q. omega (arith, ran-most s (passed d) (length s / 8 - 1) _ _ _ h i (omega (arith, q))),
     )
 
 same-length : tie.Need-same-length

@@ -7,9 +7,8 @@ use denote.Ref.{now}
 use borrow.Author.Needs.{needs}
 use borrow.Author.Tests.{leb-true, leb-false, not-true, not-false}
 use Rattle.text.specs.Text.{Text}
-use Rattle.text.proofs.Laws.{then}
+use Rattle.text.proofs.Laws.{then, too-long, fitting}
 use Rattle.listing.specs.Listing.{lines}
-use Rattle.listing.proofs.AnswerLines.{too-long, fitting}
 use Rattle.listing.proofs.answers.deliver.Statement.{statement}
 use Rattle.listing.proofs.answers.deliver.Tie as tie
 

@@ -1,0 +1,107 @@
+// A sheet in words: the call behind the entry for the hub's firmware (crate row) and the program `explainsheet`.
+
+ghost use mathlib.Core.Bool.{true};
+ghost use mathlib.Core.Path.{_≡_};
+ghost use Prim.Native.Nat.{ℕ, _/_, _≤_, _<_};
+ghost use lib.ListN.{length, getD};
+ghost use Rattle.text.specs.Text.{Wrote, Delivered, joined};
+ghost use Rattle.phrases.specs.Phrases.{isListed};
+ghost use Rattle.explain.specs.Explain.{lineAt, result, left, SampleHolds, RoomHolds, LengthsTell};
+
+// The papers' sample in words; short slices are refused; no text is so short that its length could be a refusal. By
+// the definitions: nothing to run.
+pub fn sample()
+    ensures { λ r. ⌜ SampleHolds × RoomHolds × LengthsTell ⌝ }
+{}
+
+// How long the lines of a sheet's records are, where there is an answer for each.
+fn text_length(sheet: &[u8], answers: &[u8]) -> usize
+    requires { ⌜
+        (length (now sheet) / 8 ≤ 4095)
+        × (length (now sheet) / 8 ≤ length (now answers))
+        × ((i : ℕ) → i < length (now sheet) / 8 → isListed (getD (now answers) i 0) ≡ true)
+        ⌝ }
+    ensures { λ r. ⌜
+        r ≡ length (joined (lineAt (now (sheet .entry)) (now (answers .entry))) (length (now (sheet .entry)) / 8))
+        ⌝ }
+{
+    let n = sheet.len() / 8;
+    let mut total: usize = 0;
+    let mut i: usize = 0;
+    while i < n {
+        let r = records::decode(sheet, 8 * i);
+        total += phrases::line_length(r, answers[i] as usize);
+        i += 1;
+    }
+    total
+}
+
+// Writes them.
+fn put_text(out: &mut [u8], sheet: &[u8], answers: &[u8]) -> usize
+    requires { ⌜
+        (length (now sheet) / 8 ≤ length (now answers))
+        × ((i : ℕ) → i < length (now sheet) / 8 → isListed (getD (now answers) i 0) ≡ true)
+        × (length (joined (lineAt (now sheet) (now answers)) (length (now sheet) / 8)) ≤ length (now out))
+        ⌝ }
+    ensures { λ r. ⌜
+        Wrote (now (out .entry)) 0
+        (joined (lineAt (now (sheet .entry)) (now (answers .entry))) (length (now (sheet .entry)) / 8))
+        (now (out .exit)) r
+        ⌝ }
+{
+    let n = sheet.len() / 8;
+    let mut at: usize = 0;
+    let mut i: usize = 0;
+    while i < n {
+        let r = records::decode(sheet, 8 * i);
+        let next = phrases::put_line(&mut *out, at, r, answers[i] as usize);
+        at = next;
+        i += 1;
+    }
+    at
+}
+
+// Writes them if they fit; else refusal 3.
+fn deliver(sheet: &[u8], answers: &[u8], out: &mut [u8]) -> usize
+    requires { ⌜
+        (length (now sheet) / 8 ≤ 4095)
+        × (length (now sheet) / 8 ≤ length (now answers))
+        × ((i : ℕ) → i < length (now sheet) / 8 → isListed (getD (now answers) i 0) ≡ true)
+        ⌝ }
+    ensures { λ r. ⌜
+        Delivered
+        (joined (lineAt (now (sheet .entry)) (now (answers .entry))) (length (now (sheet .entry)) / 8))
+        (now (out .entry)) (now (out .exit)) r
+        ⌝ }
+{
+    if out.len() < text_length(sheet, answers) {
+        return 3;
+    }
+    put_text(&mut *out, sheet, answers)
+}
+
+// Sheet in, a line for each record out. It returns the text's length, 2 for a sheet of wrong length or without a valid
+// opening, then 3 for a slice that is shorter than the text; both leave the slice untouched. The sheet is run in places
+// of this call's own.
+pub fn explain_sheet(sheet: &[u8], text: &mut [u8]) -> usize
+    ensures { λ r. ⌜ (r ≡ result (now (sheet .entry)) (now (text .entry)))
+        × (now (text .exit) ≡ left (now (sheet .entry)) (now (text .entry))) ⌝ }
+{
+    if !records::is_sheet(sheet) {
+        return 2;
+    }
+    let mut store = [0u32; 4096];
+    let mut store2 = [0u16; 4096];
+    let mut list = [0u32; 512];
+    let mut list2 = [0u16; 512];
+    let mut answers = [0u8; 4096];
+    sheet::running::play(
+        sheet,
+        &mut store,
+        &mut store2,
+        &mut list,
+        &mut list2,
+        &mut answers,
+    );
+    deliver(sheet, &answers, text)
+}

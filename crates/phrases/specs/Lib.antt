@@ -1,0 +1,3 @@
+pub mod Phrases
+pub mod Line
+pub mod Describe

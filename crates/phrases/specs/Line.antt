@@ -1,0 +1,81 @@
+-- The line of a record and its answer, byte for byte (document 02, Paper 5). Cited by Describe. Assumes nothing.
+use mathlib.Core.Bool.{cond}
+use mathlib.Core.List.{List, [], _∷_, _++_}
+use Prim.Native.Nat.{ℕ, _+_, _/_, _%_}
+use lib.Dec.{ltb, eqb}
+use lib.ListN.{getD}
+use Rattle.text.specs.Text.{Text, digits}
+use Rattle.lines.specs.Lines.{word, space, newline}
+use Rattle.model.specs.Records.{Record, boardless, wellFormed}
+use Rattle.records.specs.Bytes.{recordBytes}
+use Rattle.phrases.specs.Phrases.{Form, forms, noStep, formOf, reasons, phraseIn}
+
+-- "its eight bytes in hexadecimal"
+
+-- Numbers below 16 are 0 to 9 and A to F.
+abbrev pub hexDigit : ℕ → ℕ
+hexDigit x = cond (ltb x 10) (48 + x) (55 + x)
+
+abbrev pub hex : ℕ → Text
+hex b = hexDigit (b / 16) ∷ hexDigit (b % 16) ∷ []
+
+-- Bytes in hexadecimal, a space before each.
+unfoldable pub hexes : Text → Text
+hexes [] = []
+hexes (b ∷ bs) = space ++ (hex b ++ hexes bs)
+
+-- "the step's name, the boards and value it uses"
+
+abbrev pub leadText : ℕ → Text
+leadText k = word (formOf k .lead)
+
+abbrev pub trailText : ℕ → Text
+trailText k = word (formOf k .trail)
+
+-- Both, two a form: as the code counts them.
+abbrev pub pieces : List Form → List Text
+pieces [] = []
+pieces (f ∷ fs) = word (f .lead) ∷ word (f .trail) ∷ pieces fs
+
+abbrev pub pieceText : ℕ → Text
+pieceText i = getD (pieces forms) i []
+
+-- The board, if the step names one: a in step 9.
+abbrev pub boardText : Record → Text
+boardText r = cond (boardless (r .step)) [] (digits (r .board))
+
+-- The second number: b in step 9, the value in step 1.
+abbrev pub secondText : Record → Text
+secondText r = cond (eqb (r .step) 9) (digits (r .other)) (cond (eqb (r .step) 1) (digits (r .value)) [])
+
+unfoldable pub stepText : Record → Text
+unfolding digits
+stepText r = leadText (r .step) ++ (boardText r ++ (trailText (r .step) ++ secondText r))
+
+unfoldable pub rawText : Record → Text
+unfolding hexes recordBytes
+rawText r = leadText noStep ++ hexes (recordBytes r)
+
+-- "A record malformed by itself shows its eight bytes in hexadecimal instead of names."
+unfoldable pub headText : Record → Text
+unfolding stepText rawText
+headText r = cond (wellFormed r) (stepText r) (rawText r)
+
+-- "then `accepted` or the reason"
+
+-- The step by whose phrases an answer is told.
+abbrev pub place : Record → ℕ
+place r = cond (wellFormed r) (r .step) noStep
+
+abbrev pub reasonText : ℕ → ℕ → Text
+reasonText k a = word (phraseIn reasons k a)
+
+-- The answer a to the step k: a reason follows the word `refused`.
+unfoldable pub verdictText : ℕ → ℕ → Text
+unfolding phraseIn
+verdictText k a = cond (eqb a 0) (reasonText k a) (word "refused, " ++ reasonText k a)
+
+-- The line of the record r and the answer a.
+unfoldable pub line : Record → ℕ → Text
+unfolding headText verdictText
+line r a = headText r ++ (word ": " ++ (verdictText (place r) a ++ newline))
