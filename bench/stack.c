@@ -1,6 +1,7 @@
 /*
- * stack SHEET...: how deep run_sheet goes into the stack, for each sheet,
- * seed_sheet, for the longest sheet of a seed, and look_up_majority, for every set.
+ * stack SHEET...: how deep run_sheet and explain_sheet go into the stack, for each
+ * sheet, describe_record, for every answer, seed_sheet, for the longest sheet of a
+ * seed, and look_up_majority, for every set.
  *
  * The call is made on a stack of its own, painted before; the first byte from
  * the far end that lost its paint is the high-water mark. It is counted from
@@ -20,16 +21,19 @@
 enum { STACK_LEN = 1 << 20 };
 
 typedef size_t (*runner)(const uint8_t *, size_t, uint8_t *, size_t);
+typedef size_t (*describer)(const uint8_t *, size_t, size_t, uint8_t *, size_t);
 typedef size_t (*maker)(uint32_t, size_t, uint8_t *, size_t);
 typedef uint8_t (*looker)(uint8_t);
 
 static uint8_t stack[STACK_LEN];
 static uint8_t sheet[ROW_SHEET_LEN(ROW_RECORDS_MAX) + 1];
 static size_t sheet_len;
-static uint8_t listing[ROW_LISTING_LEN(ROW_RECORDS_MAX)];
+/* A listing or, longer, the lines in words. */
+static uint8_t listing[ROW_TEXT_LEN(ROW_RECORDS_MAX)];
 
 static ucontext_t here, there;
 static runner run;
+static describer describe;
 static maker make;
 static looker look;
 static size_t result;
@@ -37,6 +41,14 @@ static size_t result;
 static void call_run(void)
 {
     result = run(sheet, sheet_len, listing, sizeof listing);
+}
+
+static void call_describe(void)
+{
+    size_t answer;
+
+    for (answer = 0; answer <= 16; answer++)
+        result = describe(sheet, ROW_RECORD_LEN, answer, listing, ROW_LINE_LEN);
 }
 
 static void call_make(void)
@@ -56,6 +68,13 @@ static void call_look(void)
 static size_t run_nothing(const uint8_t *in, size_t in_len, uint8_t *out, size_t out_len)
 {
     (void)in, (void)in_len, (void)out, (void)out_len;
+    return 0;
+}
+
+static size_t describe_nothing(const uint8_t *in, size_t in_len, size_t answer, uint8_t *out,
+                               size_t out_len)
+{
+    (void)in, (void)in_len, (void)answer, (void)out, (void)out_len;
     return 0;
 }
 
@@ -107,6 +126,12 @@ static size_t run_depth(runner r)
     return deepest(call_run);
 }
 
+static size_t describe_depth(describer d)
+{
+    describe = d;
+    return deepest(call_describe);
+}
+
 static size_t make_depth(maker m)
 {
     make = m;
@@ -122,7 +147,7 @@ static size_t look_depth(looker l)
 int main(int argc, char **argv)
 {
     const size_t address = sizeof(void (*)(void));
-    size_t before = run_depth(run_nothing) - address, most = 0, mark;
+    size_t before = run_depth(run_nothing) - address, most = 0, told = 0, mark;
     int n;
 
     for (n = 1; n < argc; n++) {
@@ -139,8 +164,15 @@ int main(int argc, char **argv)
             most = mark;
         printf("%8zu  %s (%zu records, result %zu)\n", mark, argv[n],
                sheet_len / ROW_RECORD_LEN, result);
+        mark = run_depth(explain_sheet) - before;
+        if (mark > told)
+            told = mark;
     }
     printf("%8zu  the most\n", most);
+    printf("%8zu  explain_sheet, the most of these sheets\n", told);
+    before = describe_depth(describe_nothing) - address;
+    mark = describe_depth(describe_record) - before;
+    printf("%8zu  describe_record (every answer, the last result %zu)\n", mark, result);
     before = make_depth(make_nothing) - address;
     mark = make_depth(seed_sheet) - before;
     printf("%8zu  seed_sheet (seed 1, %d records, result %zu)\n", mark, ROW_RECORDS_MAX, result);

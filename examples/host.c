@@ -65,7 +65,7 @@ static int tell(const uint8_t *record, enum row_answer answer)
     size_t len = describe_record(record, ROW_RECORD_LEN, answer, line, sizeof line);
 
     /* Every line is longer than 3 bytes, and ends in byte 10. */
-    if (len == ROW_BAD_RECORD || len == ROW_SHORT_LINE)
+    if (len == ROW_NO_LINE || len == ROW_SHORT_LINE)
         return 1;
     return fwrite(line, 1, len, stdout) != len;
 }

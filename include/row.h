@@ -163,21 +163,20 @@ size_t run_sheet(const uint8_t *sheet, size_t sheet_len,
  * A record and its answer in words is one line of ASCII, which ends in byte 10:
  *
  *   board 1 appends value 41: accepted
- *   leader 1 counts board 2: refused, the counted board has not joined yet
- *   record 09 02 02 00 00 00 00 00: refused, a field is outside its values
+ *   add board 2: refused, the board is a member already
+ *   record 09 02 02 00 00 00 00 00: refused, these eight bytes are no step
  *
  * A record that is malformed by itself shows its eight bytes. docs/PHRASES.md has
  * every phrase. Two different pairs of record and answer never give the same line.
  *
- * ROW_LINE_LEN bytes suffice for any line, and some line has as many. So
- * ROW_TEXT_LEN(n) suffice for a line for each of n records: 393,120 for the longest
- * sheet. Both may be used in #if.
+ * ROW_LINE_LEN bytes suffice for any line. So ROW_TEXT_LEN(n) suffice for a line
+ * for each of n records: 393,120 for the longest sheet. Both may be used in #if.
  */
 #define ROW_LINE_LEN 96
 #define ROW_TEXT_LEN(n) (ROW_LINE_LEN * (n))
 
 /* The results of describe_record that are refusals. Every line is longer than 3 bytes. */
-#define ROW_BAD_RECORD 1 /* the record is not ROW_RECORD_LEN bytes long, or there is no such answer */
+#define ROW_NO_LINE 1    /* the record is not ROW_RECORD_LEN bytes long, or there is no such answer */
 #define ROW_SHORT_LINE 3 /* the line slice is shorter than the line */
 
 /*
@@ -190,7 +189,7 @@ size_t run_sheet(const uint8_t *sheet, size_t sheet_len,
  *   line        where the line goes, with no byte 0 at the end
  *   line_len    the length of that slice in bytes
  *
- * Returns the line's length in bytes, or ROW_BAD_RECORD, or, for a record and an
+ * Returns the line's length in bytes, or ROW_NO_LINE, or, for a record and an
  * answer that are not refused so, ROW_SHORT_LINE.
  *
  * Both refusals leave the slice untouched. Bytes of it past the end of a line keep

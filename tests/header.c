@@ -22,12 +22,12 @@ enum { SEEDED_LEN = ROW_SHEET_LEN(1 + 2) };
 #error "the refusals of a seed are 2 and 3"
 #endif
 #if ROW_LINE_LEN != 96 || ROW_TEXT_LEN(1) != 96 || ROW_TEXT_LEN(ROW_RECORDS_MAX) != 393120
-#error "the longest line has 96 bytes"
+#error "a line has at most 96 bytes"
 #endif
 #if ROW_TEXT_LEN(1 + 1) == 192
 enum { TEXT_LEN = ROW_TEXT_LEN(1 + 1) };
 #endif
-#if ROW_BAD_RECORD != 1 || ROW_SHORT_LINE != 3 || ROW_SHORT_TEXT != 3
+#if ROW_NO_LINE != 1 || ROW_SHORT_LINE != 3 || ROW_SHORT_TEXT != 3
 #error "the refusals of a line are 1 and 3, and that of a text, beside 2 for the sheet, is 3"
 #endif
 
@@ -150,13 +150,14 @@ static int look_up(void)
 static int describe(void)
 {
     static const uint8_t record[2 * ROW_RECORD_LEN] = {ROW_STEP_COUNT, 1, 2, 0, 0, 0, 0, 0};
-    static const char words[] = "leader 1 counts board 2: refused, the counted board has not joined yet\n";
+    static const char words[] = "board 1 counts board 2: refused, "
+                                "the counted board has not joined under its leader epoch yet\n";
     static uint8_t line[ROW_LINE_LEN];
     const size_t len = sizeof words - 1;
 
-    if (describe_record(record, sizeof record, ROW_REFUSED_JOINING, line, sizeof line) != ROW_BAD_RECORD)
+    if (describe_record(record, sizeof record, ROW_REFUSED_JOINING, line, sizeof line) != ROW_NO_LINE)
         return 31;
-    if (describe_record(record, ROW_RECORD_LEN, 17, line, 0) != ROW_BAD_RECORD)
+    if (describe_record(record, ROW_RECORD_LEN, 17, line, 0) != ROW_NO_LINE)
         return 32;
     if (describe_record(record, ROW_RECORD_LEN, ROW_REFUSED_JOINING, line, len - 1) != ROW_SHORT_LINE)
         return 33;
@@ -176,7 +177,7 @@ static int explain(void)
     };
     static const char words[] =
         "opening with board 1: accepted\n"
-        "board 1 gives a receipt: refused, its log is no longer than the receipts\n";
+        "board 1 gives a receipt: refused, its log is not longer than the receipts\n";
     static uint8_t text[TEXT_LEN];
     const size_t n = 2, len = sizeof words - 1;
 

@@ -1,10 +1,10 @@
 //! bench DIRECTORY [SEED]
-//! bench calls run_sheet|peer_sheet SHEET...
+//! bench calls run_sheet|peer_sheet|explain_sheet|peer_explain SHEET...
 //! bench calls seed_sheet|peer_seed 'SEED COUNT'...
 //!
-//! The first times `run_sheet` and the second program on the same sheets, and
-//! `seed_sheet` and the second program on the same seeds, has callgrind count their
-//! instructions, and prints a table of each. It leaves the sheets in the directory.
+//! The first times `run_sheet`, `explain_sheet` and the second program on the same
+//! sheets, and `seed_sheet` and the second program on the same seeds, has callgrind
+//! count their instructions, and prints a table of each. It leaves the sheets in the directory.
 //! The others call one of the programs once for each sheet in a file, or for each
 //! seed; this is what callgrind counts.
 
@@ -24,6 +24,8 @@ const SEED: u64 = 1;
 const ROUNDS: usize = 301;
 /// Room for any listing, and for any sheet.
 const ROOM: usize = 57_790;
+/// Room for any text in words.
+const TEXT_ROOM: usize = 96 * peer::RECORDS_MAX;
 
 fn main() -> ExitCode {
     let args: Vec<String> = env::args().skip(1).collect();
@@ -48,10 +50,11 @@ fn main() -> ExitCode {
 
 /// Calls a program once for each input.
 fn calls(name: &str, words: &[&str]) -> Result<(), Box<dyn Error>> {
-    let mut out = vec![0; ROOM];
+    let mut out = vec![0; TEXT_ROOM];
     for word in words {
         let input = match name {
             "run_sheet" | "peer_sheet" => Input::Sheet(fs::read(word)?),
+            "explain_sheet" | "peer_explain" => Input::Told(fs::read(word)?),
             _ => {
                 let line = format!("{word}\n");
                 let (seed, count) = peer::seed::read(line.as_bytes()).ok_or("no such seed")?;
@@ -65,9 +68,13 @@ fn calls(name: &str, words: &[&str]) -> Result<(), Box<dyn Error>> {
 }
 
 fn bench(directory: &Path, seed: u64) -> Result<(), Box<dyn Error>> {
-    let (sheets, seeds) = (sheets::all(seed), sheets::seeds());
-    sheets.iter().chain(&seeds).try_for_each(agree)?;
-    let (run, made) = (take(&sheets), take(&seeds));
+    let (sheets, told, seeds) = (sheets::all(seed), sheets::told(), sheets::seeds());
+    sheets
+        .iter()
+        .chain(&told)
+        .chain(&seeds)
+        .try_for_each(agree)?;
+    let (run, explained, made) = (take(&sheets), take(&told), take(&seeds));
     let counted = Command::new("valgrind").arg("--version").output().is_ok();
     println!("{}", about(seed, &seeds));
     let guided = table("sheets", directory, &sheets, &run, counted)?;
@@ -77,6 +84,8 @@ fn bench(directory: &Path, seed: u64) -> Result<(), Box<dyn Error>> {
         guided[2] / guided[1]
     );
     println!("{:.2} times the time of one of 100.", guided[2] / guided[0]);
+    println!();
+    table("words", directory, &told, &explained, counted)?;
     println!();
     table("seeds", directory, &seeds, &made, counted)?;
     if !counted {
@@ -153,7 +162,7 @@ fn keep(directory: &Path, set: &Set) -> Result<Vec<OsString>, Box<dyn Error>> {
     let mut words = Vec::new();
     for (n, input) in (1..).zip(&set.inputs) {
         words.push(match input {
-            Input::Sheet(sheet) => {
+            Input::Sheet(sheet) | Input::Told(sheet) => {
                 let name = match set.inputs.len() {
                     1 => format!("{}.sheet", set.name),
                     _ => format!("{}-{n}.sheet", set.name),
@@ -168,11 +177,19 @@ fn keep(directory: &Path, set: &Set) -> Result<Vec<OsString>, Box<dyn Error>> {
     Ok(words)
 }
 
+/// How long a slice a program is given.
+fn room(input: &Input) -> usize {
+    match input {
+        Input::Told(_) => TEXT_ROOM,
+        _ => ROOM,
+    }
+}
+
 /// The two programs must do the same job.
 fn agree(set: &Set) -> Result<(), Box<dyn Error>> {
     for input in &set.inputs {
         let [ours, theirs] = [0, 1].map(|program| {
-            let mut out = vec![0; ROOM];
+            let mut out = vec![0; room(input)];
             (input.call(program, &mut out), out)
         });
         if ours != theirs || ours.0 < 4 {
@@ -206,7 +223,7 @@ impl Times {
 
     /// One call of both programs on each input of a set, this one or that one first.
     fn take(&mut self, set: &Set, round: usize, clear: bool) {
-        let mut out = vec![0; ROOM];
+        let mut out = vec![0; room(&set.inputs[0])];
         for (input, times) in set.inputs.iter().zip(&mut self.0) {
             for n in [round % 2, (round + 1) % 2] {
                 if clear {

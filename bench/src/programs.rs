@@ -6,6 +6,7 @@ use std::slice;
 extern "C" {
     fn run_sheet(sheet: *const u8, sheet_len: usize, listing: *mut u8, listing_len: usize)
         -> usize;
+    fn explain_sheet(sheet: *const u8, sheet_len: usize, text: *mut u8, text_len: usize) -> usize;
     fn seed_sheet(seed: u32, count: usize, sheet: *mut u8, sheet_len: usize) -> usize;
 }
 
@@ -29,6 +30,24 @@ unsafe extern "C" fn peer_sheet(
 
 #[no_mangle]
 #[inline(never)]
+unsafe extern "C" fn peer_explain(
+    sheet: *const u8,
+    sheet_len: usize,
+    text: *mut u8,
+    text_len: usize,
+) -> usize {
+    // SAFETY: the caller gives each pointer with its slice's length.
+    let (sheet, text) = unsafe {
+        (
+            slice::from_raw_parts(sheet, sheet_len),
+            slice::from_raw_parts_mut(text, text_len),
+        )
+    };
+    peer::words::explain(sheet, text)
+}
+
+#[no_mangle]
+#[inline(never)]
 unsafe extern "C" fn peer_seed(seed: u32, count: usize, sheet: *mut u8, sheet_len: usize) -> usize {
     // SAFETY: the caller gives the pointer with its slice's length.
     let sheet = unsafe { slice::from_raw_parts_mut(sheet, sheet_len) };
@@ -39,6 +58,8 @@ unsafe extern "C" fn peer_seed(seed: u32, count: usize, sheet: *mut u8, sheet_le
 pub enum Input {
     /// A sheet, to be run.
     Sheet(Vec<u8>),
+    /// A sheet, to be told in words.
+    Told(Vec<u8>),
     /// A seed and a count of records, of which a sheet is to be made.
     Seed(u32, usize),
 }
@@ -48,6 +69,7 @@ impl Input {
     pub fn names(&self) -> [&'static str; 2] {
         match self {
             Input::Sheet(_) => ["run_sheet", "peer_sheet"],
+            Input::Told(_) => ["explain_sheet", "peer_explain"],
             Input::Seed(..) => ["seed_sheet", "peer_seed"],
         }
     }
@@ -61,6 +83,10 @@ impl Input {
                 Input::Sheet(sheet) => {
                     let run = [run_sheet, peer_sheet][program];
                     run(sheet.as_ptr(), sheet.len(), to, room)
+                }
+                Input::Told(sheet) => {
+                    let explain = [explain_sheet, peer_explain][program];
+                    explain(sheet.as_ptr(), sheet.len(), to, room)
                 }
                 Input::Seed(seed, count) => {
                     let make = [seed_sheet, peer_seed][program];

@@ -44,6 +44,21 @@ pub fn seeds() -> Vec<Set> {
     sets.into()
 }
 
+/// Sheets to tell in words: those of the first seeds.
+pub fn told() -> Vec<Set> {
+    let few = |set: Set| Set {
+        name: format!("seeded-{}", set.records),
+        records: set.records,
+        inputs: set
+            .inputs
+            .iter()
+            .take(8)
+            .map(|seed| Input::Told(made(seed)))
+            .collect(),
+    };
+    seeds().into_iter().map(few).collect()
+}
+
 /// The sheet that the library makes.
 fn made(seed: &Input) -> Vec<u8> {
     let mut sheet = vec![0; 8 * RECORDS_MAX];

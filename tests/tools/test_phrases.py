@@ -15,6 +15,7 @@ from pathlib import Path
 
 ROOT = Path(__file__).resolve().parents[2]
 PAGE = ROOT / "docs" / "PHRASES.md"
+FORMATS = ROOT / "docs" / "FORMATS.md"
 SPECS = ROOT / "crates" / "phrases" / "specs" / "Phrases.antt"
 LIBRARY = os.environ.get("LIBROW") or str(ROOT / "target" / "staticlib" / "librow.a")
 ANSWERS = range(17)
@@ -141,6 +142,15 @@ class Phrases(unittest.TestCase):
             self.assertTrue(all(own), answer)
             self.assertEqual(len(steps), len(set(steps)), answer)
             self.assertLessEqual(set(steps), {MALFORMED, *range(16)}, answer)
+
+    def test_every_refusal_of_a_step_has_its_own_words(self):
+        """What docs/FORMATS.md has in brackets for a step has a row for that step; only the last, 7, is said of any."""
+        asks = {}
+        for row in table(FORMATS.read_text(), "The steps"):
+            asks[int(row[1])] = {int(number) for number in re.findall(r"\[(\d+)\]", row[3])}
+        self.assertEqual(sorted(asks), list(range(16)))
+        own = {(step, answer) for answer, steps, _ in self.rows for step in steps if step in asks}
+        self.assertEqual(own, {(step, answer) for step in asks for answer in asks[step] - {7}})
 
     def test_no_phrase_stands_under_two_answers(self):
         answers = {}

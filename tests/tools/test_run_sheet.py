@@ -77,10 +77,10 @@ receipts 0
 """
 SEED_0_LINES = b"""\
 opening with board 7: accepted
-leader 6 counts board 2: refused, the counting board does not hold itself leader
-board 3 gives a receipt: refused, it does not hold itself leader
+board 6 counts board 2: refused, the counting board is not the leader in its own view
+board 3 gives a receipt: refused, it is not the leader in its own view
 board 4 takes news: refused, it has the newest news already
-board 1 gives a receipt: refused, it does not hold itself leader
+board 1 gives a receipt: refused, it is not the leader in its own view
 """
 # The refusals in each step's text, in its order.
 CHECKS = {
@@ -254,12 +254,12 @@ class Seeded(InFolder):
         rows = [re.split(r"  +", line.strip()) for line in done.stdout.decode().split("\n\n")[0].splitlines()]
         self.assertEqual(rows[0], ["record", "step", "answer"])
         self.assertEqual([row[:2] for row in rows[1:]], [[str(n), words] for n, words in enumerate(SEED_0, 1)])
-        not_leader = "refused 8: it does not hold itself leader"
+        not_leader = "refused 8: it is not the leader in its own view"
         self.assertEqual(
             [row[2] for row in rows[1:]],
             [
                 "accepted",
-                "refused 8: the counting board does not hold itself leader",
+                "refused 8: the counting board is not the leader in its own view",
                 not_leader,
                 "refused 12: it has the newest news already",
                 not_leader,
@@ -397,7 +397,7 @@ class InWords(InFolder):
         self.assertEqual(lines[0].split(), ["record", "step", "answer"])
         self.assertEqual(lines[2].split(), ["2", "append", "1", "41", "accepted"])
         raw = ["5", "raw", "200", "1", "2", "3", "4", "5", "6", "7"]
-        self.assertEqual(lines[5].split(), [*raw, *"refused 1: a field is outside its values".split()])
+        self.assertEqual(lines[5].split(), [*raw, *"refused 1: these eight bytes are no step".split()])
 
     def test_the_refusals_that_the_samples_tell_of(self):
         """The comments of the samples say which lines are refused, and with what."""
@@ -434,8 +434,8 @@ class Explained(InFolder):
 opening with board 1: accepted
 add board 2: accepted
 add board 2: refused, the board is a member already
-record 09 02 02 00 00 00 00 00: refused, a field is outside its values
-record C8 01 02 03 04 05 06 FF: refused, a field is outside its values
+record 09 02 02 00 00 00 00 00: refused, these eight bytes are no step
+record C8 01 02 03 04 05 06 FF: refused, these eight bytes are no step
 opening with board 1: refused, an opening stands first and nowhere else
 """
         self.listed(run("--explain", "-", given=story), lines)
@@ -509,9 +509,10 @@ class Formats(unittest.TestCase):
             self.assertRegex(self.header, rf"{name.strip('`')}(?: =)? {number}\b")
 
     def test_the_refusals_of_other_calls(self):
-        """Those of a seed, and any others that the page tells with their numbers."""
         told = re.findall(r"(\d)\s\(`(ROW_\w+)`\)", self.page)
-        self.assertLessEqual({("2", "ROW_BAD_COUNT"), ("3", "ROW_SHORT_SLICE")}, set(told))
+        seed = [("2", "ROW_BAD_COUNT"), ("3", "ROW_SHORT_SLICE")]
+        words = [("1", "ROW_NO_LINE"), ("3", "ROW_SHORT_LINE"), ("2", "ROW_BAD_SHEET"), ("3", "ROW_SHORT_TEXT")]
+        self.assertEqual(told, seed + words)
         for number, name in told:
             self.assertRegex(self.header, rf"#define {name} {number}\b")
 
@@ -557,7 +558,7 @@ class Asking(InFolder):
             [
                 "accepted",
                 "  registry: epoch 1, leader epoch 1, leader 1, members 1, status normal",
-                "refused 12: its log is no longer than the receipts",
+                "refused 12: its log is not longer than the receipts",
                 "accepted",
                 "  board 1: length 0 -> 1",
                 "accepted",
@@ -598,7 +599,7 @@ class Asking(InFolder):
                 "  board 1: joined 1 -> 6, length 2 -> 1, mark late -> current",
                 "accepted",
                 "  board 1: length 1 -> 2",
-                "refused 12: its log is no shorter than its leader's",
+                "refused 12: its log is not shorter than its leader's",
             ],
         )
 

@@ -1,62 +1,55 @@
 -- A sheet that was run, and its text: what was written is what the definition says. Assumes nothing.
-use mathlib.Core.Bool.{true, false, cond, _&&_}
-use mathlib.Core.List.{List, [], _∷_, _++_}
-use mathlib.Core.Path.{_≡_, refl, sym, ap, ap₂, subst, _∙_}
-use Prim.Native.Nat.{ℕ, suc, _+_, _-_, _*_, _/_, _<_, _≤_}
+use mathlib.Core.Bool.{true, false, _&&_}
+use mathlib.Core.List.{List}
+use mathlib.Core.Path.{_≡_, refl, sym, ap, subst, _∙_}
+use Prim.Native.Nat.{ℕ, _+_, _-_, _*_, _/_, _<_, _≤_}
 use native.Mathlib.Omega.{arith}
 use lib.Dec.{leb}
-use lib.ListN.{length, getD, drop}
-use lib.Seq.{getD-drop}
-use borrow.Author.Tests.{leb-true, le-leb}
-use Rattle.text.specs.Text.{Text, over, Delivered, joined, digits, digitsWithin}
-use Rattle.text.proofs.Laws.{joined-same, joined-room, joined-most, over-length}
-use Rattle.model.specs.State.{opened}
-use Rattle.model.specs.Records.{openingOf}
-use Rattle.model.specs.Runs.{stepsOf}
-use Rattle.records.specs.Bytes.{recordAt, recordBytes, records, isSheet}
+use lib.ListN.{length, getD, take, drop}
+use lib.Seq.{getD-take, getD-drop}
+use borrow.Author.Tests.{le-leb}
+use Rattle.text.specs.Text.{Text, Delivered, eachOf}
+use Rattle.text.proofs.Laws.{each-same, each-room, each-most}
+use Rattle.records.specs.Bytes.{recordAt, isSheet}
 use Rattle.records.proofs.Decoding.{room}
-use Rattle.cluster.specs.declared.Cluster.{Cluster}
-use Rattle.refinement.specs.Refinement.{Places}
-use Rattle.phrases.specs.Phrases.{isListed, isListedIn, phraseIn}
+use Rattle.phrases.specs.Phrases.{isListed}
 use Rattle.phrases.specs.Line.{line}
-use Rattle.phrases.specs.Describe.{Covers}
 use Rattle.phrases.proofs.Listed.{covers}
 use Rattle.phrases.proofs.Lengths.{line-most, line-least, value-small}
-use Rattle.sheet.specs.Running.{Ran}
-use Rattle.sheet.proofs.Playing.{sheet-whole, all-most, ran-answer, ran-most}
-use Rattle.sheet.proofs.Listings.{within, kept-length}
-use Rattle.explain.specs.Explain.{lineAt, answersOf, explained, result, left, LengthsTell}
+use Rattle.sheet.specs.Sheet.{answersOf}
+use Rattle.sheet.proofs.Playing.{sheet-whole}
+use Rattle.sheet.proofs.Listings.{answers-most, within, kept-length}
+use Rattle.explain.specs.Explain.{lineAt, explained, result, left, LengthsTell}
 
 -- An answer up to 16 is on the list.
 pub listed-most : (a : ℕ) → a ≤ 16 → isListed a ≡ true
-unfolding Covers
-listed-most a h = covers a ∙ le-leb a 16 h
+listed-most a h = covers .listed a ∙ le-leb a 16 h
 
 -- Refusal 2.
 pub no-sheet : (s out : Text) → isSheet s ≡ false → (2 ≡ result s out) × (out ≡ left s out)
 unfolding result left
 no-sheet s out e = (rw e, rw e)
 
-module _ (s : Text) (e : isSheet s ≡ true) (row : Cluster) (p : Places) (ns : List ℕ)
-    (h : Ran s (length s / 8 - 1) row p ns) where
-  below : (i : ℕ) → i < length s / 8 → i ≤ length s / 8 - 1
-  below i q = omega (arith, q)
+module _ (s : Text) (ns : List ℕ) (h : take (length s / 8) ns ≡ answersOf s) where
+  -- The answers that were kept are those of the run,
+  answer-is : (i : ℕ) → i < length s / 8 → getD ns i 0 ≡ getD (answersOf s) i 0
+  answer-is i q = sym (getD-take (length s / 8) ns i 0 q) ∙ ap (λ xs. getD xs i 0) h
 
-  -- The answers that were kept are on the list,
+  -- so they are on the list,
   pub all-listed : (i : ℕ) → i < length s / 8 → isListed (getD ns i 0) ≡ true
-  all-listed i q = listed-most (getD ns i 0) (ran-most s e (length s / 8 - 1) row p ns h i (below i q))
+  all-listed i q = listed-most (getD ns i 0) (omega (arith, answer-is i q, answers-most s i))
 
-  -- and the lines with them are those of the run's.
-  whole : joined (lineAt s ns) (length s / 8) ≡ explained s
+  -- and the lines with them are those of the text.
+  whole : eachOf (lineAt s ns) (length s / 8) ≡ explained s
   unfolding explained
   whole =
-      joined-same (lineAt s ns) (lineAt s (answersOf s)) (length s / 8)
-      (λ i q. ap (line (recordAt (drop (8 * i) s))) (ran-answer s e (length s / 8 - 1) row p ns h i (below i q)))
+      each-same (lineAt s ns) (lineAt s (answersOf s)) (length s / 8)
+      (λ i q. ap (line (recordAt (drop (8 * i) s))) (answer-is i q))
 
-  pub delivered : {out out′ : Text} {r : ℕ} → Delivered (joined (lineAt s ns) (length s / 8)) out out′ r
-      → (r ≡ result s out) × (out′ ≡ left s out)
+  pub delivered : {out out′ : Text} {r : ℕ} → isSheet s ≡ true
+      → Delivered (eachOf (lineAt s ns) (length s / 8)) out out′ r → (r ≡ result s out) × (out′ ≡ left s out)
   unfolding result left
-  delivered {out} {out′} {r} d =
+  delivered {out} {out′} {r} e d =
       let d′ = subst (λ t. Delivered t out out′ r) whole d in
       (rw e (d′ .answer), rw e (d′ .left))
 
@@ -67,8 +60,7 @@ module _ (s : Text) (b : (i : ℕ) → getD s i 0 ≤ 255) where
   line-short i =
       let v = value-small (drop (8 * i) s) (λ j. omega (arith, getD-drop (8 * i) s j 0, b (8 * i + j))) in
       line-most (recordAt (drop (8 * i) s)) (getD (answersOf s) i 0) v
-      (listed-most (getD (answersOf s) i 0) (all-most (opened (openingOf (recordAt s)))
-      (stepsOf (records (length s / 8 - 1) (drop 8 s))) i))
+      (listed-most (getD (answersOf s) i 0) (answers-most s i))
 
 pub lengths-tell : LengthsTell
 unfolding LengthsTell explained
@@ -76,8 +68,8 @@ lengths-tell s b e =
     let text = lineAt s (answersOf s) in
     let n = length s / 8 in
     let some : 0 < n = omega (arith, room (length s) (sheet-whole s e)) in (
-      omega (arith, joined-room text 0 n some, line-least (recordAt (drop 0 s)) (getD (answersOf s) 0 0)),
-      joined-most text 96 n (λ i q. line-short s b i),
+      omega (arith, each-room text 0 n some, line-least (recordAt (drop 0 s)) (getD (answersOf s) 0 0)),
+      each-most text 96 n (λ i q. line-short s b i),
     )
 
 -- A result that is no refusal is a length within the slice, so a caller can read the text back.

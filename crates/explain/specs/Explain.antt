@@ -3,30 +3,24 @@
 use mathlib.Core.Bool.{true, cond, _&&_}
 use mathlib.Core.List.{List, [], _∷_, _++_}
 use mathlib.Core.Path.{_≡_}
-use Prim.Native.Nat.{ℕ, _-_, _*_, _/_, _≤_}
+use Prim.Native.Nat.{ℕ, _*_, _/_, _≤_}
 use lib.Dec.{leb}
 use lib.ListN.{length, getD, drop}
-use Rattle.model.specs.State.{entries, opened}
-use Rattle.model.specs.Records.{openingOf}
-use Rattle.model.specs.Runs.{stepsOf, answers}
-use Rattle.text.specs.Text.{Text, over, joined}
-use Rattle.records.specs.Bytes.{recordAt, records, isSheet}
+use Rattle.text.specs.Text.{Text, over, eachOf}
+use Rattle.model.specs.Records.{bare, of, ofValue}
+use Rattle.records.specs.Bytes.{recordAt, sheetBytes, isSheet}
 use Rattle.lines.specs.Lines.{word}
 use Rattle.phrases.specs.Line.{line}
-use Rattle.sheet.specs.Sheet.{sampleSheet, slice}
+use Rattle.sheet.specs.Sheet.{answersOf, sampleSheet, slice}
 
 -- The line of the record after i others of the sheet s, with its answer of ns.
 abbrev pub lineAt : Text → List ℕ → ℕ → Text
 lineAt s ns i = line (recordAt (drop (8 * i) s)) (getD ns i 0)
 
--- The answers of the model's run, the opening's first.
-abbrev pub answersOf : Text → List ℕ
-answersOf s = 0 ∷ answers entries (opened (openingOf (recordAt s))) (stepsOf (records (length s / 8 - 1) (drop 8 s)))
-
--- The text of a sheet that refusal 2 lets through.
+-- The text of a sheet that refusal 2 lets through: its records with the answers of the model's run.
 unfoldable pub explained : Text → Text
-unfolding records line joined
-explained s = joined (lineAt s (answersOf s)) (length s / 8)
+unfolding answersOf line eachOf
+explained s = eachOf (lineAt s (answersOf s)) (length s / 8)
 
 -- The call, with the sheet s and a slice whose bytes are `out`: refusals 2 and 3 are those of a listing.
 unfoldable pub result : Text → Text → ℕ
@@ -40,19 +34,38 @@ left s out = cond (isSheet s && leb (length (explained s)) (length out)) (over o
 
 -- Trials
 
--- The papers' sample, and after it "Add 2 twice" (P6): the second is refused.
-abbrev pub twiceSheet : Text
-twiceSheet = sampleSheet ++ (3 ∷ 2 ∷ 0 ∷ 0 ∷ 0 ∷ 0 ∷ 0 ∷ 0 ∷ [])
-
+-- The papers' sample in words.
 abbrev pub sampleText : Text
 sampleText =
     word "opening with board 1: accepted\nboard 1 appends value 41: accepted\nboard 1 gives a receipt: accepted\n"
     ++ word "add board 2: accepted\n"
 
+-- P3 to P9 in words, from one opening; P3's append and receipt stand last, where board 1 is no leader any more and
+-- does not know it.
+unfoldable pub trialSheet : Text
+unfolding sheetBytes
+trialSheet = sheetBytes
+    (of 0 1 ∷ of 2 1 ∷ ofValue 1 2 41 ∷ bare 5 ∷ of 4 1 ∷ of 4 2 ∷ of 3 2 ∷ of 3 2 ∷ bare 5 ∷ bare 11 ∷ bare 10
+    ∷ bare 11 ∷ of 6 1 ∷ bare 11 ∷ bare 13 ∷ of 12 2 ∷ bare 13 ∷ bare 5 ∷ ofValue 1 1 41 ∷ of 2 1 ∷ [])
+
+abbrev pub trialText : Text
+trialText =
+    word "opening with board 1: accepted\nboard 1 gives a receipt: refused, its log is not longer than the receipts\n"
+    ++ word "board 2 appends value 41: refused, it is not the leader in its own view\n"
+    ++ word "change leader: refused, there are fewer than two members\n"
+    ++ word "remove board 1: refused, the board is the leader\nremove board 2: refused, the board is not a member\n"
+    ++ word "add board 2: accepted\nadd board 2: refused, the board is a member already\n"
+    ++ word "change leader: refused, the registry's status is not normal\n"
+    ++ word "controller reads leader: refused, the controller is not at stage leader\ncontroller takes news: accepted\n"
+    ++ word "controller reads leader: refused, the leader board's epoch is not the controller's\n"
+    ++ word "board 1 takes news: accepted\ncontroller reads leader: accepted\n"
+    ++ word "set normal: refused, no majority of members is heard at the leader's heard length or above\n"
+    ++ word "controller reads board 2: accepted\nset normal: accepted\nchange leader: accepted\n"
+    ++ word "board 1 appends value 41: accepted\n"
+    ++ word "board 1 gives a receipt: refused, its counts show no majority of members with the next entry\n"
+
 unfoldable pub SampleHolds : Type 0
-SampleHolds =
-    (explained sampleSheet ≡ sampleText)
-    × (explained twiceSheet ≡ sampleText ++ word "add board 2: refused, the board is a member already\n")
+SampleHolds = (explained sampleSheet ≡ sampleText) × (explained trialSheet ≡ trialText)
 
 -- A slice one byte short is refused and keeps its bytes; one of the text's length is enough; a longer one keeps those
 -- past the text.

@@ -4,7 +4,7 @@ ghost use mathlib.Core.Bool.{true};
 ghost use mathlib.Core.Path.{_≡_};
 ghost use Prim.Native.Nat.{ℕ, _/_, _≤_, _<_};
 ghost use lib.ListN.{length, getD};
-ghost use Rattle.text.specs.Text.{Wrote, Delivered, joined};
+ghost use Rattle.text.specs.Text.{Wrote, Delivered, eachOf};
 ghost use Rattle.phrases.specs.Phrases.{isListed};
 ghost use Rattle.explain.specs.Explain.{lineAt, result, left, SampleHolds, RoomHolds, LengthsTell};
 
@@ -22,7 +22,7 @@ fn text_length(sheet: &[u8], answers: &[u8]) -> usize
         × ((i : ℕ) → i < length (now sheet) / 8 → isListed (getD (now answers) i 0) ≡ true)
         ⌝ }
     ensures { λ r. ⌜
-        r ≡ length (joined (lineAt (now (sheet .entry)) (now (answers .entry))) (length (now (sheet .entry)) / 8))
+        r ≡ length (eachOf (lineAt (now (sheet .entry)) (now (answers .entry))) (length (now (sheet .entry)) / 8))
         ⌝ }
 {
     let n = sheet.len() / 8;
@@ -41,11 +41,11 @@ fn put_text(out: &mut [u8], sheet: &[u8], answers: &[u8]) -> usize
     requires { ⌜
         (length (now sheet) / 8 ≤ length (now answers))
         × ((i : ℕ) → i < length (now sheet) / 8 → isListed (getD (now answers) i 0) ≡ true)
-        × (length (joined (lineAt (now sheet) (now answers)) (length (now sheet) / 8)) ≤ length (now out))
+        × (length (eachOf (lineAt (now sheet) (now answers)) (length (now sheet) / 8)) ≤ length (now out))
         ⌝ }
     ensures { λ r. ⌜
         Wrote (now (out .entry)) 0
-        (joined (lineAt (now (sheet .entry)) (now (answers .entry))) (length (now (sheet .entry)) / 8))
+        (eachOf (lineAt (now (sheet .entry)) (now (answers .entry))) (length (now (sheet .entry)) / 8))
         (now (out .exit)) r
         ⌝ }
 {
@@ -70,7 +70,7 @@ fn deliver(sheet: &[u8], answers: &[u8], out: &mut [u8]) -> usize
         ⌝ }
     ensures { λ r. ⌜
         Delivered
-        (joined (lineAt (now (sheet .entry)) (now (answers .entry))) (length (now (sheet .entry)) / 8))
+        (eachOf (lineAt (now (sheet .entry)) (now (answers .entry))) (length (now (sheet .entry)) / 8))
         (now (out .entry)) (now (out .exit)) r
         ⌝ }
 {
@@ -81,8 +81,7 @@ fn deliver(sheet: &[u8], answers: &[u8], out: &mut [u8]) -> usize
 }
 
 // Sheet in, a line for each record out. It returns the text's length, 2 for a sheet of wrong length or without a valid
-// opening, then 3 for a slice that is shorter than the text; both leave the slice untouched. The sheet is run in places
-// of this call's own.
+// opening, then 3 for a slice that is shorter than the text; both leave the slice untouched.
 pub fn explain_sheet(sheet: &[u8], text: &mut [u8]) -> usize
     ensures { λ r. ⌜ (r ≡ result (now (sheet .entry)) (now (text .entry)))
         × (now (text .exit) ≡ left (now (sheet .entry)) (now (text .entry))) ⌝ }
@@ -90,18 +89,6 @@ pub fn explain_sheet(sheet: &[u8], text: &mut [u8]) -> usize
     if !records::is_sheet(sheet) {
         return 2;
     }
-    let mut store = [0u32; 4096];
-    let mut store2 = [0u16; 4096];
-    let mut list = [0u32; 512];
-    let mut list2 = [0u16; 512];
-    let mut answers = [0u8; 4096];
-    sheet::running::play(
-        sheet,
-        &mut store,
-        &mut store2,
-        &mut list,
-        &mut list2,
-        &mut answers,
-    );
+    let answers = sheet::answers(sheet);
     deliver(sheet, &answers, text)
 }

@@ -1,81 +1,32 @@
 -- Two lines differ: what stands before the colon tells the record, what stands after it the answer. Assumes nothing.
 use mathlib.Core.Bool.{Bool, true, false, not, cond, _&&_, _||_}
-use mathlib.Core.List.{List, [], _∷_, _++_, append-assoc, append-nil, append-cancel-left, append-cancel-right, tail-eq-of-cons-eq}
+use mathlib.Core.List.{[], _∷_, _++_, append-nil, append-cancel-left, append-cancel-right, tail-eq-of-cons-eq}
 use mathlib.Core.Logic.{_≢_, _⊎_, inl, inr}
-use mathlib.Core.Path.{_≡_, refl, sym, ap, ap₂, subst, _∙_}
-use Prim.Native.Nat.{ℕ, zero, suc, _+_, _*_, _/_, _%_, _<_, _≤_}
+use mathlib.Core.Path.{_≡_, refl, sym, ap, subst, _∙_}
+use Prim.Native.Nat.{ℕ, _+_, _<_}
 use native.Mathlib.Omega.{arith}
-use lib.Dec.{T, leb, ltb, eqb, eqb→eq, leb→le, ltb→lt, nltb→le}
+use lib.Dec.{T, leb, eqb, eqb→eq, leb→le}
 use lib.ListN.{length, getD}
-use lib.Seq.{ext-getD}
-use borrow.Author.Tests.{lt-ltb, le-ltb, lt-leb, le-leb, eq-eqb, ne-eqb}
+use borrow.Author.Tests.{lt-leb}
 use Rattle.model.specs.Members.{isReplica}
 use Rattle.model.specs.Records.{Record, boardless, wellFormed}
-use Rattle.model.proofs.Tests.{split-and, join-and, by-test, is-true, is-false, eq-or-ne}
+use Rattle.model.proofs.Tests.{split-and, by-test, is-true, is-false, eq-or-ne}
 use Rattle.text.specs.Text.{Text, digits}
 use Rattle.lines.specs.Lines.{word, newline}
 use Rattle.reading.specs.Reading.{isDigit, leading}
-use Rattle.reading.proofs.Decimal.{by-digits, digits-differ, cut-digits}
+use Rattle.reading.proofs.Decimal.{digits-differ, cut-digits}
 use Rattle.records.specs.Bytes.{recordAt, recordBytes}
 use Rattle.records.proofs.Encoding.{bytes-length}
-use Rattle.phrases.specs.Phrases.{noStep, reasons, reasonAt, phraseIn, isListed, isListedIn}
-use Rattle.phrases.specs.Line.{hexDigit, hex, hexes, leadText, trailText, boardText, secondText, stepText, rawText, headText, place, reasonText, verdictText, line}
-use Rattle.phrases.specs.Describe.{EightBytes, LinesDiffer}
+use Rattle.phrases.specs.Phrases.{noStep, reasons, phraseIn, isListed}
+use Rattle.phrases.specs.Line.{hexes, leadText, trailText, boardPart, secondPart, stepText, rawText, headText, place, reasonText, verdictText, line}
+use Rattle.phrases.specs.Describe.{LinesDiffer}
+use Rattle.phrases.specs.Layout.{reasonAt}
 use Rattle.phrases.proofs.Testing.{passes, passes-both, same, told-apart}
+use Rattle.phrases.proofs.Fields.{every, every-append, every-more, isField, board-fields, second-fields, Small, small, bytes-back, hexes-fields}
 use Rattle.phrases.proofs.Listed.{there, place-of}
 use Rattle.phrases.proofs.Hexes.{hexes-differ}
 use Rattle.phrases.proofs.Forming.{Formed, formed, head-formed, head-raw, place-formed, place-raw, verdict-accepted, verdict-refused}
 use Rattle.phrases.proofs.Lengths.{place-below}
-
--- Bytes that pass a test
-
-abbrev every : (ℕ → Bool) → Text → Bool
-every p [] = true
-every p (x ∷ xs) = p x && every p xs
-
-every-append : (p : ℕ → Bool) (xs ys : Text) → T (every p xs) → T (every p ys) → T (every p (xs ++ ys))
-every-append p [] ys h k = k
-every-append p (x ∷ xs) ys h k =
-    let e = split-and (p x) (every p xs) h in
-    join-and (p x) (every p (xs ++ ys)) (e .0) (every-append p xs ys (e .1) k)
-
-every-more : (p q : ℕ → Bool) → ((x : ℕ) → T (p x) → T (q x)) → (xs : Text) → T (every p xs) → T (every q xs)
-every-more p q f [] h = tt
-every-more p q f (x ∷ xs) h =
-    let e = split-and (p x) (every p xs) h in
-    join-and (q x) (every q xs) (f x (e .0)) (every-more p q f xs (e .1))
-
--- What the fields of a record are made of: digits, those of hexadecimal numbers too, and spaces. All are below 71, and
--- none is a colon.
-abbrev isField : ℕ → Bool
-isField x = leb x 70 && not (eqb x 58)
-
-is-field : (x : ℕ) → x ≤ 70 → (x ≡ 58 → ⊥) → T (isField x)
-is-field x h n = rw (le-leb x 70 h, ne-eqb x 58 n) tt
-
-digits-fields : (n : ℕ) → T (every isField (digits n))
-digits-fields =
-    by-digits (λ n xs. T (every isField xs))
-    (λ n h. join-and (isField (48 + n)) true (is-field (48 + n) (omega arith) (λ (e : 48 + n ≡ 58). omega arith)) tt)
-    (λ n xs l h. every-append isField xs ((48 + n % 10) ∷ []) h
-    (join-and (isField (48 + n % 10)) true (is-field (48 + n % 10) (omega arith)
-    (λ (e : 48 + n % 10 ≡ 58). omega arith)) tt))
-
-hex-field : (x : ℕ) → x < 16 → T (isField (hexDigit x))
-hex-field x h =
-    by-test (ltb x 10)
-    (λ t. let l = ltb→lt x 10 t in rw (lt-ltb x 10 l)
-    (is-field (48 + x) (omega arith) (λ (e : 48 + x ≡ 58). omega arith)))
-    (λ t. let l = nltb→le x 10 t in rw (le-ltb x 10 l)
-    (is-field (55 + x) (omega arith) (λ (e : 55 + x ≡ 58). omega arith)))
-
-hexes-fields : (s : Text) → ((i : ℕ) → getD s i 0 < 256) → T (every isField (hexes s))
-unfolding hexes
-hexes-fields [] h = tt
-hexes-fields (b ∷ s) h =
-    let l = h 0 in
-    join-and (isField (hexDigit (b / 16))) _ (hex-field (b / 16) (omega arith))
-    (join-and (isField (hexDigit (b % 16))) _ (hex-field (b % 16) (omega arith)) (hexes-fields s (λ i. h (suc i))))
 
 -- Cutting at the colon
 
@@ -115,7 +66,7 @@ no-letters : (xs : Text) → T (every isField xs) → letters xs ≡ []
 no-letters [] h = refl
 no-letters (x ∷ xs) h =
     let e = split-and (isField x) (every isField xs) h in
-    let l = leb→le x 70 (split-and (leb x 70) (not (eqb x 58)) (e .0) .0) in
+    let l = leb→le x 70 (split-and (leb 32 x) (leb x 70) (split-and (leb 32 x && leb x 70) (noColon x) (e .0) .0) .1) in
     rw (lt-leb 97 x (omega arith)) (no-letters xs (e .1))
 
 abbrev stem : ℕ → Text
@@ -125,31 +76,16 @@ stem k = letters (leadText k) ++ letters (trailText k)
 stems-differ : (j k : ℕ) → j < 17 → k < 17 → stem j ≡ stem k → j ≡ k
 stems-differ j k h l e =
     eqb→eq j k (told-apart (stem j) (stem k) (eqb j k)
-    (passes-both 17 17 (λ j k. not (same (stem j) (stem k)) || eqb j k) tt j k h l) e)
+    (passes-both 17 17 (λ j k. not (same (stem j) (stem k)) || eqb j k) refl j k h l) e)
 
 -- No colon in them either.
 words-plain : (k : ℕ) → k < 17 → T (every noColon (leadText k)) × T (every noColon (trailText k))
 words-plain k h =
     split-and (every noColon (leadText k)) (every noColon (trailText k))
-    (passes 17 (λ k. every noColon (leadText k) && every noColon (trailText k)) tt k h)
+    (passes 17 (λ k. every noColon (leadText k) && every noColon (trailText k)) refl k h)
 
 field-plain : (xs : Text) → T (every isField xs) → T (every noColon xs)
-field-plain = every-more isField noColon (λ x t. split-and (leb x 70) (not (eqb x 58)) t .1)
-
-board-fields : (r : Record) → T (every isField (boardText r))
-board-fields r = go (boardless (r .step))
-  where
-    go : (b : Bool) → T (every isField (cond b [] (digits (r .board))))
-    go true = tt
-    go false = digits-fields (r .board)
-
-second-fields : (r : Record) → T (every isField (secondText r))
-second-fields r = go (eqb (r .step) 9) (eqb (r .step) 1)
-  where
-    go : (b c : Bool) → T (every isField (cond b (digits (r .other)) (cond c (digits (r .value)) [])))
-    go true c = digits-fields (r .other)
-    go false true = digits-fields (r .value)
-    go false false = tt
+field-plain = every-more isField noColon (λ x t. split-and (leb 32 x && leb x 70) (noColon x) t .1)
 
 -- What is known of a head: its small letters are a stem, and it has no colon.
 abbrev Head : ℕ → Text → Type 0
@@ -160,22 +96,18 @@ unfolding stepText
 step-head r h =
     let k = r .step in
     let w = words-plain k h in
-    let bs = no-letters (boardText r) (board-fields r) in
-    let ss = no-letters (secondText r) (second-fields r) in (
-      letters-append (leadText k) (boardText r ++ (trailText k ++ secondText r))
+    let bs = no-letters (boardPart r) (board-fields r) in
+    let ss = no-letters (secondPart r) (second-fields r) in (
+      letters-append (leadText k) (boardPart r ++ (trailText k ++ secondPart r))
           ∙ ap (λ t. letters (leadText k) ++ t)
-          (letters-append (boardText r) (trailText k ++ secondText r) ∙ ap
-          (λ t. t ++ letters (trailText k ++ secondText r)) bs
-          ∙ letters-append (trailText k) (secondText r) ∙ ap (λ t. letters (trailText k) ++ t) ss ∙ append-nil
+          (letters-append (boardPart r) (trailText k ++ secondPart r) ∙ ap
+          (λ t. t ++ letters (trailText k ++ secondPart r)) bs
+          ∙ letters-append (trailText k) (secondPart r) ∙ ap (λ t. letters (trailText k) ++ t) ss ∙ append-nil
           (letters (trailText k))),
-      every-append noColon (leadText k) (boardText r ++ (trailText k ++ secondText r)) (w .0)
-          (every-append noColon (boardText r) (trailText k ++ secondText r) (field-plain (boardText r) (board-fields r))
-          (every-append noColon (trailText k) (secondText r) (w .1) (field-plain (secondText r) (second-fields r)))),
+      every-append noColon (leadText k) (boardPart r ++ (trailText k ++ secondPart r)) (w .0)
+          (every-append noColon (boardPart r) (trailText k ++ secondPart r) (field-plain (boardPart r) (board-fields r))
+          (every-append noColon (trailText k) (secondPart r) (w .1) (field-plain (secondPart r) (second-fields r)))),
     )
-
--- The bytes of a record are bytes.
-abbrev Small : Record → Type 0
-Small r = (i : ℕ) → getD (recordBytes r) i 0 < 256
 
 raw-head : (r : Record) → Small r → Head noStep (rawText r)
 unfolding rawText
@@ -221,10 +153,10 @@ no-digit nine one (x ∷ xs) o v t = rw (is-false (isDigit x) (left (not (isDigi
     left true t = tt
     left false t = t
 
-trail-stops : (r : Record) → r .step < 17 → leading isDigit (trailText (r .step) ++ secondText r) ≡ []
+trail-stops : (r : Record) → r .step < 17 → leading isDigit (trailText (r .step) ++ secondPart r) ≡ []
 trail-stops r h =
     no-digit (eqb (r .step) 9) (eqb (r .step) 1) (trailText (r .step)) (digits (r .other)) (digits (r .value))
-    (passes 17 (λ k. opens (trailText k) || (isNil (trailText k) && not (eqb k 9 || eqb k 1))) tt (r .step) h)
+    (passes 17 (λ k. opens (trailText k) || (isNil (trailText k) && not (eqb k 9 || eqb k 1))) refl (r .step) h)
 
 both-zero : (x y : ℕ) → T (eqb x 0) → T (eqb y 0) → x ≡ y
 both-zero x y t u = eqb→eq x 0 t ∙ sym (eqb→eq y 0 u)
@@ -261,12 +193,12 @@ unfolding stepText
 fields-differ r r′ h f f′ e =
     let k = r .step in
     let w = with k r′ in
-    let e1 = append-cancel-left (leadText k) (boardText r ++ (trailText k ++ secondText r))
-    (boardText w ++ (trailText k ++ secondText w)) e in
-    let b = board-differ (boardless k) (r .board) (r′ .board) (trailText k ++ secondText r)
-    (trailText k ++ secondText w)
+    let e1 = append-cancel-left (leadText k) (boardPart r ++ (trailText k ++ secondPart r))
+    (boardPart w ++ (trailText k ++ secondPart w)) e in
+    let b = board-differ (boardless k) (r .board) (r′ .board) (trailText k ++ secondPart r)
+    (trailText k ++ secondPart w)
     (f .board) (f′ .board) (trail-stops r h) (trail-stops w h) e1 in
-    let e2 = append-cancel-left (trailText k) (secondText r) (secondText w) (b .1) in
+    let e2 = append-cancel-left (trailText k) (secondPart r) (secondPart w) (b .1) in
     let c = second-differ (eqb k 9) (eqb k 1) (isReplica (r .other) && not (eqb (r .board) (r .other)))
     (isReplica (r′ .other) && not (eqb (r′ .board) (r′ .other))) (r .other) (r′ .other) (r .value) (r′ .value)
     (not-both k)
@@ -314,10 +246,10 @@ phrases-differ : (i j : ℕ) → i < length reasons → j < length reasons
 phrases-differ i j h l e =
     eqb→eq (reasonAt i .answer) (reasonAt j .answer)
     (told-apart (word (reasonAt i .phrase)) (word (reasonAt j .phrase)) (eqb (reasonAt i .answer) (reasonAt j .answer))
-    (passes-both 50 50
+    (passes-both (length reasons) (length reasons)
     (λ i j. not (same (word (reasonAt i .phrase)) (word (reasonAt j .phrase))) || eqb (reasonAt i .answer)
     (reasonAt j .answer))
-    tt i j h l) e)
+    refl i j h l) e)
 
 module _ (k k′ a a′ : ℕ) (h : k < 17) (h′ : k′ < 17) (l : isListed a ≡ true) (l′ : isListed a′ ≡ true) where
   reasons-differ : reasonText k a ≡ reasonText k′ a′ → a ≡ a′
@@ -330,7 +262,7 @@ module _ (k k′ a a′ : ℕ) (h : k < 17) (h′ : k′ < 17) (l : isListed a �
 accepted-first : (k : ℕ) → k < 17 → getD (reasonText k 0) 0 0 ≡ 97
 unfolding phraseIn
 accepted-first k h =
-    eqb→eq (getD (reasonText k 0) 0 0) 97 (passes 17 (λ k. eqb (getD (reasonText k 0) 0 0) 97) tt k h)
+    eqb→eq (getD (reasonText k 0) 0 0) 97 (passes 17 (λ k. eqb (getD (reasonText k 0) 0 0) 97) refl k h)
 
 apart : (k k′ a a′ : ℕ) → k < 17 → a ≡ 0 → a′ ≢ 0 → verdictText k a ≡ verdictText k′ a′ → ⊥
 apart k k′ a a′ h z n e =
@@ -353,44 +285,17 @@ verdicts-differ k k′ a a′ h h′ l l′ e = go (eq-or-ne a 0) (eq-or-ne a′
 
 -- Lines
 
--- A text is its bytes, place by place.
-abbrev listed : ℕ → (ℕ → ℕ) → Text
-listed zero f = []
-listed (suc n) f = f 0 ∷ listed n (λ i. f (suc i))
-
-listed-is : (n : ℕ) (s : Text) → length s ≡ n → s ≡ listed n (λ i. getD s i 0)
-listed-is zero [] l = refl
-listed-is zero (x ∷ s) l = absurd (omega arith)
-listed-is (suc n) [] l = absurd (omega arith)
-listed-is (suc n) (x ∷ s) l = ap (λ t. x ∷ t) (listed-is n s (omega arith))
-
-bytes-back : (s : Text) → EightBytes s → recordBytes (recordAt s) ≡ s
-unfolding recordBytes
-bytes-back s h =
-    let v = recordAt s .value in
-    let b4 : v % 256 ≡ getD s 4 0 = omega (arith, h .byte 4) in
-    let q5 : v / 256 ≡ getD s 5 0 + 256 * (getD s 6 0 + 256 * getD s 7 0) = omega (arith, h .byte 4) in
-    let b5 : v / 256 % 256 ≡ getD s 5 0 = rw q5 (omega (arith, h .byte 5)) in
-    let q6 : v / 65536 ≡ getD s 6 0 + 256 * getD s 7 0 = omega (arith, h .byte 4, h .byte 5) in
-    let b6 : v / 65536 % 256 ≡ getD s 6 0 = rw q6 (omega (arith, h .byte 6)) in
-    let q7 : v / 16777216 ≡ getD s 7 0 = omega (arith, h .byte 4, h .byte 5, h .byte 6) in
-    let b7 : v / 16777216 % 256 ≡ getD s 7 0 = rw q7 (omega (arith, h .byte 7)) in
-    (λ i. getD s 0 0 ∷ getD s 1 0 ∷ getD s 2 0 ∷ getD s 3 0 ∷ b4 i ∷ b5 i ∷ b6 i ∷ b7 i ∷ [])
-    ∙ sym (listed-is 8 s (h .eight))
-
 pub lines-differ : LinesDiffer
 unfolding LinesDiffer line
 lines-differ s s′ a a′ h h′ l l′ e =
     let r = recordAt s in
     let r′ = recordAt s′ in
-    let b = bytes-back s h in
-    let b′ = bytes-back s′ h′ in
-    let small : Small r = subst (λ (t : Text). (i : ℕ) → getD t i 0 < 256) (sym b) (h .byte) in
-    let small′ : Small r′ = subst (λ (t : Text). (i : ℕ) → getD t i 0 < 256) (sym b′) (h′ .byte) in
+    let b = small s h in
+    let b′ = small s′ h′ in
     let c = cut-colon (headText r) (headText r′) (32 ∷ (verdictText (place r) a ++ newline))
-    (32 ∷ (verdictText (place r′) a′ ++ newline)) (head-is r small .1) (head-is r′ small′ .1) e in
+    (32 ∷ (verdictText (place r′) a′ ++ newline)) (head-is r b .1) (head-is r′ b′ .1) e in
     let v = append-cancel-right (verdictText (place r) a) (verdictText (place r′) a′) newline
     (tail-eq-of-cons-eq (c .1)) in (
-      sym b ∙ heads-differ r r′ small small′ (c .0) ∙ b′,
+      sym (bytes-back s h) ∙ heads-differ r r′ b b′ (c .0) ∙ bytes-back s′ h′,
       verdicts-differ (place r) (place r′) a a′ (place-below r) (place-below r′) l l′ v,
     )

@@ -12,7 +12,7 @@ use Rattle.model.proofs.Tests.{of-true, split-and}
 use Rattle.text.specs.Text.{digits}
 use Rattle.lines.specs.Lines.{word}
 use Rattle.phrases.specs.Phrases.{noStep}
-use Rattle.phrases.specs.Line.{boardText, secondText, stepText, rawText, headText, place, reasonText, verdictText}
+use Rattle.phrases.specs.Line.{boardPart, secondPart, stepText, rawText, headText, place, reasonText, verdictText}
 
 -- What is known of the fields of a well-formed record.
 pub record Formed (r : Record) : Type 0 where
@@ -42,19 +42,19 @@ formed r e =
     }
 
 module _ (r : Record) where
-  pub board-none : boardless (r .step) ≡ true → [] ≡ boardText r
+  pub board-none : boardless (r .step) ≡ true → [] ≡ boardPart r
   board-none e = rw e
 
-  pub board-some : boardless (r .step) ≡ false → digits (r .board) ≡ boardText r
+  pub board-some : boardless (r .step) ≡ false → digits (r .board) ≡ boardPart r
   board-some e = rw e
 
-  pub second-board : r .step ≡ 9 → digits (r .other) ≡ secondText r
+  pub second-board : r .step ≡ 9 → digits (r .other) ≡ secondPart r
   second-board e = rw (eq-eqb (r .step) 9 e)
 
-  pub second-value : r .step ≢ 9 → r .step ≡ 1 → digits (r .value) ≡ secondText r
+  pub second-value : r .step ≢ 9 → r .step ≡ 1 → digits (r .value) ≡ secondPart r
   second-value f e = rw (ne-eqb (r .step) 9 f, eq-eqb (r .step) 1 e)
 
-  pub second-none : r .step ≢ 9 → r .step ≢ 1 → [] ≡ secondText r
+  pub second-none : r .step ≢ 9 → r .step ≢ 1 → [] ≡ secondPart r
   second-none f g = rw (ne-eqb (r .step) 9 f, ne-eqb (r .step) 1 g)
 
   pub head-formed : wellFormed r ≡ true → stepText r ≡ headText r

@@ -1,12 +1,12 @@
 -- How long a line is at least and at most. Assumes nothing.
 use mathlib.Core.Bool.{Bool, true, false, not, cond, _&&_}
 use mathlib.Core.List.{[], _++_}
-use mathlib.Core.Path.{_≡_, refl, sym, ap, subst, _∙_}
-use Prim.Native.Nat.{ℕ, _+_, _*_, _^_, _<_, _≤_}
+use mathlib.Core.Path.{_≡_, refl, subst}
+use Prim.Native.Nat.{ℕ, _+_, _^_, _<_, _≤_}
 use native.Mathlib.Omega.{arith}
-use lib.Dec.{T, leb, eqb, leb→le, eqb→eq}
-use lib.ListN.{length, getD, length-append}
-use borrow.Author.Tests.{ne-eqb, eq-eqb}
+use lib.Dec.{T, leb, eqb, leb→le}
+use lib.ListN.{length, length-append}
+use borrow.Author.Tests.{ne-eqb}
 use Rattle.model.specs.Members.{isReplica}
 use Rattle.model.specs.Records.{Record, boardless, wellFormed}
 use Rattle.model.proofs.Tests.{split-and, by-test, is-true, is-false}
@@ -15,9 +15,9 @@ use Rattle.text.proofs.Laws.{digits-one-length, digits-most-10}
 use Rattle.lines.specs.Lines.{word, newline}
 use Rattle.records.specs.Bytes.{recordAt, recordBytes}
 use Rattle.records.proofs.Encoding.{bytes-length}
-use Rattle.phrases.specs.Phrases.{noStep, phraseIn, isListed, isListedIn}
-use Rattle.phrases.specs.Line.{leadText, trailText, boardText, secondText, stepText, rawText, hexes, headText, place, verdictText, line}
-use Rattle.phrases.specs.Describe.{EightBytes, LengthsTell}
+use Rattle.phrases.specs.Phrases.{noStep, phraseIn, isListed}
+use Rattle.phrases.specs.Line.{leadText, trailText, boardPart, secondPart, stepText, rawText, hexes, headText, place, verdictText, line}
+use Rattle.phrases.specs.Describe.{LengthsTell}
 use Rattle.phrases.proofs.Testing.{passes, passes-both}
 use Rattle.phrases.proofs.Hexes.{Bytes, hexes-triple}
 use Rattle.phrases.proofs.Forming.{Formed, formed, head-formed, head-raw, place-formed, place-raw}
@@ -58,9 +58,9 @@ module _ (r : Record) (h : r .value < 2 ^ 32) where
   step-most f =
       let k = r .step in omega (
         arith,
-        length-append (leadText k) (boardText r ++ (trailText k ++ secondText r)),
-        length-append (boardText r) (trailText k ++ secondText r),
-        length-append (trailText k) (secondText r),
+        length-append (leadText k) (boardPart r ++ (trailText k ++ secondPart r)),
+        length-append (boardPart r) (trailText k ++ secondPart r),
+        length-append (trailText k) (secondPart r),
         board-most (boardless k) (r .board) (f .board),
         second-most (eqb k 9) (eqb k 1) (not (eqb (r .board) (r .other))) (r .other) (r .value) (f .other) h,
       )
@@ -101,7 +101,7 @@ place-below r = by-test (wellFormed r) (λ t. yes (is-true (wellFormed r) t)) (�
 all-most : (k a : ℕ) → k < 17 → a < 17 → headMost k + (2 + (length (verdictText k a) + 1)) ≤ 96
 unfolding verdictText phraseIn
 all-most k a h l =
-    leb→le _ 96 (passes-both 17 17 (λ k a. leb (headMost k + (2 + (length (verdictText k a) + 1))) 96) tt k a h l)
+    leb→le _ 96 (passes-both 17 17 (λ k a. leb (headMost k + (2 + (length (verdictText k a) + 1))) 96) refl k a h l)
 
 line-length : (r : Record) (a : ℕ)
     → length (line r a) ≡ length (headText r) + (2 + (length (verdictText (place r) a) + 1))
@@ -119,7 +119,7 @@ line-most r a h e =
 
 -- Its beginning alone has three bytes.
 lead-least : (k : ℕ) → k < 17 → 3 ≤ length (leadText k)
-lead-least k h = leb→le 3 _ (passes 17 (λ k. leb 3 (length (leadText k))) tt k h)
+lead-least k h = leb→le 3 _ (passes 17 (λ k. leb 3 (length (leadText k))) refl k h)
 
 head-least : (r : Record) → 3 ≤ length (headText r)
 unfolding stepText rawText
@@ -129,7 +129,7 @@ head-least r = by-test (wellFormed r) (λ t. yes (is-true (wellFormed r) t)) (λ
     yes e =
         let l = lead-least (r .step) (omega (arith, formed r e .step)) in
         subst (λ t. 3 ≤ length t) (head-formed r e)
-        (omega (arith, l, length-append (leadText (r .step)) (boardText r ++ (trailText (r .step) ++ secondText r))))
+        (omega (arith, l, length-append (leadText (r .step)) (boardPart r ++ (trailText (r .step) ++ secondPart r))))
 
     no : wellFormed r ≡ false → 3 ≤ length (headText r)
     no e =

@@ -5,4 +5,6 @@ pub mod Hexes
 pub mod Forming
 pub mod Lengths
 pub mod Describing
+pub mod Fields
 pub mod Differ
+pub mod Printing

@@ -14,11 +14,12 @@ use borrow.Author.Tests.{eq-eqb, ne-eqb, le-leb, lt-leb, leb-true}
 use Rattle.model.proofs.Tests.{is-true, of-true, split-and, le-or-lt}
 use Rattle.text.specs.Text.{Text}
 use Rattle.lines.specs.Lines.{word}
-use Rattle.phrases.specs.Phrases.{Form, forms, malformed, Reason, of, reasons, reasonAt, has, isFor, phraseIn, isListedIn, isListed}
-use Rattle.phrases.specs.Line.{leadText, trailText, pieces, pieceText, reasonText}
+use Rattle.phrases.specs.Phrases.{Form, forms, malformed, Reason, of, reasons, has, isFor, phraseIn, isListedIn, isListed}
+use Rattle.phrases.specs.Line.{leadText, trailText, reasonText}
 use Rattle.phrases.specs.Describe.{Covers}
+use Rattle.phrases.specs.Layout.{reasonAt, pieces, pieceText}
 use Rattle.phrases.proofs.Parts.{whole, ends, Part, part-at}
-use Rattle.phrases.proofs.Testing.{allBelow, passes, passes-both, agree, agreeing}
+use Rattle.phrases.proofs.Testing.{passes, passes-both, agree, agreeing}
 
 -- Words
 
@@ -66,7 +67,8 @@ answer-at i = List·getD-map answerOf reasons i (of 0 [] "")
 
 pub answer-small : (i : ℕ) → i < length reasons → getD (map answerOf reasons) i 0 ≤ 16
 answer-small i h =
-    omega (arith, answer-at i, leb→le (reasonAt i .answer) 16 (passes 50 (λ i. leb (reasonAt i .answer) 16) tt i h))
+    let t = passes (length reasons) (λ i. leb (reasonAt i .answer) 16) refl i h in
+    omega (arith, answer-at i, leb→le (reasonAt i .answer) 16 t)
 
 abbrev maskOf : Reason → ℕ
 maskOf r = mask (r .steps)
@@ -78,8 +80,8 @@ maskOf r = mask (r .steps)
 pub step-at : (i k : ℕ) → i < length reasons → k < 17
     → eqb (getD (map maskOf reasons) i 0 / 2 ^ k % 2) 1 ≡ has k (reasonAt i .steps)
 step-at i k h l =
-    agreeing _ _ (passes-both 50 17
-    (λ i k. agree (eqb (getD (map maskOf reasons) i 0 / 2 ^ k % 2) 1) (has k (reasonAt i .steps))) tt i k h l)
+    agreeing _ _ (passes-both (length reasons) 17
+    (λ i k. agree (eqb (getD (map maskOf reasons) i 0 / 2 ^ k % 2) 1) (has k (reasonAt i .steps))) refl i k h l)
 
 -- The first phrase that is for an answer to a step
 
@@ -149,21 +151,27 @@ unlisted (r ∷ rs) a t h =
     rw (ne-eqb a (r .answer) (λ (e : a ≡ r .answer). omega (arith, leb→le (r .answer) 16 (x .0), h)))
     (unlisted rs a (x .1) h)
 
-pub covers : Covers
-unfolding Covers isListedIn
-covers a = go (le-or-lt a 16)
+listed-is : (a : ℕ) → isListed a ≡ leb a 16
+unfolding isListedIn
+listed-is a = go (le-or-lt a 16)
   where
     go : (a ≤ 16) ⊎ (16 < a) → isListed a ≡ leb a 16
-    go (inl h) = is-true (isListed a) (passes 17 isListed tt a (omega arith)) ∙ sym (le-leb a 16 h)
+    go (inl h) = is-true (isListed a) (passes 17 isListed refl a (omega arith)) ∙ sym (le-leb a 16 h)
     go (inr h) = unlisted reasons a tt h ∙ sym (lt-leb a 16 h)
 
+worded : (k a : ℕ) → k < 17 → a < 17 → 1 ≤ length (reasonText k a)
+unfolding phraseIn
+worded k a h l = leb→le 1 _ (passes-both 17 17 (λ k a. leb 1 (length (reasonText k a))) refl k a h l)
+
+pub covers : Covers
+covers = record { listed = listed-is; worded = λ k a h l. worded k a (omega (arith, h)) (omega (arith, l)) }
+
 pub listed-below : (a : ℕ) → isListed a ≡ true → a < 17
-unfolding Covers isListedIn
-listed-below a e = let h = leb-true a 16 (sym (covers a) ∙ e) in omega arith
+listed-below a e = let h = leb-true a 16 (sym (listed-is a) ∙ e) in omega arith
 
 -- Each of them has a phrase for every step.
 pub there : (k a : ℕ) → k < 17 → isListed a ≡ true → T (isThere reasons k a)
-there k a h e = passes-both 17 17 (λ k a. isThere reasons k a) tt k a h (listed-below a e)
+there k a h e = passes-both 17 17 (λ k a. isThere reasons k a) refl k a h (listed-below a e)
 
 -- Looking for an answer, place by place: it stands here, or further on, or nowhere.
 pub listed-hit : (i a : ℕ) → i < length reasons → a ≡ reasonAt i .answer → isListedIn (drop i reasons) a ≡ true

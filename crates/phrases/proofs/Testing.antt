@@ -1,33 +1,19 @@
 -- Facts of every place of a list by one test that antt computes. Assumes nothing.
 use mathlib.Core.Bool.{Bool, true, false, not, _&&_, _||_}
 use mathlib.Core.List.{[], _∷_}
-use mathlib.Core.Logic.{_⊎_, inl, inr}
-use mathlib.Core.Path.{_≡_, refl, sym, subst}
-use Prim.Native.Nat.{ℕ, zero, suc, _<_}
-use native.Mathlib.Nat.{not-suc-le-zero}
-use native.Mathlib.Omega.{arith}
+use mathlib.Core.Path.{_≡_, refl, subst}
+use Prim.Native.Nat.{ℕ, _<_}
 use lib.Dec.{T, T-not, eqb, eqb-refl}
-use Rattle.model.proofs.Tests.{split-and, join-and, eq-or-ne}
+use Rattle.model.proofs.Tests.{of-true, join-and}
+use Rattle.members.proofs.Finite.{all, below}
 use Rattle.text.specs.Text.{Text}
 
--- The numbers below n pass.
-abbrev pub allBelow : ℕ → (ℕ → Bool) → Bool
-allBelow zero p = true
-allBelow (suc n) p = p n && allBelow n p
+-- A test that all numbers below n pass, and one of two numbers.
+pub passes : (n : ℕ) (p : ℕ → Bool) → all p n ≡ true → (i : ℕ) → i < n → T (p i)
+passes n p t i h = of-true (below p n t i h)
 
-pub passes : (n : ℕ) (p : ℕ → Bool) → T (allBelow n p) → (i : ℕ) → i < n → T (p i)
-passes zero p t i h = absurd (not-suc-le-zero h)
-passes (suc n) p t i h = go (eq-or-ne i n) (λ (f : i ≡ n → ⊥). passes n p (split-and (p n) (allBelow n p) t .1) i
-    (omega (arith, h, f)))
-  where
-    go : (i ≡ n) ⊎ (i ≡ n → ⊥) → ((i ≡ n → ⊥) → T (p i)) → T (p i)
-    go (inl e) f = subst (λ k. T (p k)) (sym e) (split-and (p n) (allBelow n p) t .0)
-    go (inr g) f = f g
-
--- A test of two numbers.
-pub passes-both : (n m : ℕ) (p : ℕ → ℕ → Bool) → T (allBelow n (λ i. allBelow m (p i))) → (i k : ℕ) → i < n → k < m
-    → T (p i k)
-passes-both n m p t i k h l = passes m (p i) (passes n (λ i. allBelow m (p i)) t i h) k l
+pub passes-both : (n m : ℕ) (p : ℕ → ℕ → Bool) → all (λ i. all (p i) m) n ≡ true → (i k : ℕ) → i < n → k < m → T (p i k)
+passes-both n m p t i k h l = passes m (p i) (below (λ i. all (p i) m) n t i h) k l
 
 -- Truth values, and texts, compared.
 abbrev pub agree : Bool → Bool → Bool

@@ -1,6 +1,6 @@
 -- The call `describe_record` and what is claimed of its lines (document 02, Paper 5). Cited by the promises of
 -- `describe_record` and `claim`. Assumes nothing.
-use mathlib.Core.Bool.{Bool, true, cond, _&&_}
+use mathlib.Core.Bool.{Bool, true, false, cond, _&&_}
 use mathlib.Core.List.{[], _∷_, _++_}
 use mathlib.Core.Path.{_≡_}
 use Prim.Native.Nat.{ℕ, _<_, _≤_}
@@ -8,10 +8,10 @@ use lib.Dec.{leb, eqb}
 use lib.ListN.{length, getD, replicate}
 use Rattle.text.specs.Text.{Text, over}
 use Rattle.lines.specs.Lines.{word}
-use Rattle.model.specs.Records.{Record, of, ofBoth, ofValue}
+use Rattle.model.specs.Records.{of, ofBoth, ofValue}
 use Rattle.records.specs.Bytes.{recordAt, recordBytes}
-use Rattle.phrases.specs.Phrases.{isListed, isListedIn}
-use Rattle.phrases.specs.Line.{line}
+use Rattle.phrases.specs.Phrases.{noStep, isListed, isListedIn}
+use Rattle.phrases.specs.Line.{reasonText, line}
 
 -- The call, with the record's bytes s, the answer a and a slice whose bytes are `out`
 
@@ -47,12 +47,24 @@ LinesDiffer =
     (s s′ : Text) (a a′ : ℕ) → EightBytes s → EightBytes s′ → isListed a ≡ true → isListed a′ ≡ true
     → line (recordAt s) a ≡ line (recordAt s′) a′ → (s ≡ s′) × (a ≡ a′)
 
--- "The phrase list ... covers 0 to 16": these are on it, and no other answer is.
-unfoldable pub Covers : Type 0
-unfolding isListedIn
-Covers = (a : ℕ) → isListed a ≡ leb a 16
+-- "The phrase list ... covers 0 to 16": these are on it, and no other answer is; each has words for every step, and for
+-- malformed records.
+pub record Covers : Type 0 where
+  pub listed : (a : ℕ) → isListed a ≡ leb a 16
+  pub worded : (k a : ℕ) → k ≤ noStep → a ≤ 16 → 1 ≤ length (reasonText k a)
 
--- No line is so short that its length could be a refusal, and none is longer than 96 bytes.
+-- "one English line": printable bytes, and byte 10 at the end and nowhere else.
+abbrev pub isOneLine : Text → Bool
+isOneLine [] = false
+isOneLine (x ∷ []) = eqb x 10
+isOneLine (x ∷ y ∷ xs) = leb 32 x && leb x 126 && isOneLine (y ∷ xs)
+
+unfoldable pub OneLine : Type 0
+unfolding line isListedIn
+OneLine =
+    (s : Text) (a : ℕ) → EightBytes s → isListed a ≡ true → isOneLine (line (recordAt s) a) ≡ true
+
+-- No line is so short that its length could be a refusal, and none has more than 96 bytes.
 unfoldable pub LengthsTell : Type 0
 unfolding line isListedIn
 LengthsTell =
@@ -66,8 +78,8 @@ unfoldable pub LinesHold : Type 0
 unfolding line
 LinesHold =
     (line (ofValue 1 1 41) 0 ≡ word "board 1 appends value 41: accepted\n")
-    × (line (ofBoth 9 1 2) 11 ≡ word "leader 1 counts board 2: refused, the counted board has not joined yet\n")
-    × (line (ofBoth 9 2 2) 1 ≡ word "record 09 02 02 00 00 00 00 00: refused, a field is outside its values\n")
+    × (line (of 3 2) 5 ≡ word "add board 2: refused, the board is a member already\n")
+    × (line (ofBoth 9 2 2) 1 ≡ word "record 09 02 02 00 00 00 00 00: refused, these eight bytes are no step\n")
 
 -- A slice one byte short is refused and keeps its bytes; one of the line's length is enough; a longer one keeps those
 -- past the line.

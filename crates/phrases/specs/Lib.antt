@@ -1,3 +1,4 @@
 pub mod Phrases
 pub mod Line
+pub mod Layout
 pub mod Describe

@@ -1,14 +1,13 @@
 -- The line of a record and its answer, byte for byte (document 02, Paper 5). Cited by Describe. Assumes nothing.
 use mathlib.Core.Bool.{cond}
-use mathlib.Core.List.{List, [], _∷_, _++_}
+use mathlib.Core.List.{[], _∷_, _++_}
 use Prim.Native.Nat.{ℕ, _+_, _/_, _%_}
 use lib.Dec.{ltb, eqb}
-use lib.ListN.{getD}
 use Rattle.text.specs.Text.{Text, digits}
 use Rattle.lines.specs.Lines.{word, space, newline}
 use Rattle.model.specs.Records.{Record, boardless, wellFormed}
 use Rattle.records.specs.Bytes.{recordBytes}
-use Rattle.phrases.specs.Phrases.{Form, forms, noStep, formOf, reasons, phraseIn}
+use Rattle.phrases.specs.Phrases.{noStep, formOf, reasons, phraseIn}
 
 -- "its eight bytes in hexadecimal"
 
@@ -32,25 +31,17 @@ leadText k = word (formOf k .lead)
 abbrev pub trailText : ℕ → Text
 trailText k = word (formOf k .trail)
 
--- Both, two a form: as the code counts them.
-abbrev pub pieces : List Form → List Text
-pieces [] = []
-pieces (f ∷ fs) = word (f .lead) ∷ word (f .trail) ∷ pieces fs
-
-abbrev pub pieceText : ℕ → Text
-pieceText i = getD (pieces forms) i []
-
 -- The board, if the step names one: a in step 9.
-abbrev pub boardText : Record → Text
-boardText r = cond (boardless (r .step)) [] (digits (r .board))
+abbrev pub boardPart : Record → Text
+boardPart r = cond (boardless (r .step)) [] (digits (r .board))
 
 -- The second number: b in step 9, the value in step 1.
-abbrev pub secondText : Record → Text
-secondText r = cond (eqb (r .step) 9) (digits (r .other)) (cond (eqb (r .step) 1) (digits (r .value)) [])
+abbrev pub secondPart : Record → Text
+secondPart r = cond (eqb (r .step) 9) (digits (r .other)) (cond (eqb (r .step) 1) (digits (r .value)) [])
 
 unfoldable pub stepText : Record → Text
 unfolding digits
-stepText r = leadText (r .step) ++ (boardText r ++ (trailText (r .step) ++ secondText r))
+stepText r = leadText (r .step) ++ (boardPart r ++ (trailText (r .step) ++ secondPart r))
 
 unfoldable pub rawText : Record → Text
 unfolding hexes recordBytes

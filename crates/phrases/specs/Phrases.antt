@@ -1,6 +1,6 @@
 -- The phrase list of document 02, Paper 5: "a fixed list of phrases: the step's name, the boards and value it uses,
 -- then `accepted` or the reason". docs/PHRASES.md prints it. Cited by Line. Assumes nothing.
-use mathlib.Core.Bool.{Bool, true, false, cond, _&&_, _||_}
+use mathlib.Core.Bool.{Bool, false, cond, _&&_, _||_}
 use mathlib.Core.List.{List, [], _∷_}
 use Prim.Native.Nat.{ℕ}
 use Prim.Native.String.{String}
@@ -33,8 +33,8 @@ forms =
     ∷ ("change leader" … "")
     ∷ ("board " … " takes news")
     ∷ ("board " … " joins")
-    ∷ ("board " … " receives")
-    ∷ ("leader " … " counts board ")
+    ∷ ("board " … " receives an entry")
+    ∷ ("board " … " counts board ")
     ∷ ("controller takes news" … "")
     ∷ ("controller reads leader" … "")
     ∷ ("controller reads board " … "")
@@ -65,19 +65,19 @@ of n ks p = record { answer = n; steps = ks; phrase = p }
 abbrev pub any : ℕ → String → Reason
 any n p = of n (0 ∷ 1 ∷ 2 ∷ 3 ∷ 4 ∷ 5 ∷ 6 ∷ 7 ∷ 8 ∷ 9 ∷ 10 ∷ 11 ∷ 12 ∷ 13 ∷ 14 ∷ 15 ∷ noStep ∷ []) p
 
--- The phrases, in the order of their answers. "One number means different things in different steps": those of single
--- steps stand before the one for any. A new answer is a new line here.
+-- The phrases, in the order of their answers. One number means different things in different steps: the phrases of
+-- single steps stand before the one for any. A new answer is a new line here.
 abbrev pub reasons : List Reason
 reasons =
     (any 0 "accepted")
     ∷ (of 1 (0 ∷ []) "an opening stands first and nowhere else")
-    ∷ (of 1 (noStep ∷ []) "a field is outside its values")
-    ∷ (any 1 "the row or a lent slice is not valid")
+    ∷ (of 1 (noStep ∷ []) "these eight bytes are no step")
+    ∷ (any 1 "the row or the memory for it is not valid")
     ∷ (any 2 "the sheet has a wrong length or no valid opening")
     ∷ (any 3 "the text is longer than the room for it")
     ∷ (of 4 (3 ∷ 4 ∷ []) "a leader is being chosen")
-    ∷ (of 4 (5 ∷ []) "the status is not normal")
-    ∷ (any 4 "the status does not allow it")
+    ∷ (of 4 (5 ∷ []) "the registry's status is not normal")
+    ∷ (any 4 "the registry's status does not allow it")
     ∷ (of 5 (3 ∷ []) "the board is a member already")
     ∷ (of 5 (4 ∷ []) "the board is not a member")
     ∷ (of 5 (7 ∷ []) "it is not a member in its own view")
@@ -89,27 +89,31 @@ reasons =
     ∷ (of 6 (5 ∷ []) "there are fewer than two members")
     ∷ (of 6 (12 ∷ []) "the board is the leader in the controller's view")
     ∷ (any 6 "the leader does not allow it")
-    ∷ (any 7 "the epochs are used up")
-    ∷ (of 8 (9 ∷ []) "the counting board does not hold itself leader")
-    ∷ (any 8 "it does not hold itself leader")
-    ∷ (any 9 "it follows no other board")
-    ∷ (of 10 (9 ∷ []) "the two boards follow different leader epochs")
-    ∷ (any 10 "its leader follows another leader epoch")
-    ∷ (of 11 (7 ∷ []) "it has joined already")
-    ∷ (of 11 (8 ∷ []) "it has not joined yet")
-    ∷ (of 11 (9 ∷ []) "the counted board has not joined yet")
-    ∷ (of 11 (12 ∷ []) "the board has not joined under the controller's leader epoch")
+    ∷ (any 7 "the registry's epochs are used up")
+    ∷ (of 8 (1 ∷ 2 ∷ []) "it is not the leader in its own view")
+    ∷ (of 8 (9 ∷ []) "the counting board is not the leader in its own view")
+    ∷ (any 8 "a board is not the leader in its own view")
+    ∷ (of 9 (7 ∷ 8 ∷ []) "it follows no other board")
+    ∷ (any 9 "a board follows no other board")
+    ∷ (of 10 (7 ∷ 8 ∷ []) "its leader has another leader epoch")
+    ∷ (of 10 (9 ∷ []) "the two boards have different leader epochs")
+    ∷ (any 10 "the leader epochs differ")
+    ∷ (of 11 (7 ∷ []) "it has joined under its leader epoch already")
+    ∷ (of 11 (8 ∷ []) "it has not joined under its leader epoch yet")
+    ∷ (of 11 (9 ∷ []) "the counted board has not joined under its leader epoch yet")
+    ∷ (of 11 (12 ∷ []) "the board last joined under another leader epoch")
     ∷ (any 11 "joining does not allow it")
-    ∷ (of 12 (2 ∷ []) "its log is no longer than the receipts")
+    ∷ (of 12 (2 ∷ []) "its log is not longer than the receipts")
     ∷ (of 12 (6 ∷ 10 ∷ []) "it has the newest news already")
-    ∷ (of 12 (8 ∷ []) "its log is no shorter than its leader's")
-    ∷ (of 12 (9 ∷ []) "the counted board's log is no longer than the count")
-    ∷ (of 12 (12 ∷ 14 ∷ []) "the board's log is no longer than heard before")
+    ∷ (of 12 (8 ∷ []) "its log is not shorter than its leader's")
+    ∷ (of 12 (9 ∷ []) "the counted board's log is not longer than the count")
+    ∷ (of 12 (12 ∷ 14 ∷ []) "the board's log is not longer than heard before")
     ∷ (any 12 "nothing is due")
-    ∷ (any 13 "its log is full")
-    ∷ (of 14 (2 ∷ []) "its counts show no majority with the next entry")
-    ∷ (of 14 (13 ∷ []) "no majority is heard at the leader's heard length or above")
-    ∷ (of 14 (15 ∷ []) "no majority is heard that has the board and none ranked above it")
+    ∷ (of 13 (1 ∷ []) "its log is full")
+    ∷ (any 13 "a log is full")
+    ∷ (of 14 (2 ∷ []) "its counts show no majority of members with the next entry")
+    ∷ (of 14 (13 ∷ []) "no majority of members is heard at the leader's heard length or above")
+    ∷ (of 14 (15 ∷ []) "no majority that has the board is heard with none ranked above it")
     ∷ (any 14 "there is no majority for it")
     ∷ (of 15 (11 ∷ []) "the controller is not at stage leader")
     ∷ (of 15 (12 ∷ 13 ∷ []) "the controller is not at stage boards")
@@ -120,10 +124,6 @@ reasons =
     ∷ (of 16 (13 ∷ 15 ∷ []) "the controller's epoch is not the registry's")
     ∷ (any 16 "the epochs differ")
     ∷ []
-
--- The phrase at a place of the list.
-abbrev pub reasonAt : ℕ → Reason
-reasonAt i = getD reasons i (of 0 [] "")
 
 abbrev pub has : ℕ → List ℕ → Bool
 has k [] = false

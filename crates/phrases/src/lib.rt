@@ -4,13 +4,13 @@ ghost use mathlib.Core.Bool.{true};
 ghost use mathlib.Core.Path.{_≡_};
 ghost use Prim.Native.Nat.{_+_, _<_, _≤_};
 ghost use lib.ListN.{length};
-ghost use Rattle.text.specs.Text.{Wrote, Delivered};
+ghost use Rattle.text.specs.Text.{Wrote};
 ghost use Rattle.model.specs.Records.{wellFormed};
 ghost use Rattle.records.specs.Record.{recordOf};
 ghost use Rattle.phrases.specs.Phrases.{isListed};
 ghost use Rattle.phrases.specs.Line as Line;
-ghost use Rattle.phrases.specs.Line.{boardText, secondText, stepText, headText, verdictText};
-ghost use Rattle.phrases.specs.Describe.{result, left, LinesDiffer, Covers, LengthsTell, LinesHold, RoomHolds};
+ghost use Rattle.phrases.specs.Line.{boardPart, secondPart, stepText, headText, verdictText};
+ghost use Rattle.phrases.specs.Describe.{result, left, LinesDiffer, OneLine, Covers, LengthsTell, LinesHold, RoomHolds};
 use records::Record;
 
 mod form;
@@ -19,8 +19,8 @@ mod list;
 
 // Writes the board of a record, if its step names one.
 fn put_board(out: &mut [u8], at: usize, r: Record) -> usize
-    requires { ⌜ at + length (boardText (recordOf r)) ≤ length (now out) ⌝ }
-    ensures { λ x. ⌜ Wrote (now (out .entry)) at (boardText (recordOf r)) (now (out .exit)) x ⌝ }
+    requires { ⌜ at + length (boardPart (recordOf r)) ≤ length (now out) ⌝ }
+    ensures { λ x. ⌜ Wrote (now (out .entry)) at (boardPart (recordOf r)) (now (out .exit)) x ⌝ }
 {
     if form::boardless(r.step) {
         return at;
@@ -30,8 +30,8 @@ fn put_board(out: &mut [u8], at: usize, r: Record) -> usize
 
 // Writes the second number of a record, if its step has one.
 fn put_second(out: &mut [u8], at: usize, r: Record) -> usize
-    requires { ⌜ at + length (secondText (recordOf r)) ≤ length (now out) ⌝ }
-    ensures { λ x. ⌜ Wrote (now (out .entry)) at (secondText (recordOf r)) (now (out .exit)) x ⌝ }
+    requires { ⌜ at + length (secondPart (recordOf r)) ≤ length (now out) ⌝ }
+    ensures { λ x. ⌜ Wrote (now (out .entry)) at (secondPart (recordOf r)) (now (out .exit)) x ⌝ }
 {
     if r.step == 9 {
         return text::put_number(&mut *out, at, r.other as u32);
@@ -142,8 +142,8 @@ pub fn describe_record(bytes: &[u8], answer: usize, line: &mut [u8]) -> usize
     put_line(&mut *line, 0, r, answer)
 }
 
-// Two different pairs of record and answer never give the same line; the list has the answers 0 to 16; no line's
-// length could be a refusal. Nothing to run: the promise is the statement.
+// Two different pairs of record and answer never give the same line; each is one line; the list has the answers 0 to
+// 16; no line's length could be a refusal. Nothing to run: the promise is the statement.
 pub fn claim()
-    ensures { λ r. ⌜ LinesDiffer × Covers × LengthsTell × LinesHold × RoomHolds ⌝ }
+    ensures { λ r. ⌜ LinesDiffer × OneLine × Covers × LengthsTell × LinesHold × RoomHolds ⌝ }
 {}

@@ -8,46 +8,47 @@ ghost use lib.Dec.{eqb};
 ghost use lib.ListN.{length, take, drop, getD};
 ghost use Rattle.text.specs.Text.{Wrote};
 ghost use Rattle.lines.specs.Lines.{word};
-ghost use Rattle.phrases.specs.Phrases.{reasons, isListed, reasonAt};
-ghost use Rattle.phrases.specs.Line.{leadText, trailText, reasonText, pieceText};
+ghost use Rattle.phrases.specs.Phrases.{reasons, isListed};
+ghost use Rattle.phrases.specs.Line.{leadText, trailText, reasonText};
+ghost use Rattle.phrases.specs.Layout.{reasonAt, pieceText};
 
 // Where the words of the steps begin, for each form its lead and its trail. The last number is their end.
 #[rattlefmt::skip]
 const PIECES: [usize; 35] = [
     0, 19, 19, 25, 40, 46, 62, 72, 72, 85, 85, 98,
-    98, 104, 115, 121, 127, 133, 142, 149, 163, 184, 184, 207,
-    207, 230, 230, 240, 240, 263, 263, 277, 277, 283, 283,
+    98, 104, 115, 121, 127, 133, 151, 157, 171, 192, 192, 215,
+    215, 238, 238, 248, 248, 271, 271, 285, 285, 291, 291,
 ];
 
 // The answer of each phrase,
 #[rattlefmt::skip]
-const ANSWERS: [u8; 50] = [
+const ANSWERS: [u8; 54] = [
     0, 1, 1, 1, 2, 3, 4, 4, 4, 5, 5, 5, 5, 5, 5, 5,
-    6, 6, 6, 6, 7, 8, 8, 9, 10, 10, 11, 11, 11, 11, 11, 12,
-    12, 12, 12, 12, 12, 13, 14, 14, 14, 14, 15, 15, 15, 15, 16, 16,
-    16, 16,
+    6, 6, 6, 6, 7, 8, 8, 8, 9, 9, 10, 10, 10, 11, 11, 11,
+    11, 11, 12, 12, 12, 12, 12, 12, 13, 13, 14, 14, 14, 14, 15, 15,
+    15, 15, 16, 16, 16, 16,
 ];
 
 // the steps that it is for, a bit each: step 0 is the lowest, bit 16 is for malformed records,
 #[rattlefmt::skip]
-const STEPS: [u32; 50] = [
+const STEPS: [u32; 54] = [
     131071, 1, 65536, 131071, 131071, 131071, 24, 32,
     131071, 8, 16, 128, 256, 512, 53248, 131071,
-    16, 32, 4096, 131071, 131071, 512, 131071, 131071,
-    512, 131071, 128, 256, 512, 4096, 131071, 4,
-    1088, 256, 512, 20480, 131071, 131071, 4, 8192,
-    32768, 131071, 2048, 12288, 49152, 131071, 2048, 16384,
-    40960, 131071,
+    16, 32, 4096, 131071, 131071, 6, 512, 131071,
+    384, 131071, 384, 512, 131071, 128, 256, 512,
+    4096, 131071, 4, 1088, 256, 512, 20480, 131071,
+    2, 131071, 4, 8192, 32768, 131071, 2048, 12288,
+    49152, 131071, 2048, 16384, 40960, 131071,
 ];
 
 // and where its words begin. The last number is their end.
 #[rattlefmt::skip]
-const PHRASES: [usize; 51] = [
-    0, 8, 48, 77, 113, 161, 200, 224, 248, 276, 305, 330,
-    364, 421, 470, 520, 548, 571, 603, 651, 679, 701, 747, 777,
-    802, 847, 886, 907, 928, 964, 1024, 1049, 1087, 1117, 1156, 1207,
-    1253, 1267, 1282, 1329, 1387, 1451, 1478, 1515, 1552, 1591, 1625, 1673,
-    1714, 1758, 1775,
+const PHRASES: [usize; 55] = [
+    0, 8, 48, 77, 118, 166, 205, 229, 264, 303, 332, 357,
+    391, 448, 497, 547, 575, 598, 630, 678, 706, 739, 775, 827,
+    868, 893, 923, 958, 1001, 1025, 1069, 1113, 1172, 1220, 1245, 1284,
+    1314, 1354, 1406, 1453, 1467, 1482, 1495, 1553, 1622, 1687, 1714, 1751,
+    1788, 1827, 1861, 1909, 1950, 1994, 2011,
 ];
 
 // Writes the bytes of list from place a on and before place e.
@@ -76,8 +77,8 @@ fn put_piece(out: &mut [u8], at: usize, i: usize) -> usize
             change leader\
             board  takes news\
             board  joins\
-            board  receives\
-            leader  counts board \
+            board  receives an entry\
+            board  counts board \
             controller takes news\
             controller reads leader\
             controller reads board \
@@ -118,13 +119,13 @@ fn put_phrase(out: &mut [u8], at: usize, i: usize) -> usize
         at,
         b"accepted\
             an opening stands first and nowhere else\
-            a field is outside its values\
-            the row or a lent slice is not valid\
+            these eight bytes are no step\
+            the row or the memory for it is not valid\
             the sheet has a wrong length or no valid opening\
             the text is longer than the room for it\
             a leader is being chosen\
-            the status is not normal\
-            the status does not allow it\
+            the registry's status is not normal\
+            the registry's status does not allow it\
             the board is a member already\
             the board is not a member\
             it is not a member in its own view\
@@ -136,27 +137,31 @@ fn put_phrase(out: &mut [u8], at: usize, i: usize) -> usize
             there are fewer than two members\
             the board is the leader in the controller's view\
             the leader does not allow it\
-            the epochs are used up\
-            the counting board does not hold itself leader\
-            it does not hold itself leader\
+            the registry's epochs are used up\
+            it is not the leader in its own view\
+            the counting board is not the leader in its own view\
+            a board is not the leader in its own view\
             it follows no other board\
-            the two boards follow different leader epochs\
-            its leader follows another leader epoch\
-            it has joined already\
-            it has not joined yet\
-            the counted board has not joined yet\
-            the board has not joined under the controller's leader epoch\
+            a board follows no other board\
+            its leader has another leader epoch\
+            the two boards have different leader epochs\
+            the leader epochs differ\
+            it has joined under its leader epoch already\
+            it has not joined under its leader epoch yet\
+            the counted board has not joined under its leader epoch yet\
+            the board last joined under another leader epoch\
             joining does not allow it\
-            its log is no longer than the receipts\
+            its log is not longer than the receipts\
             it has the newest news already\
-            its log is no shorter than its leader's\
-            the counted board's log is no longer than the count\
-            the board's log is no longer than heard before\
+            its log is not shorter than its leader's\
+            the counted board's log is not longer than the count\
+            the board's log is not longer than heard before\
             nothing is due\
             its log is full\
-            its counts show no majority with the next entry\
-            no majority is heard at the leader's heard length or above\
-            no majority is heard that has the board and none ranked above it\
+            a log is full\
+            its counts show no majority of members with the next entry\
+            no majority of members is heard at the leader's heard length or above\
+            no majority that has the board is heard with none ranked above it\
             there is no majority for it\
             the controller is not at stage leader\
             the controller is not at stage boards\
@@ -210,7 +215,7 @@ pub fn is_listed(a: usize) -> bool
     ensures { λ r. ⌜ r ≡ isListed a ⌝ }
 {
     let mut i = 0;
-    while i < 50 {
+    while i < 54 {
         if a == ANSWERS[i] as usize {
             return true;
         }

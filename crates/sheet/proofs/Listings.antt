@@ -5,7 +5,7 @@ use mathlib.Core.Path.{_≡_, refl, sym, ap, ap₂, _∙_}
 use Prim.Native.Nat.{ℕ, suc, _-_, _/_, _<_, _≤_}
 use native.Mathlib.Omega.{arith}
 use lib.Dec.{leb}
-use lib.ListN.{length, take, length-append}
+use lib.ListN.{length, take, drop, getD, length-append}
 use borrow.Author.Tests.{leb-true}
 use Rattle.model.specs.State.{entries, outline, Opening, opened}
 use Rattle.model.specs.Records.{openingOf}
@@ -22,10 +22,10 @@ use Rattle.records.specs.Bytes.{recordAt, records, wholeRecords, isSheet}
 use Rattle.lines.specs.Lines.{answerLine}
 use Rattle.listing.specs.Listing.{answerLines, lines, ending}
 use Rattle.lines.proofs.Lengths.{line-length}
-use Rattle.sheet.specs.Sheet.{listingOf, listing, result, left, openingBytes, Refused, RefusedHolds, LengthsTell}
+use Rattle.sheet.specs.Sheet.{listingOf, listing, answersOf, result, left, openingBytes, Refused, RefusedHolds, LengthsTell}
 use Rattle.sheet.specs.Running.{following, stateAt, Ran}
 use Rattle.records.proofs.Decoding.{room}
-use Rattle.sheet.proofs.Playing.{sheet-whole, sheet-step, sheet-real}
+use Rattle.sheet.proofs.Playing.{sheet-whole, sheet-step, sheet-real, all-most}
 
 -- The first lines of the listing.
 pub lines-are : (s : Text) (k : ℕ) (row : Cluster) (p : Places) (ns : List ℕ) → isSheet s ≡ true → Ran s k row p ns
@@ -89,6 +89,11 @@ module _ (s : Text) (e : isSheet s ≡ true) (row : Cluster) (p : Places) (ns : 
   some : suc k ≡ length s / 8
   some = omega (arith, room (length s) (sheet-whole s e))
 
+  -- The answers that were kept are those of the run.
+  pub answers-are : take (length s / 8) ns ≡ answersOf s
+  unfolding answersOf
+  answers-are = ap (λ n. take n ns) (sym some) ∙ h .answered
+
   -- The list holds the receipts given.
   kept : take (row .issued) (listed p) ≡ receipts entries opening past
   kept = ap (λ x. x .committed) (h .state) ∙ safe entries opening (sheet-real s e) past .kept
@@ -110,6 +115,12 @@ module _ (s : Text) (e : isSheet s ≡ true) (row : Cluster) (p : Places) (ns : 
         d .left ∙ ap (λ x. cond (leb (length x) (length out)) (over out 0 x) out) l
             ∙ ap (λ t. cond (t && leb (length (listing s)) (length out)) (over out 0 (listing s)) out) (sym e),
       )
+
+-- No answer of a sheet is above 16.
+pub answers-most : (s : Text) (i : ℕ) → getD (answersOf s) i 0 ≤ 16
+unfolding answersOf
+answers-most s i =
+    all-most (opened (openingOf (recordAt s))) (stepsOf (records (length s / 8 - 1) (drop 8 s))) i
 
 -- A result that is no refusal is a length within the slice,
 pub within : (a t : Bool) (n m : ℕ) → leb n m ≡ t → 3 < cond a (cond t n 3) 2 → cond a (cond t n 3) 2 ≤ m

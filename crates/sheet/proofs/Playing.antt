@@ -127,13 +127,12 @@ module _ (s : Text) (sheet : isSheet s ≡ true) (k : ℕ) (row : Cluster) (p : 
   pub ran-issued : row .issued ≤ length (p .list)
   ran-issued = omega (arith, h .full .list, to-ranges (outlineOf row) (of-true ran-fits) .committed)
 
-  -- The answers that were kept are those of the model's run,
-  pub ran-answer : (i : ℕ) → i ≤ k → getD ns i 0 ≡ getD (0 ∷ answers entries (opened opening) past) i 0
-  ran-answer i q = sym (getD-take (suc k) ns i 0 (omega (arith, q))) ∙ ap (λ xs. getD xs i 0) (h .answered)
-
-  -- 16 at most.
+  -- No answer is above 16.
   pub ran-most : (i : ℕ) → i ≤ k → getD ns i 0 ≤ 16
-  ran-most i q = subst (λ m. m ≤ 16) (sym (ran-answer i q)) (all-most (opened opening) past i)
+  ran-most i q =
+      let n : getD ns i 0 ≡ getD (0 ∷ answers entries (opened opening) past) i 0 =
+      sym (getD-take (suc k) ns i 0 (omega (arith, q))) ∙ ap (λ xs. getD xs i 0) (h .answered) in
+      subst (λ m. m ≤ 16) (sym n) (all-most (opened opening) past i)
 
   pub ran-ready : Shape row → Ready row
   ran-ready shape = ready row shape ran-fits

@@ -30,6 +30,11 @@ unfoldable pub listing : Text → Text
 unfolding records listingOf
 listing s = listingOf (openingOf (recordAt s)) (records (length s / 8 - 1) (drop 8 s))
 
+-- The answers of its records, the opening's first.
+unfoldable pub answersOf : Text → List ℕ
+unfolding records
+answersOf s = 0 ∷ answers entries (opened (openingOf (recordAt s))) (stepsOf (records (length s / 8 - 1) (drop 8 s)))
+
 -- The call, with the sheet s and a slice whose bytes are `out`
 
 -- "... one number, the listing's length, or 2 or 3 if refused"; "for a sheet 2, then 3."

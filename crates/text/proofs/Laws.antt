@@ -10,7 +10,7 @@ use lib.Dec.{ltb}
 use lib.ListN.{length, take, drop, set, length-append}
 use lib.Seq.{length-sets, sets-eq, length-take-le, drop-at, take-append-seam, take-set-le, drop-set-lt, set-comm}
 use borrow.Author.Tests.{lt-ltb, le-ltb, ltb-true, ltb-false, lt-leb, le-leb}
-use Rattle.text.specs.Text.{Text, over, Wrote, Delivered, joined, digitsWithin, digits}
+use Rattle.text.specs.Text.{Text, over, Wrote, Delivered, eachOf, digitsWithin, digits}
 
 -- Storing a text
 
@@ -131,45 +131,45 @@ fitting {text} {out} h w =
 -- Texts of numbers, one after the other
 
 -- One more takes no less room,
-pub joined-more : (text : ℕ → Text) (i d : ℕ) → length (joined text i) ≤ length (joined text (i + d))
-unfolding joined
-joined-more text i zero = rw (add-zero i) (omega arith)
-joined-more text i (suc d) =
+pub each-more : (text : ℕ → Text) (i d : ℕ) → length (eachOf text i) ≤ length (eachOf text (i + d))
+unfolding eachOf
+each-more text i zero = rw (add-zero i) (omega arith)
+each-more text i (suc d) =
     rw (add-suc i d)
-    (omega (arith, joined-more text i d, length-append (joined text (i + d)) (text (i + d))))
+    (omega (arith, each-more text i d, length-append (eachOf text (i + d)) (text (i + d))))
 
 -- so room for n of them is room for each after those before it.
-pub joined-room : (text : ℕ → Text) (i n : ℕ) → i < n
-    → length (joined text i) + length (text i) ≤ length (joined text n)
-unfolding joined
-joined-room text i n h =
+pub each-room : (text : ℕ → Text) (i n : ℕ) → i < n
+    → length (eachOf text i) + length (text i) ≤ length (eachOf text n)
+unfolding eachOf
+each-room text i n h =
     let e : suc i + (n - suc i) ≡ n = omega (arith, h) in
-    let m = subst (λ k. length (joined text (suc i)) ≤ length (joined text k)) e
-    (joined-more text (suc i) (n - suc i)) in
-    omega (arith, m, length-append (joined text i) (text i))
+    let m = subst (λ k. length (eachOf text (suc i)) ≤ length (eachOf text k)) e
+    (each-more text (suc i) (n - suc i)) in
+    omega (arith, m, length-append (eachOf text i) (text i))
 
-pub joined-none : (text : ℕ → Text) → joined text 0 ≡ []
-unfolding joined
-joined-none text = refl
+pub each-none : (text : ℕ → Text) → eachOf text 0 ≡ []
+unfolding eachOf
+each-none text = refl
 
-pub joined-next : (text : ℕ → Text) (i : ℕ) → joined text (i + 1) ≡ joined text i ++ text i
-unfolding joined
-joined-next text i = rw (add-one i)
+pub each-next : (text : ℕ → Text) (i : ℕ) → eachOf text (i + 1) ≡ eachOf text i ++ text i
+unfolding eachOf
+each-next text i = rw (add-one i)
 
 -- Texts of at most k bytes are n times k at most.
-pub joined-most : (text : ℕ → Text) (k n : ℕ) → ((i : ℕ) → i < n → length (text i) ≤ k) → length (joined text n) ≤ k * n
-unfolding joined
-joined-most text k zero h = omega arith
-joined-most text k (suc n) h =
-    let l = joined-most text k n (λ i q. h i (omega (arith, q))) in
+pub each-most : (text : ℕ → Text) (k n : ℕ) → ((i : ℕ) → i < n → length (text i) ≤ k) → length (eachOf text n) ≤ k * n
+unfolding eachOf
+each-most text k zero h = omega arith
+each-most text k (suc n) h =
+    let l = each-most text k n (λ i q. h i (omega (arith, q))) in
     let m : k * suc n ≡ k * n + k = mul-suc k n in
-    omega (arith, l, m, h n (omega arith), length-append (joined text n) (text n))
+    omega (arith, l, m, h n (omega arith), length-append (eachOf text n) (text n))
 
 -- Texts that are the same one by one are the same together.
-pub joined-same : (f g : ℕ → Text) (n : ℕ) → ((i : ℕ) → i < n → f i ≡ g i) → joined f n ≡ joined g n
-unfolding joined
-joined-same f g zero h = refl
-joined-same f g (suc n) h = ap₂ (λ x y. x ++ y) (joined-same f g n (λ i q. h i (omega (arith, q)))) (h n (omega arith))
+pub each-same : (f g : ℕ → Text) (n : ℕ) → ((i : ℕ) → i < n → f i ≡ g i) → eachOf f n ≡ eachOf g n
+unfolding eachOf
+each-same f g zero h = refl
+each-same f g (suc n) h = ap₂ (λ x y. x ++ y) (each-same f g n (λ i q. h i (omega (arith, q)))) (h n (omega arith))
 
 -- Digits
 

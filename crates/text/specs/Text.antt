@@ -29,9 +29,9 @@ pub record Delivered (text out out′ : Text) (r : ℕ) : Type 0 where
   pub left : out′ ≡ cond (leb (length text) (length out)) (over out 0 text) out
 
 -- The texts of 0 to n - 1, one after the other.
-unfoldable pub joined : (ℕ → Text) → ℕ → Text
-joined text zero = []
-joined text (suc n) = joined text n ++ text n
+unfoldable pub eachOf : (ℕ → Text) → ℕ → Text
+eachOf text zero = []
+eachOf text (suc n) = eachOf text n ++ text n
 
 -- The decimal digits of n, if k are enough; byte 48 is 0. The `let` lets antt compute only the digits that there are.
 unfoldable pub digitsWithin : ℕ → ℕ → Text

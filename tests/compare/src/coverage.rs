@@ -43,6 +43,18 @@ fn can_tell(step: usize, answer: usize) -> bool {
     alone && can_meet(step, answer)
 }
 
+/// Is a record well formed by itself? An opening is.
+fn formed(record: &[u8; 8]) -> bool {
+    match *record {
+        [1, 1..=8, 0, 0, ..] => true,
+        [5 | 10 | 11 | 13, 0, 0, 0, 0, 0, 0, 0] => true,
+        [9, a @ 1..=8, b @ 1..=8, 0, 0, 0, 0, 0] => a != b,
+        [9 | 16.., ..] => false,
+        [_, 1..=8, 0, 0, 0, 0, 0, 0] => true,
+        _ => false,
+    }
+}
+
 fn can_meet(step: usize, answer: usize) -> bool {
     CAN_MEET[step].contains(&(answer as u8))
 }
@@ -258,9 +270,8 @@ impl Coverage {
     /// Notes a line of a text in words, of this record and the answer that a run gave.
     pub fn tell(&mut self, record: &[u8; 8], answer: usize) {
         let step = match record {
-            [0, 1..=8, 0, 0, 0, 0, 0, 0] => 0,
-            _ if answer == 1 => STEPS - 1,
-            [step, ..] => usize::from(*step).min(STEPS - 1),
+            [step, ..] if formed(record) => usize::from(*step),
+            _ => STEPS - 1,
         };
         self.told[step][answer] += 1;
     }

@@ -4,13 +4,14 @@
 use crate::listing::{Count, Out, Place};
 use crate::{answers, opened, RECORDS_MAX};
 
-/// No line is longer, and `controller reads board 1` with answer 11 is as long: 24
-/// bytes of step, 11 of `: refused, `, 60 of reason, and byte 10. Where the step has
-/// more, at most 32, the reason has at most 48; one of 64 is for a step of 15 alone.
-pub const LINE_MAX: usize = 24 + 11 + 60 + 1;
+/// No line is longer, and `board 2 receives an entry` with answer 5 is as long: 25 bytes
+/// of step, 11 of `: refused, `, 57 of reason, and byte 10. Next are `board 2 gives a
+/// receipt` with 14, of 23 and 58, and `board 2 counts board 1` with 11, of 22 and 59;
+/// the longest step, of 32, has at most 48, and the longest reason, of 69, a step of 10.
+pub const LINE_MAX: usize = 25 + 11 + 57 + 1;
 
-/// No text is longer: the opening's line of 31 bytes, and 4,094 of the longest. It is
-/// a bound: a run needs other steps, in shorter lines, before one gives the longest.
+/// No text is longer: the opening's line of 31 bytes, and 4,094 of the longest. An
+/// opening with board 1 and then step 8 on board 2, again and again, is as long.
 pub const TEXT_MAX: usize = 31 + (RECORDS_MAX - 1) * LINE_MAX;
 
 /// The steps 0 to 15. A capital stands for a field: `A` and `B` for boards, `V` for
@@ -24,8 +25,8 @@ const STEPS: [&str; 16] = [
     "change leader",
     "board B takes news",
     "board B joins",
-    "board B receives",
-    "leader A counts board B",
+    "board B receives an entry",
+    "board A counts board B",
     "controller takes news",
     "controller reads leader",
     "controller reads board B",
@@ -41,13 +42,13 @@ const fn phrase(answer: usize, step: Option<u8>) -> Option<&'static str> {
     Some(match (answer, step) {
         (0, _) => "accepted",
         (1, Some(0)) => "an opening stands first and nowhere else",
-        (1, None) => "a field is outside its values",
-        (1, _) => "the row or a lent slice is not valid",
+        (1, None) => "these eight bytes are no step",
+        (1, _) => "the row or the memory for it is not valid",
         (2, _) => "the sheet has a wrong length or no valid opening",
         (3, _) => "the text is longer than the room for it",
         (4, Some(3 | 4)) => "a leader is being chosen",
-        (4, Some(5)) => "the status is not normal",
-        (4, _) => "the status does not allow it",
+        (4, Some(5)) => "the registry's status is not normal",
+        (4, _) => "the registry's status does not allow it",
         (5, Some(3)) => "the board is a member already",
         (5, Some(4)) => "the board is not a member",
         (5, Some(7)) => "it is not a member in its own view",
@@ -59,27 +60,31 @@ const fn phrase(answer: usize, step: Option<u8>) -> Option<&'static str> {
         (6, Some(5)) => "there are fewer than two members",
         (6, Some(12)) => "the board is the leader in the controller's view",
         (6, _) => "the leader does not allow it",
-        (7, _) => "the epochs are used up",
-        (8, Some(9)) => "the counting board does not hold itself leader",
-        (8, _) => "it does not hold itself leader",
-        (9, _) => "it follows no other board",
-        (10, Some(9)) => "the two boards follow different leader epochs",
-        (10, _) => "its leader follows another leader epoch",
-        (11, Some(7)) => "it has joined already",
-        (11, Some(8)) => "it has not joined yet",
-        (11, Some(9)) => "the counted board has not joined yet",
-        (11, Some(12)) => "the board has not joined under the controller's leader epoch",
+        (7, _) => "the registry's epochs are used up",
+        (8, Some(1 | 2)) => "it is not the leader in its own view",
+        (8, Some(9)) => "the counting board is not the leader in its own view",
+        (8, _) => "a board is not the leader in its own view",
+        (9, Some(7 | 8)) => "it follows no other board",
+        (9, _) => "a board follows no other board",
+        (10, Some(7 | 8)) => "its leader has another leader epoch",
+        (10, Some(9)) => "the two boards have different leader epochs",
+        (10, _) => "the leader epochs differ",
+        (11, Some(7)) => "it has joined under its leader epoch already",
+        (11, Some(8)) => "it has not joined under its leader epoch yet",
+        (11, Some(9)) => "the counted board has not joined under its leader epoch yet",
+        (11, Some(12)) => "the board last joined under another leader epoch",
         (11, _) => "joining does not allow it",
-        (12, Some(2)) => "its log is no longer than the receipts",
+        (12, Some(2)) => "its log is not longer than the receipts",
         (12, Some(6 | 10)) => "it has the newest news already",
-        (12, Some(8)) => "its log is no shorter than its leader's",
-        (12, Some(9)) => "the counted board's log is no longer than the count",
-        (12, Some(12 | 14)) => "the board's log is no longer than heard before",
+        (12, Some(8)) => "its log is not shorter than its leader's",
+        (12, Some(9)) => "the counted board's log is not longer than the count",
+        (12, Some(12 | 14)) => "the board's log is not longer than heard before",
         (12, _) => "nothing is due",
-        (13, _) => "its log is full",
-        (14, Some(2)) => "its counts show no majority with the next entry",
-        (14, Some(13)) => "no majority is heard at the leader's heard length or above",
-        (14, Some(15)) => "no majority is heard that has the board and none ranked above it",
+        (13, Some(1)) => "its log is full",
+        (13, _) => "a log is full",
+        (14, Some(2)) => "its counts show no majority of members with the next entry",
+        (14, Some(13)) => "no majority of members is heard at the leader's heard length or above",
+        (14, Some(15)) => "no majority that has the board is heard with none ranked above it",
         (14, _) => "there is no majority for it",
         (15, Some(11)) => "the controller is not at stage leader",
         (15, Some(12 | 13)) => "the controller is not at stage boards",

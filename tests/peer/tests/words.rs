@@ -116,9 +116,10 @@ fn malformed() -> Vec<[u8; 8]> {
 fn examples_of_the_list() {
     let words = "board 1 appends value 41: accepted";
     assert_eq!(line(append(1, 41), 0), words);
-    let words = "leader 1 counts board 2: refused, the counted board has not joined yet";
+    let words = "board 1 counts board 2: refused, \
+        the counted board has not joined under its leader epoch yet";
     assert_eq!(line(count(1, 2), 11), words);
-    let words = "record 09 02 02 00 00 00 00 00: refused, a field is outside its values";
+    let words = "record 09 02 02 00 00 00 00 00: refused, these eight bytes are no step";
     assert_eq!(line(count(2, 2), 1), words);
 }
 
@@ -133,8 +134,8 @@ fn each_step_with_its_fields() {
         (on(5, 0), "change leader: accepted"),
         (on(6, 3), "board 3 takes news: accepted"),
         (on(7, 3), "board 3 joins: accepted"),
-        (on(8, 3), "board 3 receives: accepted"),
-        (count(3, 5), "leader 3 counts board 5: accepted"),
+        (on(8, 3), "board 3 receives an entry: accepted"),
+        (count(3, 5), "board 3 counts board 5: accepted"),
         (on(10, 0), "controller takes news: accepted"),
         (on(11, 0), "controller reads leader: accepted"),
         (on(12, 3), "controller reads board 3: accepted"),
@@ -158,17 +159,17 @@ fn each_step_with_its_fields() {
 fn the_boards_of_step_9_stand_in_their_order() {
     assert_eq!(
         line([9, 1, 2, 0, 0, 0, 0, 0], 0),
-        "leader 1 counts board 2: accepted"
+        "board 1 counts board 2: accepted"
     );
     assert_eq!(
         line([9, 2, 1, 0, 0, 0, 0, 0], 0),
-        "leader 2 counts board 1: accepted"
+        "board 2 counts board 1: accepted"
     );
     for a in 1..=8 {
         for b in 1..=8 {
             let words = match a == b {
                 true => format!("record 09 0{a} 0{b} 00 00 00 00 00: accepted"),
-                false => format!("leader {a} counts board {b}: accepted"),
+                false => format!("board {a} counts board {b}: accepted"),
             };
             assert_eq!(line(count(a, b), 0), words);
         }
@@ -242,58 +243,58 @@ fn the_refusals_of_each_step() {
     });
     let lines = "\
 opening with board 2: refused, an opening stands first and nowhere else
-board 2 appends value 7: refused, the row or a lent slice is not valid
-board 2 appends value 7: refused, it does not hold itself leader
+board 2 appends value 7: refused, the row or the memory for it is not valid
+board 2 appends value 7: refused, it is not the leader in its own view
 board 2 appends value 7: refused, its log is full
-board 2 gives a receipt: refused, it does not hold itself leader
-board 2 gives a receipt: refused, its log is no longer than the receipts
-board 2 gives a receipt: refused, its counts show no majority with the next entry
+board 2 gives a receipt: refused, it is not the leader in its own view
+board 2 gives a receipt: refused, its log is not longer than the receipts
+board 2 gives a receipt: refused, its counts show no majority of members with the next entry
 add board 2: refused, a leader is being chosen
 add board 2: refused, the board is a member already
-add board 2: refused, the epochs are used up
+add board 2: refused, the registry's epochs are used up
 remove board 2: refused, a leader is being chosen
 remove board 2: refused, the board is not a member
 remove board 2: refused, the board is the leader
-remove board 2: refused, the epochs are used up
-change leader: refused, the status is not normal
+remove board 2: refused, the registry's epochs are used up
+change leader: refused, the registry's status is not normal
 change leader: refused, there are fewer than two members
-change leader: refused, the epochs are used up
+change leader: refused, the registry's epochs are used up
 board 2 takes news: refused, it has the newest news already
 board 2 joins: refused, it follows no other board
 board 2 joins: refused, it is not a member in its own view
-board 2 joins: refused, its leader follows another leader epoch
-board 2 joins: refused, it has joined already
-board 2 receives: refused, it follows no other board
-board 2 receives: refused, its own view or its leader's does not have it as a member
-board 2 receives: refused, its leader follows another leader epoch
-board 2 receives: refused, it has not joined yet
-board 2 receives: refused, its log is no shorter than its leader's
-leader 2 counts board 1: refused, the counting board does not hold itself leader
-leader 2 counts board 1: refused, the counted board is not a member in its own view
-leader 2 counts board 1: refused, the two boards follow different leader epochs
-leader 2 counts board 1: refused, the counted board has not joined yet
-leader 2 counts board 1: refused, the counted board's log is no longer than the count
+board 2 joins: refused, its leader has another leader epoch
+board 2 joins: refused, it has joined under its leader epoch already
+board 2 receives an entry: refused, it follows no other board
+board 2 receives an entry: refused, its own view or its leader's does not have it as a member
+board 2 receives an entry: refused, its leader has another leader epoch
+board 2 receives an entry: refused, it has not joined under its leader epoch yet
+board 2 receives an entry: refused, its log is not shorter than its leader's
+board 2 counts board 1: refused, the counting board is not the leader in its own view
+board 2 counts board 1: refused, the counted board is not a member in its own view
+board 2 counts board 1: refused, the two boards have different leader epochs
+board 2 counts board 1: refused, the counted board has not joined under its leader epoch yet
+board 2 counts board 1: refused, the counted board's log is not longer than the count
 controller takes news: refused, it has the newest news already
 controller reads leader: refused, the controller is not at stage leader
 controller reads leader: refused, the leader board's epoch is not the controller's
 controller reads board 2: refused, the controller is not at stage boards
 controller reads board 2: refused, the board is the leader in the controller's view
 controller reads board 2: refused, the board is not a member in the controller's view
-controller reads board 2: refused, the board has not joined under the controller's leader epoch
-controller reads board 2: refused, the board's log is no longer than heard before
+controller reads board 2: refused, the board last joined under another leader epoch
+controller reads board 2: refused, the board's log is not longer than heard before
 set normal: refused, the controller is not at stage boards
 set normal: refused, the controller's epoch is not the registry's
-set normal: refused, no majority is heard at the leader's heard length or above
-set normal: refused, the epochs are used up
+set normal: refused, no majority of members is heard at the leader's heard length or above
+set normal: refused, the registry's epochs are used up
 controller hears board 2: refused, the controller is not at stage choosing
 controller hears board 2: refused, the board is not a member in the controller's view
 controller hears board 2: refused, the board's epoch is not the controller's
-controller hears board 2: refused, the board's log is no longer than heard before
+controller hears board 2: refused, the board's log is not longer than heard before
 install board 2: refused, the controller is not at stage choosing
 install board 2: refused, the board is not a member in the controller's view
 install board 2: refused, the controller's epoch is not the registry's
-install board 2: refused, no majority is heard that has the board and none ranked above it
-install board 2: refused, the epochs are used up
+install board 2: refused, no majority that has the board is heard with none ranked above it
+install board 2: refused, the registry's epochs are used up
 ";
     assert_eq!(pairs.clone().count(), lines.lines().count());
     for ((record, answer), words) in pairs.zip(lines.lines()) {
@@ -309,25 +310,31 @@ fn answers_in_common_words() {
     // Beside the words are the steps that have others.
     let common: [(&str, &[u8]); 17] = [
         ("accepted", &[]),
-        ("refused, the row or a lent slice is not valid", &[0]),
+        ("refused, the row or the memory for it is not valid", &[0]),
         (
             "refused, the sheet has a wrong length or no valid opening",
             &[],
         ),
         ("refused, the text is longer than the room for it", &[]),
-        ("refused, the status does not allow it", &[3, 4, 5]),
+        (
+            "refused, the registry's status does not allow it",
+            &[3, 4, 5],
+        ),
         (
             "refused, membership does not allow it",
             &[3, 4, 7, 8, 9, 12, 14, 15],
         ),
         ("refused, the leader does not allow it", &[4, 5, 12]),
-        ("refused, the epochs are used up", &[]),
-        ("refused, it does not hold itself leader", &[9]),
-        ("refused, it follows no other board", &[]),
-        ("refused, its leader follows another leader epoch", &[9]),
+        ("refused, the registry's epochs are used up", &[]),
+        (
+            "refused, a board is not the leader in its own view",
+            &[1, 2, 9],
+        ),
+        ("refused, a board follows no other board", &[7, 8]),
+        ("refused, the leader epochs differ", &[7, 8, 9]),
         ("refused, joining does not allow it", &[7, 8, 9, 12]),
         ("refused, nothing is due", &[2, 6, 8, 9, 10, 12, 14]),
-        ("refused, its log is full", &[]),
+        ("refused, a log is full", &[1]),
         ("refused, there is no majority for it", &[2, 13, 15]),
         (
             "refused, the controller is at another stage",
@@ -348,7 +355,7 @@ fn answers_in_common_words() {
         for record in malformed() {
             // A malformed record has no step: not even byte 0 gives it a step's words.
             let words = match answer {
-                1 => "refused, a field is outside its values",
+                1 => "refused, these eight bytes are no step",
                 _ => words,
             };
             let line = line(record, answer);
@@ -407,13 +414,13 @@ fn malformed_records_in_hexadecimal() {
             "record 67 89 AB CD EF 01 23 45",
         ),
     ] {
-        let refused = [words, ": refused, a field is outside its values"].concat();
+        let refused = [words, ": refused, these eight bytes are no step"].concat();
         assert_eq!(line(record, 1), refused);
         assert_eq!(line(record, 0), [words, ": accepted"].concat());
     }
     for record in malformed() {
         let bytes = record.map(|byte| format!(" {byte:02X}")).concat();
-        let words = format!("record{bytes}: refused, a field is outside its values");
+        let words = format!("record{bytes}: refused, these eight bytes are no step");
         assert_eq!(line(record, 1), words);
     }
 }
@@ -591,17 +598,21 @@ fn no_two_pairs_have_the_same_line() {
 
 #[test]
 fn the_longest_line() {
-    let longest = "controller reads board 8: refused, \
-        the board has not joined under the controller's leader epoch";
-    assert_eq!(line(on(12, 8), 11), longest);
-    assert_eq!(longest.len() + 1, 96);
-    assert_eq!(LINE_MAX, 96);
+    let longest = "board 8 receives an entry: refused, \
+        its own view or its leader's does not have it as a member";
+    assert_eq!(line(on(8, 8), 5), longest);
+    assert_eq!(longest.len() + 1, 94);
+    assert_eq!(LINE_MAX, 94);
     // The steps with more bytes: the largest value, and hexadecimal.
     let most = |record| (0..=ANSWER_MAX).map(move |answer| line(record, answer).len() + 1);
     assert_eq!(most(append(8, u32::MAX)).max(), Some(32 + 11 + 48 + 1));
     assert_eq!(most([255; 8]).max(), Some(30 + 11 + 48 + 1));
-    // The longest reason.
-    assert_eq!(most(on(15, 8)).max(), Some(15 + 11 + 64 + 1));
+    // The longest reason, and the next lines.
+    assert_eq!(most(on(13, 0)).max(), Some(10 + 11 + 69 + 1));
+    assert_eq!(most(on(15, 8)).max(), Some(15 + 11 + 65 + 1));
+    assert_eq!(most(count(8, 7)).max(), Some(22 + 11 + 59 + 1));
+    assert_eq!(most(on(2, 8)).max(), Some(23 + 11 + 58 + 1));
+    assert_eq!(most(on(8, 8)).max(), Some(25 + 11 + 57 + 1));
 }
 
 fn sample() -> Vec<u8> {
@@ -645,35 +656,35 @@ fn the_text_of_the_trials() {
     ];
     let text = "\
 opening with board 1: accepted
-board 1 gives a receipt: refused, its log is no longer than the receipts
+board 1 gives a receipt: refused, its log is not longer than the receipts
 board 1 appends value 41: accepted
 board 1 gives a receipt: accepted
-board 2 appends value 41: refused, it does not hold itself leader
-board 2 gives a receipt: refused, it does not hold itself leader
+board 2 appends value 41: refused, it is not the leader in its own view
+board 2 gives a receipt: refused, it is not the leader in its own view
 change leader: refused, there are fewer than two members
 remove board 1: refused, the board is the leader
 remove board 2: refused, the board is not a member
 opening with board 1: refused, an opening stands first and nowhere else
-record 00 09 00 00 00 00 00 00: refused, a field is outside its values
-record 09 02 02 00 00 00 00 00: refused, a field is outside its values
-record 10 01 00 00 00 00 00 00: refused, a field is outside its values
+record 00 09 00 00 00 00 00 00: refused, these eight bytes are no step
+record 09 02 02 00 00 00 00 00: refused, these eight bytes are no step
+record 10 01 00 00 00 00 00 00: refused, these eight bytes are no step
 add board 2: accepted
 add board 2: refused, the board is a member already
-change leader: refused, the status is not normal
+change leader: refused, the registry's status is not normal
 controller reads leader: refused, the controller is not at stage leader
 controller takes news: accepted
 controller reads leader: refused, the leader board's epoch is not the controller's
 board 1 takes news: accepted
 controller reads leader: accepted
-set normal: refused, no majority is heard at the leader's heard length or above
+set normal: refused, no majority of members is heard at the leader's heard length or above
 controller reads board 2: accepted
-set normal: refused, no majority is heard at the leader's heard length or above
+set normal: refused, no majority of members is heard at the leader's heard length or above
 board 2 takes news: accepted
-board 2 receives: accepted
+board 2 receives an entry: accepted
 controller reads board 2: accepted
 set normal: accepted
 change leader: accepted
-board 2 appends value 42: refused, it does not hold itself leader
+board 2 appends value 42: refused, it is not the leader in its own view
 controller takes news: accepted
 controller reads leader: refused, the controller is not at stage leader
 ";
@@ -719,12 +730,12 @@ add board 4: refused, the board is a member already
 remove board 5: refused, the board is not a member
 remove board 1: refused, the board is the leader
 board 1 joins: refused, it follows no other board
-board 1 receives: refused, it follows no other board
+board 1 receives an entry: refused, it follows no other board
 board 2 joins: refused, it is not a member in its own view
-board 2 receives: refused, its own view or its leader's does not have it as a member
-leader 1 counts board 2: refused, the counted board is not a member in its own view
+board 2 receives an entry: refused, its own view or its leader's does not have it as a member
+board 1 counts board 2: refused, the counted board is not a member in its own view
 board 2 takes news: accepted
-board 2 receives: refused, its own view or its leader's does not have it as a member
+board 2 receives an entry: refused, its own view or its leader's does not have it as a member
 board 1 takes news: accepted
 controller takes news: accepted
 controller reads board 2: refused, the controller is not at stage boards
@@ -733,7 +744,7 @@ controller hears board 2: refused, the controller is not at stage choosing
 install board 2: refused, the controller is not at stage choosing
 controller reads leader: accepted
 controller reads leader: refused, the controller is not at stage leader
-set normal: refused, no majority is heard at the leader's heard length or above
+set normal: refused, no majority of members is heard at the leader's heard length or above
 controller reads board 2: accepted
 controller reads board 3: accepted
 set normal: accepted
@@ -742,21 +753,21 @@ board 2 takes news: accepted
 board 3 takes news: accepted
 board 4 takes news: accepted
 board 4 takes news: refused, it has the newest news already
-board 2 joins: refused, it has joined already
-board 2 receives: refused, its log is no shorter than its leader's
-board 1 gives a receipt: refused, its log is no longer than the receipts
+board 2 joins: refused, it has joined under its leader epoch already
+board 2 receives an entry: refused, its log is not shorter than its leader's
+board 1 gives a receipt: refused, its log is not longer than the receipts
 board 1 appends value 41: accepted
-board 1 gives a receipt: refused, its counts show no majority with the next entry
-board 4 receives: accepted
-leader 1 counts board 4: accepted
-leader 1 counts board 4: refused, the counted board's log is no longer than the count
-board 4 appends value 43: refused, it does not hold itself leader
-board 4 gives a receipt: refused, it does not hold itself leader
-leader 4 counts board 1: refused, the counting board does not hold itself leader
+board 1 gives a receipt: refused, its counts show no majority of members with the next entry
+board 4 receives an entry: accepted
+board 1 counts board 4: accepted
+board 1 counts board 4: refused, the counted board's log is not longer than the count
+board 4 appends value 43: refused, it is not the leader in its own view
+board 4 gives a receipt: refused, it is not the leader in its own view
+board 4 counts board 1: refused, the counting board is not the leader in its own view
 change leader: accepted
 add board 5: refused, a leader is being chosen
 remove board 2: refused, a leader is being chosen
-change leader: refused, the status is not normal
+change leader: refused, the registry's status is not normal
 controller takes news: accepted
 controller takes news: refused, it has the newest news already
 controller hears board 1: refused, the board is not a member in the controller's view
@@ -764,31 +775,31 @@ controller hears board 2: refused, the board's epoch is not the controller's
 board 2 takes news: accepted
 board 3 takes news: accepted
 controller hears board 2: accepted
-controller hears board 2: refused, the board's log is no longer than heard before
+controller hears board 2: refused, the board's log is not longer than heard before
 controller hears board 3: accepted
 install board 1: refused, the board is not a member in the controller's view
-install board 4: refused, no majority is heard that has the board and none ranked above it
+install board 4: refused, no majority that has the board is heard with none ranked above it
 install board 2: accepted
 board 4 takes news: accepted
-board 4 joins: refused, its leader follows another leader epoch
-board 4 receives: refused, its leader follows another leader epoch
-leader 1 counts board 4: refused, the two boards follow different leader epochs
+board 4 joins: refused, its leader has another leader epoch
+board 4 receives an entry: refused, its leader has another leader epoch
+board 1 counts board 4: refused, the two boards have different leader epochs
 controller reads leader: refused, the leader board's epoch is not the controller's
 board 2 takes news: accepted
 board 2 appends value 42: accepted
-board 4 receives: refused, it has not joined yet
-leader 2 counts board 4: refused, the counted board has not joined yet
+board 4 receives an entry: refused, it has not joined under its leader epoch yet
+board 2 counts board 4: refused, the counted board has not joined under its leader epoch yet
 controller reads leader: accepted
-controller reads board 4: refused, the board has not joined under the controller's leader epoch
+controller reads board 4: refused, the board last joined under another leader epoch
 controller reads board 2: refused, the board is the leader in the controller's view
 controller reads board 1: refused, the board is not a member in the controller's view
 board 4 joins: accepted
-board 4 receives: accepted
+board 4 receives an entry: accepted
 controller reads board 4: accepted
-controller reads board 4: refused, the board's log is no longer than heard before
+controller reads board 4: refused, the board's log is not longer than heard before
 add board 1: accepted
 set normal: refused, the controller's epoch is not the registry's
-leader 2 counts board 4: accepted
+board 2 counts board 4: accepted
 controller takes news: accepted
 ";
     assert_eq!(explained(&sheet.concat().concat()).unwrap(), text);
@@ -822,8 +833,8 @@ fn epochs_used_up() {
         [
             "remove board 2: accepted",
             "add board 2: accepted",
-            "remove board 2: refused, the epochs are used up",
-            "add board 3: refused, the epochs are used up",
+            "remove board 2: refused, the registry's epochs are used up",
+            "add board 3: refused, the registry's epochs are used up",
         ]
     );
 }
@@ -916,26 +927,23 @@ fn a_slice_shorter_than_the_text_is_refused_3() {
     }
 }
 
-/// A run that soon gives the longest line, and then goes on with it.
+/// The longest text: after the opening every record has the longest line.
 #[test]
 fn a_long_text() {
-    let mut records = vec![on(0, 1), on(3, 2), on(10, 0), on(6, 1), on(11, 0)];
-    records.extend([on(12, 2), on(13, 0), on(5, 0), on(3, 3), on(10, 0)]);
-    records.extend([on(6, 2), on(11, 0)]);
-    let accepted = records.len();
-    records.resize(4095, on(12, 3));
+    // Board 2 follows board 1, and is a member in neither's view.
+    let mut records = vec![on(0, 1)];
+    records.resize(4095, on(8, 2));
     let text = explained(&records.concat()).unwrap();
-    for line in text.lines().take(accepted) {
-        assert!(line.ends_with(": accepted"), "{line}");
-    }
-    for line in text.lines().skip(accepted) {
-        assert_eq!(line.len() + 1, LINE_MAX, "{line}");
-    }
+    let mut lines = text.lines();
+    assert_eq!(lines.next(), Some("opening with board 1: accepted"));
+    let longest = "board 2 receives an entry: refused, \
+        its own view or its leader's does not have it as a member";
+    assert_eq!(longest.len() + 1, LINE_MAX);
+    assert!(lines.all(|line| line == longest));
     assert_eq!(text.lines().count(), 4095);
-    // The first lines alone are what the bound does not reach.
-    let first: usize = text.lines().take(accepted).map(|line| line.len() + 1).sum();
-    assert_eq!(TEXT_MAX - text.len(), 31 + 11 * LINE_MAX - first);
-    assert_eq!(TEXT_MAX, 393_055);
+    assert_eq!(text.len(), TEXT_MAX);
+    // 31 + 4,094 * 94
+    assert_eq!(TEXT_MAX, 384_867);
     let mut slice = vec![170; text.len()];
     assert_eq!(explain(&records.concat(), &mut slice), text.len());
     assert_eq!(explain(&records.concat(), &mut slice[1..]), 3);

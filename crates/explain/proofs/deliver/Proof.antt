@@ -1,8 +1,6 @@
 -- `explain::deliver` meets its contract. Assumes nothing.
 use native.Mathlib.Omega.{arith}
-use lib.ListN.{length}
 use Rattle.text.proofs.Laws.{too-long, fitting}
-use borrow.Author.Needs.{needs}
 use borrow.Author.Needs.{needs}
 use Rattle.explain.proofs.deliver.Statement.{statement}
 use Rattle.explain.proofs.deliver.Tie as tie

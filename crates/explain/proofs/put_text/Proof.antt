@@ -1,20 +1,19 @@
 -- `explain::put_text` meets its contract. Assumes nothing.
-use mathlib.Core.Path.{_≡_, refl, sym, ap, _∙_}
+use mathlib.Core.Path.{_≡_, refl, sym, ap}
 use Prim.Native.Nat.{_-_, _/_, _≤_}
 use native.Mathlib.Omega.{arith}
 use lib.ListN.{length, getD}
 use denote.Ref.{now}
-use Rattle.text.specs.Text.{Wrote, joined}
-use Rattle.text.proofs.Laws.{nothing, then, joined-none, joined-next, joined-room, wrote-as}
+use Rattle.text.specs.Text.{Wrote, eachOf}
+use Rattle.text.proofs.Laws.{nothing, then, each-none, each-next, each-room, wrote-as}
 use Rattle.phrases.specs.Line.{line}
 use Rattle.explain.specs.Explain.{lineAt}
-use borrow.Author.Needs.{needs}
 use Rattle.explain.proofs.put_text.Statement.{statement}
 use Rattle.explain.proofs.put_text.Tie as tie
 
 abbrev Inv-loop : tie.InvT-loop
 Inv-loop out₀ sheet answers n at₀ i₀ out at i =
-    (i ≤ n) × (length out ≡ length out₀) × Wrote out₀ 0 (joined (lineAt sheet answers) i) out at
+    (i ≤ n) × (length out ≡ length out₀) × Wrote out₀ 0 (eachOf (lineAt sheet answers) i) out at
 
 abbrev μ-loop : tie.MeasureT-loop
 μ-loop out₀ sheet answers n at₀ i₀ out at i = n - i
@@ -27,7 +26,7 @@ loop-holds c =
     let a = c .before .before .before .args in (
       omega arith,
       refl,
-      wrote-as (sym (joined-none (lineAt (now (a .sheet)) (now (a .answers)))))
+      wrote-as (sym (each-none (lineAt (now (a .sheet)) (now (a .answers)))))
           (nothing (now (a .out)) 0),
     )
 
@@ -51,7 +50,7 @@ put-line-requires c κs =
     let text = lineAt (now (e .args .sheet)) (now (e .args .answers)) in
     let n = length (now (e .args .sheet)) / 8 in
     let one = ap (λ q. length (line q (getD (now (e .args .answers)) (d .loop .i) 0))) (r .decode .ensures) in
-    let room = joined-room text (d .loop .i) n (omega arith) in
+    let room = each-room text (d .loop .i) n (omega arith) in
     (e .pre .1 (d .loop .i) (omega arith), omega (arith, d .loop .inv .1, d .loop .inv .2 .next, e .pre .2, one, room))
 
 add-i : tie.Need-add-i Inv-loop μ-loop
@@ -69,7 +68,7 @@ loop-again c =
     let text = lineAt (now (a .sheet)) (now (a .answers)) in
     let one = wrote-as (ap (λ q. line q (getD (now (a .answers)) (d .loop .i) 0)) (r .decode .ensures))
     (w .put-line .ensures) in
-    (omega arith, omega arith, wrote-as (sym (joined-next text (d .loop .i))) (then (d .loop .inv .2) one))
+    (omega arith, omega arith, wrote-as (sym (each-next text (d .loop .i))) (then (d .loop .inv .2) one))
 
 same-length : tie.Need-same-length Inv-loop μ-loop
 same-length c = omega arith
@@ -79,7 +78,7 @@ returns c =
     let d = c .before in
     let a = start d .args in
     let e : d .loop .i ≡ length (now (a .sheet)) / 8 = omega arith in
-    wrote-as (ap (joined (lineAt (now (a .sheet)) (now (a .answers)))) e) (d .loop .inv .2)
+    wrote-as (ap (eachOf (lineAt (now (a .sheet)) (now (a .answers)))) e) (d .loop .inv .2)
 
 pub put-text-spec : {M : Type 1} → statement M
 put-text-spec =

@@ -1,18 +1,19 @@
 -- `explain::sample` meets its contract. Assumes nothing.
 use mathlib.Core.Path.{refl}
 use Rattle.model.specs.Runs.{run, answers}
-use Rattle.text.specs.Text.{digits, digitsWithin, over, joined}
-use Rattle.records.specs.Bytes.{records, recordBytes}
+use Rattle.text.specs.Text.{digits, digitsWithin, over, eachOf}
+use Rattle.records.specs.Bytes.{records, recordBytes, sheetBytes}
 use Rattle.phrases.specs.Phrases.{phraseIn}
 use Rattle.phrases.specs.Line.{hexes, stepText, rawText, headText, verdictText, line}
-use Rattle.explain.specs.Explain.{SampleHolds, RoomHolds, explained, result, left}
+use Rattle.sheet.specs.Sheet.{answersOf}
+use Rattle.explain.specs.Explain.{trialSheet, SampleHolds, RoomHolds, explained, result, left}
 use Rattle.explain.proofs.Explaining.{lengths-tell}
 use Rattle.explain.proofs.sample.Statement.{statement}
 use Rattle.explain.proofs.sample.Tie as tie
 
 returns : tie.Need-returns
-unfolding SampleHolds RoomHolds result left over explained joined line headText stepText rawText hexes verdictText
-    phraseIn records recordBytes digits digitsWithin run answers
+unfolding SampleHolds RoomHolds result left over explained trialSheet sheetBytes answersOf eachOf line headText stepText
+    rawText hexes verdictText phraseIn records recordBytes digits digitsWithin run answers
 returns c = ((refl, refl), (refl, refl, refl, refl, refl, refl, refl), lengths-tell)
 
 pub sample-spec : {M : Type 1} → statement M

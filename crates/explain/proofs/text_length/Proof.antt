@@ -1,20 +1,19 @@
 -- `explain::text_length` meets its contract. Assumes nothing.
-use mathlib.Core.Path.{_≡_, refl, sym, ap, _∙_}
+use mathlib.Core.Path.{_≡_, sym, ap, _∙_}
 use Prim.Native.Nat.{_-_, _*_, _/_, _≤_}
 use native.Mathlib.Omega.{arith}
 use lib.ListN.{length, getD, length-append}
 use denote.Ref.{now}
-use Rattle.text.specs.Text.{joined}
-use Rattle.text.proofs.Laws.{joined-none, joined-next}
+use Rattle.text.specs.Text.{eachOf}
+use Rattle.text.proofs.Laws.{each-none, each-next}
 use Rattle.explain.specs.Explain.{lineAt}
 use Rattle.phrases.specs.Line.{line}
-use borrow.Author.Needs.{needs}
 use Rattle.explain.proofs.text_length.Statement.{statement}
 use Rattle.explain.proofs.text_length.Tie as tie
 
 abbrev Inv-loop : tie.InvT-loop
 Inv-loop sheet answers n total₀ i₀ total i =
-    (i ≤ n) × (total ≤ 96 * i) × (total ≡ length (joined (lineAt sheet answers) i))
+    (i ≤ n) × (total ≤ 96 * i) × (total ≡ length (eachOf (lineAt sheet answers) i))
 
 abbrev μ-loop : tie.MeasureT-loop
 μ-loop sheet answers n total₀ i₀ total i = n - i
@@ -25,7 +24,7 @@ start c = c .before .before .before
 loop-holds : tie.Need-loop-holds Inv-loop μ-loop
 loop-holds c =
     let a = c .before .before .args in
-    (omega arith, omega arith, ap length (sym (joined-none (lineAt (now (a .sheet)) (now (a .answers))))))
+    (omega arith, omega arith, ap length (sym (each-none (lineAt (now (a .sheet)) (now (a .answers))))))
 
 mul-decode : tie.Need-mul-decode Inv-loop μ-loop
 mul-decode c = omega arith
@@ -59,8 +58,8 @@ loop-again c =
     let text = lineAt (now (a .sheet)) (now (a .answers)) in
     let one : c .line-length .result ≡ length (text (d .loop .i)) = c .line-length .ensures .0
     ∙ ap (λ q. length (line q (getD (now (a .answers)) (d .loop .i) 0))) (r .decode .ensures) in
-    let more = ap length (joined-next text (d .loop .i)) in
-    let both = length-append (joined text (d .loop .i)) (text (d .loop .i)) in (
+    let more = ap length (each-next text (d .loop .i)) in
+    let both = length-append (eachOf text (d .loop .i)) (text (d .loop .i)) in (
       omega arith,
       omega (arith, d .loop .inv .1, c .line-length .ensures .1),
       omega (arith, d .loop .inv .2, one, more, both),
@@ -71,7 +70,7 @@ returns c =
     let l = c .before .loop in
     let a = start (c .before) .args in
     let e : l .i ≡ length (now (a .sheet)) / 8 = omega arith in
-    l .inv .2 ∙ ap (λ n. length (joined (lineAt (now (a .sheet)) (now (a .answers))) n)) e
+    l .inv .2 ∙ ap (λ n. length (eachOf (lineAt (now (a .sheet)) (now (a .answers))) n)) e
 
 pub text-length-spec : {M : Type 1} → statement M
 text-length-spec =

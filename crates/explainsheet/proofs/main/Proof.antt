@@ -5,7 +5,6 @@ use native.Mathlib.Omega.{arith}
 use lib.Seq.{length-take-le}
 use Rattle.explain.proofs.Explaining.{readable}
 use borrow.Author.Needs.{needs}
-use borrow.Author.Needs.{needs}
 use Rattle.explainsheet.proofs.main.Statement.{statement}
 use Rattle.explainsheet.proofs.main.Tie as tie
 

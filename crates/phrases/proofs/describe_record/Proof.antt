@@ -1,14 +1,11 @@
 -- `phrases::describe_record` meets its contract. Assumes nothing.
-use mathlib.Core.Path.{sym, ap, _∙_}
+use mathlib.Core.Path.{sym, _∙_}
 use native.Mathlib.Omega.{arith}
-use lib.ListN.{length}
 use denote.Ref.{now}
 use borrow.Author.Tests.{not-true, not-false}
-use Rattle.records.specs.Record.{recordOf}
 use Rattle.text.proofs.Laws.{too-long, fitting}
 use Rattle.phrases.specs.Line.{line}
 use Rattle.phrases.proofs.Describing.{not-eight, not-listed, described}
-use borrow.Author.Needs.{needs}
 use borrow.Author.Needs.{needs}
 use Rattle.phrases.proofs.describe_record.Statement.{statement}
 use Rattle.phrases.proofs.describe_record.Tie as tie

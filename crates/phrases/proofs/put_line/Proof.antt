@@ -10,7 +10,6 @@ use Rattle.text.proofs.Laws.{fits, rest, then, byte, wrote-as}
 use Rattle.lines.specs.Lines.{word, newline}
 use Rattle.phrases.specs.Line.{headText, verdictText, place, line}
 use borrow.Author.Needs.{needs}
-use borrow.Author.Needs.{needs}
 use Rattle.phrases.proofs.put_line.Statement.{statement}
 use Rattle.phrases.proofs.put_line.Tie as tie
 

@@ -5,20 +5,20 @@ use lib.ListN.{length}
 use Rattle.records.specs.Record.{recordOf}
 use Rattle.text.specs.Text.{Text}
 use Rattle.text.proofs.Laws.{fits, rest, then}
-use Rattle.phrases.specs.Line.{leadText, boardText, trailText, secondText, stepText}
+use Rattle.phrases.specs.Line.{leadText, boardPart, trailText, secondPart, stepText}
 use borrow.Author.Needs.{needs}
 use Rattle.phrases.proofs.put_step.Statement.{statement}
 use Rattle.phrases.proofs.put_step.Tie as tie
 
 -- What is still to be written after the call j.
 abbrev text3 : tie.Start → Text
-text3 e = secondText (recordOf (e .args .r))
+text3 e = secondPart (recordOf (e .args .r))
 
 abbrev text2 : tie.Start → Text
 text2 e = trailText (e .args .r .step) ++ text3 e
 
 abbrev text1 : tie.Start → Text
-text1 e = boardText (recordOf (e .args .r)) ++ text2 e
+text1 e = boardPart (recordOf (e .args .r)) ++ text2 e
 
 -- What was given at the start, from after the call j.
 abbrev start1 : tie.After-put-lead → tie.Start
@@ -40,7 +40,7 @@ room1 c =
 room2 : (c : tie.After-put-board) → c .put-board .result + length (text2 (start2 c)) ≤ length (c .put-board .last .0)
 room2 c =
     let d = c .before .before .before .before in
-    rest (boardText (recordOf (start2 c .args .r))) (text2 (start2 c)) (c .put-board .ensures) (room1 d)
+    rest (boardPart (recordOf (start2 c .args .r))) (text2 (start2 c)) (c .put-board .ensures) (room1 d)
 
 room3 : (c : tie.After-put-trail) → c .put-trail .result + length (text3 (start3 c)) ≤ length (c .put-trail .last .0)
 room3 c =
@@ -60,7 +60,7 @@ put-board-requires : tie.Need-put-board-requires
 put-board-requires c κs =
     let d = c .before .before .before in
     let e = start1 d in
-    fits _ (boardText (recordOf (e .args .r))) (text2 e) (room1 d)
+    fits _ (boardPart (recordOf (e .args .r))) (text2 e) (room1 d)
 
 put-trail-requires : tie.Need-put-trail-requires
 put-trail-requires c κs =

@@ -1,8 +1,6 @@
 -- `phrases::form::board_fits` meets its contract. Assumes nothing.
 use mathlib.Core.Path.{sym}
 use borrow.Author.Needs.{needs}
-use mathlib.Core.Path.{sym}
-use borrow.Author.Needs.{needs}
 use Rattle.phrases.proofs.form.board_fits.Statement.{statement}
 use Rattle.phrases.proofs.form.board_fits.Tie as tie
 

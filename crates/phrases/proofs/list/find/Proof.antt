@@ -8,7 +8,8 @@ use lib.Dec.{T, eqb}
 use lib.ListN.{length, drop}
 use borrow.Author.Tests.{not-true, not-false}
 use Rattle.lines.specs.Lines.{word}
-use Rattle.phrases.specs.Phrases.{reasons, reasonAt, isFor, phraseIn}
+use Rattle.phrases.specs.Phrases.{reasons, isFor, phraseIn}
+use Rattle.phrases.specs.Layout.{reasonAt}
 use Rattle.phrases.proofs.Listed.{isThere, place-within, found, further, there, answer-at, step-at}
 use borrow.Author.Needs.{needs}
 use Rattle.phrases.proofs.list.find.Statement.{statement}

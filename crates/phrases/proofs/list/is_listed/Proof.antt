@@ -2,17 +2,17 @@
 use mathlib.Core.Path.{_≡_, refl, sym, _∙_}
 use Prim.Native.Nat.{_-_, _≤_}
 use native.Mathlib.Omega.{arith}
-use lib.ListN.{drop}
+use lib.ListN.{length, drop}
 use Rattle.phrases.specs.Phrases.{reasons, isListedIn}
 use Rattle.phrases.proofs.Listed.{answer-at, answer-small, listed-hit, listed-miss, listed-end}
 use Rattle.phrases.proofs.list.is_listed.Statement.{statement}
 use Rattle.phrases.proofs.list.is_listed.Tie as tie
 
 abbrev Inv-loop : tie.InvT-loop
-Inv-loop a i₀ i = (i ≤ 50) × (isListedIn (drop i reasons) a ≡ isListedIn reasons a)
+Inv-loop a i₀ i = (i ≤ length reasons) × (isListedIn (drop i reasons) a ≡ isListedIn reasons a)
 
 abbrev μ-loop : tie.MeasureT-loop
-μ-loop a i₀ i = 50 - i
+μ-loop a i₀ i = length reasons - i
 
 loop-holds : tie.Need-loop-holds Inv-loop μ-loop
 loop-holds c = (omega arith, refl)

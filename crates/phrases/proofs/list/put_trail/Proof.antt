@@ -1,5 +1,5 @@
 -- `phrases::list::put_trail` meets its contract. Assumes nothing.
-use mathlib.Core.Path.{sym, subst, ap}
+use mathlib.Core.Path.{subst, ap}
 use native.Mathlib.Omega.{arith}
 use lib.ListN.{length}
 use denote.Ref.{now}
