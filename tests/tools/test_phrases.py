@@ -181,7 +181,7 @@ class Phrases(unittest.TestCase):
 
     def test_the_examples(self):
         """The lines that the page shows."""
-        pairs = [(record(1, 1, value=41), 0), (record(9, 1, 2), 11), (record(9, 2, 2), 1)]
+        pairs = [(record(1, 1, value=41), 0), (record(3, 2), 5), (record(9, 2, 2), 1)]
         self.assertEqual(re.findall(r"^    (.+: .+)$", self.page, re.M), self.described(pairs))
         self.assertIn("`record 09 02 02 00 00 00 00 00`", self.page)
 
