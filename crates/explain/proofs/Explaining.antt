@@ -55,12 +55,15 @@ module _ (s : Text) (ns : List ℕ) (h : take (length s / 8) ns ≡ answersOf s)
 
 -- Lengths
 
-module _ (s : Text) (b : (i : ℕ) → getD s i 0 ≤ 255) where
-  line-short : (i : ℕ) → length (lineAt s (answersOf s) i) ≤ 96
-  line-short i =
-      let v = value-small (drop (8 * i) s) (λ j. omega (arith, getD-drop (8 * i) s j 0, b (8 * i + j))) in
-      line-most (recordAt (drop (8 * i) s)) (getD (answersOf s) i 0) v
-      (listed-most (getD (answersOf s) i 0) (answers-most s i))
+-- Lines with answers on the list have at most 96 bytes each.
+pub text-most : (s : Text) (ns : List ℕ) (n : ℕ) → ((i : ℕ) → getD s i 0 ≤ 255)
+    → ((i : ℕ) → i < n → isListed (getD ns i 0) ≡ true) → length (eachOf (lineAt s ns) n) ≤ 96 * n
+text-most s ns n b h = each-most (lineAt s ns) 96 n short
+  where
+    short : (i : ℕ) → i < n → length (lineAt s ns i) ≤ 96
+    short i q =
+        let v = value-small (drop (8 * i) s) (λ j. omega (arith, getD-drop (8 * i) s j 0, b (8 * i + j))) in
+        line-most (recordAt (drop (8 * i) s)) (getD ns i 0) v (h i q)
 
 pub lengths-tell : LengthsTell
 unfolding LengthsTell explained
@@ -69,7 +72,7 @@ lengths-tell s b e =
     let n = length s / 8 in
     let some : 0 < n = omega (arith, room (length s) (sheet-whole s e)) in (
       omega (arith, each-room text 0 n some, line-least (recordAt (drop 0 s)) (getD (answersOf s) 0 0)),
-      each-most text 96 n (λ i q. line-short s b i),
+      text-most s (answersOf s) n b (λ i q. listed-most (getD (answersOf s) i 0) (answers-most s i)),
     )
 
 -- A result that is no refusal is a length within the slice, so a caller can read the text back.

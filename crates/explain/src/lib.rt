@@ -3,6 +3,7 @@
 ghost use mathlib.Core.Bool.{true};
 ghost use mathlib.Core.Path.{_≡_};
 ghost use Prim.Native.Nat.{ℕ, _/_, _≤_, _<_};
+ghost use lib.Dec.{leb};
 ghost use lib.ListN.{length, getD};
 ghost use Rattle.text.specs.Text.{Wrote, Delivered, eachOf};
 ghost use Rattle.phrases.specs.Phrases.{isListed};
@@ -34,6 +35,25 @@ fn text_length(sheet: &[u8], answers: &[u8]) -> usize
         i += 1;
     }
     total
+}
+
+// Whether a slice of `room` bytes has place for them. A line has at most 96 bytes, so where there is place for as many
+// of each record, no line is counted.
+fn has_room(sheet: &[u8], answers: &[u8], room: usize) -> bool
+    requires { ⌜
+        (length (now sheet) / 8 ≤ 4095)
+        × (length (now sheet) / 8 ≤ length (now answers))
+        × ((i : ℕ) → i < length (now sheet) / 8 → isListed (getD (now answers) i 0) ≡ true)
+        ⌝ }
+    ensures { λ r. ⌜
+        r ≡ leb (length (eachOf (lineAt (now (sheet .entry)) (now (answers .entry))) (length (now (sheet .entry)) / 8)))
+        room
+        ⌝ }
+{
+    if 96 * (sheet.len() / 8) <= room {
+        return true;
+    }
+    text_length(sheet, answers) <= room
 }
 
 // Writes them.
@@ -74,7 +94,7 @@ fn deliver(sheet: &[u8], answers: &[u8], out: &mut [u8]) -> usize
         (now (out .entry)) (now (out .exit)) r
         ⌝ }
 {
-    if out.len() < text_length(sheet, answers) {
+    if !has_room(sheet, answers, out.len()) {
         return 3;
     }
     put_text(&mut *out, sheet, answers)

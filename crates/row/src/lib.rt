@@ -19,6 +19,25 @@ pub extern "C" fn run_sheet(sheet: &[u8], listing: &mut [u8]) -> usize
     sheet::run_sheet(sheet, &mut *listing)
 }
 
+// Writes the sheet of a seed and a count of records, the opening included: the sheet's length, 2 for a count outside 1
+// to 4,095, then 3 for a slice that is shorter than the sheet; both leave the slice untouched.
+#[no_mangle]
+pub extern "C" fn seed_sheet(seed: u32, count: usize, sheet: &mut [u8]) -> usize
+    ensures { λ r. ⌜ (r ≡ Seeded.result seed count (now (sheet .entry)))
+        × (now (sheet .exit) ≡ Seeded.left seed count (now (sheet .entry))) ⌝ }
+{
+    generator::seed_sheet(seed, count, &mut *sheet)
+}
+
+// How many boards make a majority of a set, by its mask, board 1 the lowest bit: the number that docs/MAJORITY.md
+// prints for the set, 1 for the empty one.
+#[no_mangle]
+pub extern "C" fn look_up_majority(set: u8) -> u8
+    ensures { λ r. ⌜ r ≡ Members.quorum (Members.size (bits set)) ⌝ }
+{
+    members::majority(set)
+}
+
 // Sheet in, a line in words for each record out, with the answer that its run gave: the text's length, 2 for a sheet of
 // wrong length or without a valid opening, then 3 for a slice that is shorter than the text; both leave the slice
 // untouched.
@@ -38,23 +57,4 @@ pub extern "C" fn describe_record(bytes: &[u8], answer: usize, line: &mut [u8]) 
         × (now (line .exit) ≡ Describe.left (now (bytes .entry)) answer (now (line .entry))) ⌝ }
 {
     phrases::describe_record(bytes, answer, &mut *line)
-}
-
-// Writes the sheet of a seed and a count of records, the opening included: the sheet's length, 2 for a count outside 1
-// to 4,095, then 3 for a slice that is shorter than the sheet; both leave the slice untouched.
-#[no_mangle]
-pub extern "C" fn seed_sheet(seed: u32, count: usize, sheet: &mut [u8]) -> usize
-    ensures { λ r. ⌜ (r ≡ Seeded.result seed count (now (sheet .entry)))
-        × (now (sheet .exit) ≡ Seeded.left seed count (now (sheet .entry))) ⌝ }
-{
-    generator::seed_sheet(seed, count, &mut *sheet)
-}
-
-// How many boards make a majority of a set, by its mask, board 1 the lowest bit: the number that docs/MAJORITY.md
-// prints for the set, 1 for the empty one.
-#[no_mangle]
-pub extern "C" fn look_up_majority(set: u8) -> u8
-    ensures { λ r. ⌜ r ≡ Members.quorum (Members.size (bits set)) ⌝ }
-{
-    members::majority(set)
 }
