@@ -200,7 +200,7 @@ size_t run_sheet(const uint8_t *sheet, size_t sheet_len,
 size_t describe_record(const uint8_t *record, size_t record_len, size_t answer,
                        uint8_t *line, size_t line_len);
 
-/* The results of explain_sheet that are refusals: ROW_BAD_SHEET, and */
+/* explain_sheet is refused with ROW_BAD_SHEET, or with this. */
 #define ROW_SHORT_TEXT 3 /* the text slice is shorter than the text */
 
 /*

@@ -121,7 +121,7 @@ class Phrases(unittest.TestCase):
             source, program = Path(folder) / "lines.c", Path(folder) / "lines"
             source.write_text(PROGRAM)
             include = f"-I{ROOT / 'include'}"
-            subprocess.run(["cc", "-std=c99", "-Wall", "-Werror", include, source, LIBRARY, "-o", program], check=True)
+            subprocess.run(["gcc", "-std=c99", "-Wall", "-Werror", include, source, LIBRARY, "-o", program], check=True)
             given = b"".join(record + bytes([answer]) for record, answer in pairs)
             done = subprocess.run([program], input=given, stdout=subprocess.PIPE, check=True)
         return done.stdout.decode().splitlines()

@@ -1,4 +1,4 @@
--- A sheet in words: a line of document 02, Paper 5, for each record with the answer that its run gave. Cited by the
+-- The text of a sheet: a line of document 02, Paper 5, for each record with the answer that its run gave. Cited by the
 -- promises of `explain_sheet` and `sample`. Assumes nothing.
 use mathlib.Core.Bool.{true, cond, _&&_}
 use mathlib.Core.List.{List, [], _∷_, _++_}
@@ -17,10 +17,14 @@ use Rattle.sheet.specs.Sheet.{answersOf, sampleSheet, slice}
 abbrev pub lineAt : Text → List ℕ → ℕ → Text
 lineAt s ns i = line (recordAt (drop (8 * i) s)) (getD ns i 0)
 
+-- Those of all its records.
+abbrev pub linesOf : Text → List ℕ → Text
+linesOf s ns = eachOf (lineAt s ns) (length s / 8)
+
 -- The text of a sheet that refusal 2 lets through: its records with the answers of the model's run.
 unfoldable pub explained : Text → Text
 unfolding answersOf line eachOf
-explained s = eachOf (lineAt s (answersOf s)) (length s / 8)
+explained s = linesOf s (answersOf s)
 
 -- The call, with the sheet s and a slice whose bytes are `out`: refusals 2 and 3 are those of a listing.
 unfoldable pub result : Text → Text → ℕ
@@ -40,8 +44,8 @@ sampleText =
     word "opening with board 1: accepted\nboard 1 appends value 41: accepted\nboard 1 gives a receipt: accepted\n"
     ++ word "add board 2: accepted\n"
 
--- P3 to P9 in words, from one opening; P3's append and receipt stand last, where board 1 is no leader any more and
--- does not know it.
+-- P3 to P9 in words, from one opening; of P3 the refused receipt, as the accepted ones are in the sample. Last, board
+-- 1, replaced and without that news, still appends, and its receipt has no majority.
 unfoldable pub trialSheet : Text
 unfolding sheetBytes
 trialSheet = sheetBytes

@@ -1,16 +1,16 @@
-// A sheet in words: the call behind the entry for the hub's firmware (crate row) and the program `explainsheet`.
+// The text of a sheet, a line in words for each record: the call behind the entry for the hub's firmware (crate row) and the program `explainsheet`.
 
 ghost use mathlib.Core.Bool.{true};
 ghost use mathlib.Core.Path.{_≡_};
 ghost use Prim.Native.Nat.{ℕ, _/_, _≤_, _<_};
 ghost use lib.Dec.{leb};
 ghost use lib.ListN.{length, getD};
-ghost use Rattle.text.specs.Text.{Wrote, Delivered, eachOf};
+ghost use Rattle.text.specs.Text.{Wrote, Delivered};
 ghost use Rattle.phrases.specs.Phrases.{isListed};
-ghost use Rattle.explain.specs.Explain.{lineAt, result, left, SampleHolds, RoomHolds, LengthsTell};
+ghost use Rattle.explain.specs.Explain.{linesOf, result, left, SampleHolds, RoomHolds, LengthsTell};
 
-// The papers' sample in words; short slices are refused; no text is so short that its length could be a refusal. By
-// the definitions: nothing to run.
+// The papers' sample and P3 to P9 in words; a slice at its limits; a text of n records has 4 to 96 n bytes. By the
+// definitions: nothing to run.
 pub fn sample()
     ensures { λ r. ⌜ SampleHolds × RoomHolds × LengthsTell ⌝ }
 {}
@@ -22,9 +22,7 @@ fn text_length(sheet: &[u8], answers: &[u8]) -> usize
         × (length (now sheet) / 8 ≤ length (now answers))
         × ((i : ℕ) → i < length (now sheet) / 8 → isListed (getD (now answers) i 0) ≡ true)
         ⌝ }
-    ensures { λ r. ⌜
-        r ≡ length (eachOf (lineAt (now (sheet .entry)) (now (answers .entry))) (length (now (sheet .entry)) / 8))
-        ⌝ }
+    ensures { λ r. ⌜ r ≡ length (linesOf (now (sheet .entry)) (now (answers .entry))) ⌝ }
 {
     let n = sheet.len() / 8;
     let mut total: usize = 0;
@@ -45,10 +43,7 @@ fn has_room(sheet: &[u8], answers: &[u8], room: usize) -> bool
         × (length (now sheet) / 8 ≤ length (now answers))
         × ((i : ℕ) → i < length (now sheet) / 8 → isListed (getD (now answers) i 0) ≡ true)
         ⌝ }
-    ensures { λ r. ⌜
-        r ≡ leb (length (eachOf (lineAt (now (sheet .entry)) (now (answers .entry))) (length (now (sheet .entry)) / 8)))
-        room
-        ⌝ }
+    ensures { λ r. ⌜ r ≡ leb (length (linesOf (now (sheet .entry)) (now (answers .entry)))) room ⌝ }
 {
     if 96 * (sheet.len() / 8) <= room {
         return true;
@@ -61,12 +56,10 @@ fn put_text(out: &mut [u8], sheet: &[u8], answers: &[u8]) -> usize
     requires { ⌜
         (length (now sheet) / 8 ≤ length (now answers))
         × ((i : ℕ) → i < length (now sheet) / 8 → isListed (getD (now answers) i 0) ≡ true)
-        × (length (eachOf (lineAt (now sheet) (now answers)) (length (now sheet) / 8)) ≤ length (now out))
+        × (length (linesOf (now sheet) (now answers)) ≤ length (now out))
         ⌝ }
     ensures { λ r. ⌜
-        Wrote (now (out .entry)) 0
-        (eachOf (lineAt (now (sheet .entry)) (now (answers .entry))) (length (now (sheet .entry)) / 8))
-        (now (out .exit)) r
+        Wrote (now (out .entry)) 0 (linesOf (now (sheet .entry)) (now (answers .entry))) (now (out .exit)) r
         ⌝ }
 {
     let n = sheet.len() / 8;
@@ -89,9 +82,7 @@ fn deliver(sheet: &[u8], answers: &[u8], out: &mut [u8]) -> usize
         × ((i : ℕ) → i < length (now sheet) / 8 → isListed (getD (now answers) i 0) ≡ true)
         ⌝ }
     ensures { λ r. ⌜
-        Delivered
-        (eachOf (lineAt (now (sheet .entry)) (now (answers .entry))) (length (now (sheet .entry)) / 8))
-        (now (out .entry)) (now (out .exit)) r
+        Delivered (linesOf (now (sheet .entry)) (now (answers .entry))) (now (out .entry)) (now (out .exit)) r
         ⌝ }
 {
     if !has_room(sheet, answers, out.len()) {

@@ -25,7 +25,7 @@ use Rattle.phrases.proofs.Testing.{passes, passes-both, same, told-apar
 use Rattle.phrases.proofs.Fields.{every, every-append, every-more, isField, board-fields, second-fields, Small, small, bytes-back, hexes-fields}
 use Rattle.phrases.proofs.Listed.{there, place-of}
 use Rattle.phrases.proofs.Hexes.{hexes-differ}
-use Rattle.phrases.proofs.Forming.{Formed, formed, head-formed, head-raw, place-formed, place-raw, verdict-accepted, verdict-refused}
+use Rattle.phrases.proofs.Forming.{by-form, Formed, formed, head-formed, head-raw, place-formed, place-raw, verdict-accepted, verdict-refused}
 use Rattle.phrases.proofs.Lengths.{place-below}
 
 -- Cutting at the colon
@@ -119,7 +119,7 @@ raw-head r h =
     )
 
 head-is : (r : Record) → Small r → Head (place r) (headText r)
-head-is r h = by-test (wellFormed r) (λ t. yes (is-true (wellFormed r) t)) (λ t. no (is-false (wellFormed r) t))
+head-is r h = by-form r yes no
   where
     yes : wellFormed r ≡ true → Head (place r) (headText r)
     yes e =

@@ -1,5 +1,5 @@
--- The bytes of a record, and its fields in a line: these are digits and spaces, so no letters of a name, no colon, and
--- all printable. Assumes nothing.
+-- The bytes of a record, and its fields in a line: these are digits, those of hexadecimal numbers
+-- too, and spaces: no small letters, no colon, and all printable. Assumes nothing.
 use mathlib.Core.Bool.{Bool, true, false, not, cond, _&&_}
 use mathlib.Core.List.{[], _∷_, _++_}
 use mathlib.Core.Path.{_≡_, refl, sym, ap, subst, _∙_}
@@ -15,6 +15,7 @@ use Rattle.reading.proofs.Decimal.{by-digits}
 use Rattle.records.specs.Bytes.{recordAt, recordBytes}
 use Rattle.phrases.specs.Line.{hexDigit, hexes, boardPart, secondPart}
 use Rattle.phrases.specs.Describe.{EightBytes}
+use Rattle.phrases.proofs.Hexes.{Bytes}
 
 -- Bytes that pass a test
 
@@ -59,7 +60,7 @@ hex-field x h =
     (λ t. let l = nltb→le x 10 t in rw (le-ltb x 10 l)
     (is-field (55 + x) (omega arith) (omega arith) (λ (e : 55 + x ≡ 58). omega arith)))
 
-pub hexes-fields : (s : Text) → ((i : ℕ) → getD s i 0 < 256) → T (every isField (hexes s))
+pub hexes-fields : (s : Text) → Bytes s → T (every isField (hexes s))
 unfolding hexes
 hexes-fields [] h = tt
 hexes-fields (b ∷ s) h =
@@ -84,7 +85,7 @@ second-fields r = go (eqb (r .step) 9) (eqb (r .step) 1)
 
 -- The bytes of a record are bytes.
 abbrev pub Small : Record → Type 0
-Small r = (i : ℕ) → getD (recordBytes r) i 0 < 256
+Small r = Bytes (recordBytes r)
 
 -- A text is its bytes, place by place.
 abbrev listed : ℕ → (ℕ → ℕ) → Text
@@ -112,4 +113,4 @@ bytes-back s h =
     ∙ sym (listed-is 8 s (h .eight))
 
 pub small : (s : Text) → EightBytes s → Small (recordAt s)
-small s h = subst (λ (t : Text). (i : ℕ) → getD t i 0 < 256) (sym (bytes-back s h)) (h .byte)
+small s h = subst Bytes (sym (bytes-back s h)) (h .byte)

@@ -8,7 +8,7 @@ use lib.Dec.{T, leb, eqb, leb→le, eqb→eq}
 use borrow.Author.Tests.{eq-eqb, ne-eqb}
 use Rattle.model.specs.Members.{isReplica}
 use Rattle.model.specs.Records.{Record, boardless, wellFormed}
-use Rattle.model.proofs.Tests.{of-true, split-and}
+use Rattle.model.proofs.Tests.{of-true, split-and, by-test, is-true, is-false}
 use Rattle.text.specs.Text.{digits}
 use Rattle.lines.specs.Lines.{word}
 use Rattle.phrases.specs.Phrases.{noStep}
@@ -40,6 +40,10 @@ formed r e =
       spare = eqb→eq (r .spare) 0 (t3 .1);
       value = t4 .1;
     }
+
+-- By whether a record is well formed.
+pub by-form : {P : Type 0} (r : Record) → (wellFormed r ≡ true → P) → (wellFormed r ≡ false → P) → P
+by-form r f g = by-test (wellFormed r) (λ t. f (is-true (wellFormed r) t)) (λ t. g (is-false (wellFormed r) t))
 
 module _ (r : Record) where
   pub board-none : boardless (r .step) ≡ true → [] ≡ boardPart r

@@ -9,7 +9,7 @@ use lib.ListN.{length, length-append}
 use borrow.Author.Tests.{ne-eqb}
 use Rattle.model.specs.Members.{isReplica}
 use Rattle.model.specs.Records.{Record, boardless, wellFormed}
-use Rattle.model.proofs.Tests.{split-and, by-test, is-true, is-false}
+use Rattle.model.proofs.Tests.{split-and}
 use Rattle.text.specs.Text.{Text, digits}
 use Rattle.text.proofs.Laws.{digits-one-length, digits-most-10}
 use Rattle.lines.specs.Lines.{word, newline}
@@ -20,7 +20,7 @@ use Rattle.phrases.specs.Line.{leadText, trailText, boardPart, secondPar
 use Rattle.phrases.specs.Describe.{LengthsTell}
 use Rattle.phrases.proofs.Testing.{passes, passes-both}
 use Rattle.phrases.proofs.Hexes.{Bytes, hexes-triple}
-use Rattle.phrases.proofs.Forming.{Formed, formed, head-formed, head-raw, place-formed, place-raw}
+use Rattle.phrases.proofs.Forming.{by-form, Formed, formed, head-formed, head-raw, place-formed, place-raw}
 use Rattle.phrases.proofs.Listed.{listed-below}
 
 one-digit : (b : ℕ) → T (isReplica b) → length (digits b) ≡ 1
@@ -75,7 +75,7 @@ module _ (r : Record) (h : r .value < 2 ^ 32) where
   )
 
   head-most : length (headText r) ≤ headMost (place r)
-  head-most = by-test (wellFormed r) (λ t. yes (is-true (wellFormed r) t)) (λ t. no (is-false (wellFormed r) t))
+  head-most = by-form r yes no
     where
       yes : wellFormed r ≡ true → length (headText r) ≤ headMost (place r)
       yes e =
@@ -90,7 +90,7 @@ module _ (r : Record) (h : r .value < 2 ^ 32) where
           (subst (λ k. length (rawText r) ≤ headMost k) (place-raw r e) raw-most)
 
 pub place-below : (r : Record) → place r < 17
-place-below r = by-test (wellFormed r) (λ t. yes (is-true (wellFormed r) t)) (λ t. no (is-false (wellFormed r) t))
+place-below r = by-form r yes no
   where
     yes : wellFormed r ≡ true → place r < 17
     yes e = omega (arith, place-formed r e, formed r e .step)
@@ -123,7 +123,7 @@ lead-least k h = leb→le 3 _ (passes 17 (λ k. leb 3 (length (leadText k))) ref
 
 head-least : (r : Record) → 3 ≤ length (headText r)
 unfolding stepText rawText
-head-least r = by-test (wellFormed r) (λ t. yes (is-true (wellFormed r) t)) (λ t. no (is-false (wellFormed r) t))
+head-least r = by-form r yes no
   where
     yes : wellFormed r ≡ true → 3 ≤ length (headText r)
     yes e =

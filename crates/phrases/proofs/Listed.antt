@@ -1,4 +1,4 @@
--- The phrase list as the code has it: words by where they end, answers as an array, steps as bits. Assumes nothing.
+-- The phrase list as the code has it: words by where they begin, answers as an array, steps as bits. Assumes nothing.
 use mathlib.Core.Bool.{Bool, true, false, cond, _&&_, _||_}
 use mathlib.Core.List.{List, [], _∷_, map}
 use mathlib.Core.Logic.{_⊎_, inl, inr}
@@ -151,9 +151,9 @@ unlisted (r ∷ rs) a t h =
     rw (ne-eqb a (r .answer) (λ (e : a ≡ r .answer). omega (arith, leb→le (r .answer) 16 (x .0), h)))
     (unlisted rs a (x .1) h)
 
-listed-is : (a : ℕ) → isListed a ≡ leb a 16
+listed-tells : (a : ℕ) → isListed a ≡ leb a 16
 unfolding isListedIn
-listed-is a = go (le-or-lt a 16)
+listed-tells a = go (le-or-lt a 16)
   where
     go : (a ≤ 16) ⊎ (16 < a) → isListed a ≡ leb a 16
     go (inl h) = is-true (isListed a) (passes 17 isListed refl a (omega arith)) ∙ sym (le-leb a 16 h)
@@ -164,10 +164,10 @@ unfolding phraseIn
 worded k a h l = leb→le 1 _ (passes-both 17 17 (λ k a. leb 1 (length (reasonText k a))) refl k a h l)
 
 pub covers : Covers
-covers = record { listed = listed-is; worded = λ k a h l. worded k a (omega (arith, h)) (omega (arith, l)) }
+covers = record { listed = listed-tells; worded = λ k a h l. worded k a (omega (arith, h)) (omega (arith, l)) }
 
 pub listed-below : (a : ℕ) → isListed a ≡ true → a < 17
-listed-below a e = let h = leb-true a 16 (sym (listed-is a) ∙ e) in omega arith
+listed-below a e = let h = leb-true a 16 (sym (listed-tells a) ∙ e) in omega arith
 
 -- Each of them has a phrase for every step.
 pub there : (k a : ℕ) → k < 17 → isListed a ≡ true → T (isThere reasons k a)

@@ -9,7 +9,7 @@ use lib.Dec.{T, leb, eqb, leb→le}
 use lib.ListN.{length}
 use borrow.Author.Tests.{le-leb}
 use Rattle.model.specs.Records.{Record, wellFormed}
-use Rattle.model.proofs.Tests.{split-and, join-and, by-test, is-true, is-false, eq-or-ne}
+use Rattle.model.proofs.Tests.{split-and, join-and, is-true, eq-or-ne}
 use Rattle.text.specs.Text.{Text}
 use Rattle.lines.specs.Lines.{word, newline}
 use Rattle.records.specs.Bytes.{recordAt, recordBytes}
@@ -20,7 +20,7 @@ use Rattle.phrases.specs.Layout.{reasonAt}
 use Rattle.phrases.proofs.Testing.{passes}
 use Rattle.phrases.proofs.Listed.{there, place-of}
 use Rattle.phrases.proofs.Fields.{every, every-append, every-more, isField, board-fields, second-fields, Small, small, hexes-fields}
-use Rattle.phrases.proofs.Forming.{formed, head-formed, head-raw, verdict-accepted, verdict-refused}
+use Rattle.phrases.proofs.Forming.{by-form, formed, head-formed, head-raw, verdict-accepted, verdict-refused}
 use Rattle.phrases.proofs.Lengths.{place-below}
 
 abbrev printable : ℕ → Bool
@@ -66,7 +66,7 @@ raw-printed r h =
     (fields-printed (hexes (recordBytes r)) (hexes-fields (recordBytes r) h))
 
 head-printed : (r : Record) → Small r → Printed (headText r)
-head-printed r h = by-test (wellFormed r) (λ t. yes (is-true (wellFormed r) t)) (λ t. no (is-false (wellFormed r) t))
+head-printed r h = by-form r yes no
   where
     yes : wellFormed r ≡ true → Printed (headText r)
     yes e = subst Printed (head-formed r e) (step-printed r (omega (arith, formed r e .step)))

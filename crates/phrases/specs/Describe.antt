@@ -15,7 +15,7 @@ use Rattle.phrases.specs.Line.{reasonText, line}
 
 -- The call, with the record's bytes s, the answer a and a slice whose bytes are `out`
 
--- "An answer not on it, or a record not 8 bytes long, is refused 1"
+-- "An answer not on it, or a record not 8 bytes long, is refused 1": what is not.
 abbrev pub isTold : Text → ℕ → Bool
 isTold s a = eqb (length s) 8 && isListed a
 

@@ -1,4 +1,5 @@
--- The line of a record and its answer, byte for byte (document 02, Paper 5). Cited by Describe. Assumes nothing.
+-- The line of a record and its answer, byte for byte (document 02, Paper 5). Cited by Describe, by the
+-- contracts of the writers, and by explain. Assumes nothing.
 use mathlib.Core.Bool.{cond}
 use mathlib.Core.List.{[], _∷_, _++_}
 use Prim.Native.Nat.{ℕ, _+_, _/_, _%_}

@@ -1,5 +1,6 @@
 -- The phrase list of document 02, Paper 5: "a fixed list of phrases: the step's name, the boards and value it uses,
--- then `accepted` or the reason". docs/PHRASES.md prints it. Cited by Line. Assumes nothing.
+-- then `accepted` or the reason". docs/PHRASES.md prints it. Cited by Line, Layout, Describe and the
+-- contracts. Assumes nothing.
 use mathlib.Core.Bool.{Bool, false, cond, _&&_, _||_}
 use mathlib.Core.List.{List, [], _∷_}
 use Prim.Native.Nat.{ℕ}

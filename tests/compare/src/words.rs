@@ -157,7 +157,7 @@ pub fn compare() -> Result<u8, Fault> {
             told.describe(record, answer, &mut rng)?;
         }
     }
-    // The room that a caller is told of is that of the longest line, and no more.
+    // The second program's bound is the longest line. (A caller in C is told a rounder one.)
     let longest = told.pairs.keys().map(Vec::len).max();
     if longest != Some(LINE_MAX) {
         differs(format!("the longest line is {longest:?}, not {LINE_MAX}"))?;

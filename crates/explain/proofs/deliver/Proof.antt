@@ -8,7 +8,6 @@ use Rattle.text.specs.Text.{Text, eachOf}
 use Rattle.text.proofs.Laws.{too-long, fitting}
 use Rattle.explain.specs.Explain.{lineAt}
 use borrow.Author.Needs.{needs}
-use borrow.Author.Needs.{needs}
 use Rattle.explain.proofs.deliver.Statement.{statement}
 use Rattle.explain.proofs.deliver.Tie as tie
 

@@ -10,7 +10,6 @@ use Rattle.text.specs.Text.{eachOf}
 use Rattle.explain.specs.Explain.{lineAt}
 use Rattle.explain.proofs.Explaining.{text-most}
 use borrow.Author.Needs.{needs}
-use borrow.Author.Needs.{needs}
 use Rattle.explain.proofs.has_room.Statement.{statement}
 use Rattle.explain.proofs.has_room.Tie as tie
 

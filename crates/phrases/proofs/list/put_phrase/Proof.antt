@@ -1,8 +1,6 @@
 -- `phrases::list::put_phrase` meets its contract: the text stands in the list between its two ends. Assumes nothing.
-use mathlib.Core.Path.{subst}
 use native.Mathlib.Omega.{arith}
-use denote.Ref.{now}
-use Rattle.text.specs.Text.{Wrote}
+use Rattle.text.proofs.Laws.{wrote-as}
 use Rattle.phrases.proofs.Parts.{part-length}
 use Rattle.phrases.proofs.Listed.{phrase-part}
 use borrow.Author.Needs.{needs}
@@ -40,8 +38,7 @@ returns : tie.Need-returns
 returns c =
     let w = c .before .before in
     let e = w .before .before .before .before in
-    subst (λ t. Wrote (now (e .args .out)) (e .args .at) t (w .put-part .last .0) (w .put-part .result))
-    (phrase-part (e .args .i) (e .pre .0) .is) (w .put-part .ensures)
+    wrote-as (phrase-part (e .args .i) (e .pre .0) .is) (w .put-part .ensures)
 
 pub put-phrase-spec : {M : Type 1} → statement M
 put-phrase-spec =

@@ -1,9 +1,8 @@
 -- `phrases::list::put_trail` meets its contract. Assumes nothing.
-use mathlib.Core.Path.{subst, ap}
+use mathlib.Core.Path.{ap}
 use native.Mathlib.Omega.{arith}
 use lib.ListN.{length}
-use denote.Ref.{now}
-use Rattle.text.specs.Text.{Wrote}
+use Rattle.text.proofs.Laws.{wrote-as}
 use Rattle.phrases.proofs.Listed.{trail-piece}
 use borrow.Author.Needs.{needs}
 use Rattle.phrases.proofs.list.put_trail.Statement.{statement}
@@ -27,8 +26,7 @@ returns : tie.Need-returns
 returns c =
     let w = c .before .before in
     let e = w .before .before .before in
-    subst (λ t. Wrote (now (e .args .out)) (e .args .at) t (w .put-piece .last .0) (w .put-piece .result))
-    (trail-piece (e .args .k) (e .pre .0)) (w .put-piece .ensures)
+    wrote-as (trail-piece (e .args .k) (e .pre .0)) (w .put-piece .ensures)
 
 pub put-trail-spec : {M : Type 1} → statement M
 put-trail-spec =
