@@ -6,7 +6,7 @@ use Prim.Native.Nat.{ℕ, _+_, _-_, _*_}
 use lib.ListN.{getD}
 use Rattle.model.specs.Members.{isReplica}
 use Rattle.model.specs.State as M
-use Rattle.members.specs.Mask.{bits}
+pub use Rattle.members.specs.Mask.{bits}
 use Rattle.cluster.specs.declared.View.{View}
 use Rattle.cluster.specs.declared.Status.{Status}
 use Rattle.cluster.specs.declared.Status.the-variants.{Normal, Waiting}

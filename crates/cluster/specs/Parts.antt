@@ -4,7 +4,8 @@
 use mathlib.Core.Logic.{_≢_}
 use mathlib.Core.Path.{_≡_}
 use Rattle.model.specs.State.{RowState, outline, entries}
-use Rattle.model.specs.Steps.{Step, answerOf, step, withRegistry, withController}
+use Rattle.model.specs.Steps.{Step, answerOf, behind, step, withRegistry, withController}
+use Rattle.members.specs.Mask.{bits}
 use Rattle.cluster.specs.declared.Registry.{Registry}
 use Rattle.cluster.specs.declared.Controller.{Controller}
 use Rattle.cluster.specs.declared.Ruled.{Ruled}
@@ -30,6 +31,8 @@ pub record Tells (Known : RowState → Type 0) (st : Step) (c : Controller) (x :
 pub record Settles (st : Step) (r : Registry) (c : Controller) (x : Settled) : Type 0 where
   pub answer : (s : RowState)
       → x .answer ≡ answerOf (outline (withController (withRegistry s (registryOf r)) (controllerOf c))) st
+  pub behind : (s : RowState)
+      → bits (x .behind) ≡ behind (outline (withController (withRegistry s (registryOf r)) (controllerOf c))) st
   pub registry : (s : RowState)
       → registryOf (x .registry)
       ≡ step entries (withController (withRegistry s (registryOf r)) (controllerOf c)) st .registry

@@ -58,9 +58,11 @@ pub struct Cluster {
     pub issued: u16,
 }
 
-// What a step answers, and the row it leaves.
+// What a step answers, the members behind it as a mask (the empty set for a refused step and for one that asks no
+// majority), and the row it leaves.
 pub struct Outcome {
     pub answer: u8,
+    pub behind: u8,
     pub row: Cluster,
 }
 
@@ -76,9 +78,11 @@ pub struct Told {
     pub controller: Controller,
 }
 
-// What a step of both answers and leaves; `steps_central` has every step of either in this form.
+// What a step of both answers, the members behind it, and what it leaves; `steps_central` has every step of either in
+// this form.
 pub struct Settled {
     pub answer: u8,
+    pub behind: u8,
     pub registry: Registry,
     pub controller: Controller,
 }

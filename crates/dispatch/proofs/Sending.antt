@@ -7,8 +7,9 @@ use Prim.Native.Nat.{ℕ, _≤_}
 use native.Mathlib.Omega.{arith}
 use lib.Dec.{eqb}
 use lib.ListN.{getD, List·getD-eq-default}
+use Rattle.model.specs.Members.{none}
 use Rattle.model.specs.State.{Outline, outline, entries}
-use Rattle.model.specs.Steps.{Step, malformed, accepted, answerOf, next}
+use Rattle.model.specs.Steps.{Step, malformed, accepted, answerOf, qualified, next}
 use Rattle.model.specs.Records.{Record, unused, rules}
 use Rattle.cluster.specs.declared.View.{View}
 use Rattle.cluster.specs.declared.Registry.{Registry}
@@ -22,14 +23,14 @@ use Rattle.refinement.proofs.Turning.{turns-refused, set-idle}
 use Rattle.dispatch.specs.Send.{Sends}
 
 -- The answer 1 to what is no step.
-pub malformed-leaves : (row : Cluster) → Ready row → (p : Places) → Full p → Leaves malformed row p 1 row p
+pub malformed-leaves : (row : Cluster) → Ready row → (p : Places) → Full p → Leaves malformed row p 1 0 row p
 malformed-leaves row r p full = turns-refused row (r .short) (r .issued) p full malformed 1 refl (λ e. omega arith)
 
 -- A step that leaves the views.
 pub sends-kept : {st : Step} {g : Registry} {c : Controller} {views : List View} {issued issued′ : ℕ}
     {joined acked len joined′ acked′ len′ : List ℕ}
     {p p′ : Places} {s : Settled}
-    → Leaves st (rowOf g c views joined acked len issued) p (s .answer)
+    → Leaves st (rowOf g c views joined acked len issued) p (s .answer) (s .behind)
     (rowOf (s .registry) (s .controller) views joined′ acked′ len′ issued′) p′
     → Sends st g c views issued joined acked len p
     (record { issued = issued′; place = 0; view = getD views 0 noView; central = s }) joined′ acked′ len′ p′
@@ -37,7 +38,7 @@ sends-kept {st} {g} {c} {views} {issued} {issued′} {joined} {acked} {len} {joi
     record {
       place = omega arith;
       leaves =
-          subst (λ vs. Leaves st (rowOf g c views joined acked len issued) p (s .answer)
+          subst (λ vs. Leaves st (rowOf g c views joined acked len issued) p (s .answer) (s .behind)
           (rowOf (s .registry) (s .controller) vs joined′ acked′ len′ issued′) p′)
           (sym (set-idle noView views 0)) h;
     }
@@ -51,6 +52,7 @@ module _ (row : Cluster) (p : Places) (x : Outcome) (p′ : Places) where
       → P malformed
   as-malformed st one never k = record {
     answer = k .answer ∙ one (outlineOf row);
+    behind = k .behind ∙ ap (λ t. cond t (qualified (outlineOf row) st) none) (never (outlineOf row));
     state = k .state ∙ ap (λ t. cond t (next entries (abs row p) st) (abs row p)) (never (outline (abs row p)));
     short = k .short;
     issued = k .issued;

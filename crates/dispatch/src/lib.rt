@@ -14,7 +14,7 @@ use records::bare;
 use records::board;
 
 // What a record's step answers and leaves of a row beside what it writes where it is lent: the number of receipts, one
-// view and its place among the eight, and, central, the answer, the registry and the controller.
+// view and its place among the eight, and, central, the answer, who is behind it, the registry and the controller.
 pub struct Sent {
     pub issued: u16,
     pub place: usize,
@@ -46,9 +46,10 @@ pub fn send(
         x (now (joined .exit)) (now (acked .exit)) (now (len .exit))
         (lent (now (store .exit)) (now (store2 .exit)) (now (list .exit)) (now (list2 .exit))) ⌝ }
 {
-    // What is no step: answer 1, and all as it was.
+    // What is no step: answer 1, no one behind it, and all as it was.
     let mut s = Settled {
         answer: 1,
+        behind: 0,
         registry: g,
         controller: c,
     };
@@ -85,6 +86,7 @@ pub fn send(
                     b,
                 );
                 s.answer = x.answer;
+                s.behind = x.behind;
                 n = x.issued;
             } else if step == 3 {
                 s = steps_central::add(g, c, b);

@@ -11,7 +11,8 @@ use Rattle.hub.specs.Whole.{Link, byValue, news, readLeader, read, hear,
 use Rattle.hub.proofs.Putting.{put-back}
 
 -- A row that a run reaches is one that refusal 1 lets through.
-called : {s : RowState} {st : Step} {h h′ : Held} {n : ℕ} → Reached s → Holds s h → Link st h h′ n → Called st h h′ n
+called : {s : RowState} {st : Step} {h h′ : Held} {n q : ℕ} → Reached s → Holds s h → Link st h h′ n q
+    → Called st h h′ n q
 unfolding PutBack
 called k m (byValue d) = d
 called k m (news {h = h} {n = n} {c′ = c′} shape l) = put-back (h .row) (h .places) shape (fit k m) .news n c′ l
@@ -22,8 +23,8 @@ called k m (read {h = h} {b = b} {n = n} {c′ = c′} shape l) =
 called k m (hear {h = h} {b = b} {n = n} {c′ = c′} shape l) =
     put-back (h .row) (h .places) shape (fit k m) .hear b n c′ l
 
-calls : {h h′ : Held} {sts : List Step} {ns : List ℕ} → Links h sts h′ ns → (s : RowState) → Reached s → Holds s h
-    → Calls h sts h′ ns
+calls : {h h′ : Held} {sts : List Step} {ns qs : List ℕ} → Links h sts h′ ns qs → (s : RowState) → Reached s
+    → Holds s h → Calls h sts h′ ns qs
 calls stop s k m = Calls.stop
 calls (link {st = st} l ls) s k m =
     let d = called k m l in
@@ -32,7 +33,7 @@ calls (link {st = st} l ls) s k m =
 
 pub links-safe : LinksSafe
 unfolding LinksSafe
-links-safe o h start sts h′ ns ls =
+links-safe o h start sts h′ ns qs ls =
     let cs = calls ls (opened o) (open-reached o h start) (opening o h start) in
     let e = follow cs (opened o) (open-reached o h start) (opening o h start) in
-    (follows o h start sts h′ ns cs, λ more h″ ms ms′. calls ms′ (after entries o sts) (e .reached) (e .holds))
+    (follows o h start sts h′ ns qs cs, λ more h″ ms ps ls′. calls ls′ (after entries o sts) (e .reached) (e .holds))

@@ -7,10 +7,10 @@ use mathlib.Core.Path.{_≡_, refl, sym, ap, subst, _∙_}
 use Prim.Native.Nat.{ℕ}
 use lib.Dec.{T, leb, eqb}
 use borrow.Author.Tests.{eqb-true, eq-eqb}
-use Rattle.model.specs.Members.{isReplica}
+use Rattle.model.specs.Members.{isReplica, none}
 use Rattle.model.specs.State.{RowState, Outline, outline, entries, stageNumber}
 use Rattle.model.specs.Steps as S
-use Rattle.model.specs.Steps.{Step, nothing, writes, accepted, answerOf, step}
+use Rattle.model.specs.Steps.{Step, nothing, writes, accepted, answerOf, qualified, behind, step}
 use Rattle.model.specs.Ranges.{every, viewRanges, replicaRanges, leaderNamed, controllerLeaderNamed, ranges, inRange}
 use Rattle.model.proofs.Tests.{same-choice, of-true, is-true}
 use Rattle.model.proofs.Range.{AllTrue, of-every, to-every, of-eight, to-eight}
@@ -18,12 +18,20 @@ use Rattle.cluster.specs.declared.Controller.{Controller}
 use Rattle.cluster.specs.declared.Cluster.{Cluster}
 use Rattle.cluster.specs.Layout.{stageOf, at, outlineOf}
 use Rattle.refinement.specs.Refinement.{Places, logged, abs, Shape, Ready, written}
-use Rattle.refinement.proofs.Turning.{logged-full, log-len, outline-abs}
+use Rattle.refinement.proofs.Turning.{bits-none, logged-full, log-len, outline-abs}
 use Rattle.steps.specs.Call.{valid}
 use Rattle.shown.proofs.Valid.{ready, valid-full, valid-range}
 use Rattle.hub.specs.Lent.{registryFits, controllerFits, reportRanges, reportFits, leaderFits, Reported, Lends}
 use Rattle.hub.specs.Whole.{putBack, reportOf, AsWhole, PutBack}
 use Rattle.hub.proofs.Fitting.{registry-fits, hearings, controller-fits}
+
+-- A step that writes no lent place and asks no majority.
+record Plain (st : Step) : Type 0 where
+  places : writes st ≡ nothing
+  quiet : (m : Outline) → qualified m st ≡ none
+
+plain : {st : Step} → writes st ≡ nothing → ((m : Outline) → qualified m st ≡ none) → Plain st
+plain w q = record { places = w; quiet = q }
 
 -- A row that refusal 1 lets through: its parts fit, and what its boards tell does.
 module _ (row : Cluster) (ok : inRange (outlineOf row) ≡ true) where
@@ -89,7 +97,7 @@ module _ (row : Cluster) (p : Places) (shape : Shape row) (v : valid row p ≡ t
   }
 
   -- A lent call that answered and left what the model's step does is a call of the whole row.
-  as-whole : (st : Step) → writes st ≡ nothing → (n : ℕ) (c′ : Controller) → n ≡ answerOf (outline s) st
+  as-whole : (st : Step) → Plain st → (n : ℕ) (c′ : Controller) → n ≡ answerOf (outline s) st
       → abs (putBack row c′) p ≡ step entries s st
       → (n ≢ 0 → c′ ≡ row .controller) → AsWhole st row p n c′
   as-whole st w n c′ a e r =
@@ -98,14 +106,16 @@ module _ (row : Cluster) (p : Places) (shape : Shape row) (v : valid row p ≡ t
       let o′ = outline-abs (putBack row c′) (is-ready .short) (is-ready .issued) p full in
       record {
         answer = a ∙ ap (λ m. answerOf m st) o ∙ ap (λ u. cond u (answerOf (outlineOf row) st) 1) (sym v);
+        behind = bits-none ∙ same-choice (accepted (outlineOf row) st) (w .quiet (outlineOf row))
+            ∙ ap (λ u. cond u (behind (outlineOf row) st) none) (sym v);
         state = e ∙ ap (λ u. cond u (step entries s st) s) (sym v);
         outlined = sym o′ ∙ ap outline e ∙ ap (λ u. cond u (outline (step entries s st)) (outlineOf row)) (sym v);
-        places = same-choice (valid row p && accepted (outlineOf row) st) (ap (λ x. written x row p) w);
+        places = same-choice (valid row p && accepted (outlineOf row) st) (ap (λ x. written x row p) (w .places));
         refused = λ z. ap (putBack row) (r z);
       }
 
   -- It did, where what it was given fits and is so.
-  fitting : (st : Step) → writes st ≡ nothing → (fits : Bool) (Known : RowState → Type 0) (n : ℕ) (c′ : Controller)
+  fitting : (st : Step) → Plain st → (fits : Bool) (Known : RowState → Type 0) (n : ℕ) (c′ : Controller)
       → fits ≡ true → Known s
       → Lends fits Known st (row .controller) n c′ → AsWhole st row p n c′
   fitting st w fits Known n c′ f k l = as-whole st w n c′
@@ -113,7 +123,7 @@ module _ (row : Cluster) (p : Places) (shape : Shape row) (v : valid row p ≡ t
       (l .state s (λ _. k) ∙ ap (λ u. cond u (step entries s st) s) f) (l .refused)
 
   -- It did, where what it was given does not fit, if the step refuses with 1 too.
-  unfitting : (st : Step) → writes st ≡ nothing → (fits : Bool) (Known : RowState → Type 0) (n : ℕ) (c′ : Controller)
+  unfitting : (st : Step) → Plain st → (fits : Bool) (Known : RowState → Type 0) (n : ℕ) (c′ : Controller)
       → fits ≡ false
       → answerOf (outline s) st ≡ 1 → step entries s st ≡ s → Lends fits Known st (row .controller) n c′
       → AsWhole st row p n c′
@@ -126,7 +136,7 @@ module _ (row : Cluster) (p : Places) (shape : Shape row) (v : valid row p ≡ t
 
   -- Steps 12 and 14, of any number b: a board, or none, which both refuse with 1.
   told-whole : (st : Step) (b : ℕ)
-      → ((m : Outline) → isReplica b ≡ false → (answerOf m st ≡ 1) × (accepted m st ≡ false)) → writes st ≡ nothing
+      → ((m : Outline) → isReplica b ≡ false → (answerOf m st ≡ 1) × (accepted m st ≡ false)) → Plain st
       → (n : ℕ) (c′ : Controller) → Lends (reportFits (row .controller) (reportOf row b)) (Reported (reportOf row b)) st
       (row .controller) n c′ → AsWhole st row p n c′
   told-whole st b first w n c′ l = go (isReplica b) refl
@@ -154,10 +164,10 @@ unfolding PutBack
 put-back row p shape v =
     let ok = within row p shape v in
     record {
-      news = λ n c′ l. fitting row p shape v S.refreshController refl _ _ n c′
+      news = λ n c′ l. fitting row p shape v S.refreshController (plain refl λ _. refl) _ _ n c′
           (rw (registry-fit row ok, controller-fit row ok)) refl l;
-      readLeader = λ b n c′ t l. fitting row p shape v S.readLeader refl _ _ n c′
+      readLeader = λ b n c′ t l. fitting row p shape v S.readLeader (plain refl λ _. refl) _ _ n c′
           (leader-fit row b (report-fit row ok b (t .0)) (t .1)) (reported row p shape v b) l;
-      read = λ b n c′ l. told-whole row p shape v (S.read b) b (λ m e. (rw e, rw e)) refl n c′ l;
-      hear = λ b n c′ l. told-whole row p shape v (S.hear b) b (λ m e. (rw e, rw e)) refl n c′ l;
+      read = λ b n c′ l. told-whole row p shape v (S.read b) b (λ m e. (rw e, rw e)) (plain refl λ _. refl) n c′ l;
+      hear = λ b n c′ l. told-whole row p shape v (S.hear b) b (λ m e. (rw e, rw e)) (plain refl λ _. refl) n c′ l;
     }

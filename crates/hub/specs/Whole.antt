@@ -45,10 +45,10 @@ abbrev pub TellsOfLeader : Cluster → ℕ → Type 0
 TellsOfLeader row b =
     (isReplica b ≡ true) × (stageNumber (stageOf (row .controller .stage)) ≡ 1 → b ≡ row .controller .view .leader)
 
--- The call answered n and left c′. With c′ put back, that is a call of the step with the whole row, which leaves the
--- lent places.
+-- The call answered n and left c′. With c′ put back, that is a call of the step with the whole row, which has no one
+-- behind it, as none of the four steps asks a majority, and leaves the lent places.
 abbrev pub AsWhole : Step → Cluster → Places → ℕ → Controller → Type 0
-AsWhole st row p n c′ = Did st row p (record { answer = n; row = putBack row c′ }) p
+AsWhole st row p n c′ = Did st row p (record { answer = n; behind = 0; row = putBack row c′ }) p
 
 pub record LentAsWhole (row : Cluster) (p : Places) : Type 0 where
   pub news : (n : ℕ) (c′ : Controller) → TakesNews (row .controller) (row .registry) n c′
@@ -67,27 +67,30 @@ PutBack = (row : Cluster) (p : Places) → Shape row → valid row p ≡ true �
 abbrev pub putInto : Held → Controller → Held
 putInto h c = record { row = putBack (h .row) c; places = h .places }
 
--- A call of either kind: by record or by name, or over the lent controller, which is then put back.
-pub data Link : Step → Held → Held → ℕ → Type 0 where
-  byValue : {st : Step} {h h′ : Held} {n : ℕ} → Called st h h′ n → Link st h h′ n
+-- A call of either kind, its answer and the mask of those behind it: by record or by name, or over the lent controller,
+-- which is then put back.
+pub data Link : Step → Held → Held → ℕ → ℕ → Type 0 where
+  byValue : {st : Step} {h h′ : Held} {n q : ℕ} → Called st h h′ n q → Link st h h′ n q
   news : {h : Held} {n : ℕ} {c′ : Controller} → Shape (h .row)
-      → TakesNews (h .row .controller) (h .row .registry) n c′ → Link S.refreshController h (putInto h c′) n
+      → TakesNews (h .row .controller) (h .row .registry) n c′ → Link S.refreshController h (putInto h c′) n 0
   readLeader : {h : Held} {b n : ℕ} {c′ : Controller} → Shape (h .row) → TellsOfLeader (h .row) b
-      → ReadsLeader (h .row .controller) (reportOf (h .row) b) n c′ → Link S.readLeader h (putInto h c′) n
+      → ReadsLeader (h .row .controller) (reportOf (h .row) b) n c′ → Link S.readLeader h (putInto h c′) n 0
   read : {h : Held} {b n : ℕ} {c′ : Controller} → Shape (h .row)
-      → Reads (h .row .controller) (reportOf (h .row) b) n c′ → Link (S.read b) h (putInto h c′) n
+      → Reads (h .row .controller) (reportOf (h .row) b) n c′ → Link (S.read b) h (putInto h c′) n 0
   hear : {h : Held} {b n : ℕ} {c′ : Controller} → Shape (h .row)
-      → Hears (h .row .controller) (reportOf (h .row) b) n c′ → Link (S.hear b) h (putInto h c′) n
+      → Hears (h .row .controller) (reportOf (h .row) b) n c′ → Link (S.hear b) h (putInto h c′) n 0
 
--- Calls of both kinds one after the other, and their answers.
-pub data Links : Held → List Step → Held → List ℕ → Type 0 where
-  stop : {h : Held} → Links h [] h []
-  link : {h h′ h″ : Held} {st : Step} {sts : List Step} {n : ℕ} {ns : List ℕ}
-      → Link st h h′ n → Links h′ sts h″ ns → Links h (st ∷ sts) h″ (n ∷ ns)
+-- Calls of both kinds one after the other, their answers and the masks of those behind them.
+pub data Links : Held → List Step → Held → List ℕ → List ℕ → Type 0 where
+  stop : {h : Held} → Links h [] h [] []
+  link : {h h′ h″ : Held} {st : Step} {sts : List Step} {n q : ℕ} {ns qs : List ℕ}
+      → Link st h h′ n q → Links h′ sts h″ ns qs → Links h (st ∷ sts) h″ (n ∷ ns) (q ∷ qs)
 
 -- Demand 3 for lists that mix both kinds, after an opening: what holds after a list of calls by value holds after them,
 -- and a mixed list that follows is a list of such calls, so that what is claimed of "whatever calls follow" is claimed
 -- of it.
 unfoldable pub LinksSafe : Type 0
-LinksSafe = (o : Opening) (h : Held) → Begins o h → (sts : List Step) (h′ : Held) (ns : List ℕ) → Links h sts h′ ns
-    → Follows o sts h′ ns × ((more : List Step) (h″ : Held) (ms : List ℕ) → Links h′ more h″ ms → Calls h′ more h″ ms)
+LinksSafe =
+    (o : Opening) (h : Held) → Begins o h → (sts : List Step) (h′ : Held) (ns qs : List ℕ) → Links h sts h′ ns qs
+    → Follows o sts h′ ns qs
+    × ((more : List Step) (h″ : Held) (ms ps : List ℕ) → Links h′ more h″ ms ps → Calls h′ more h″ ms ps)

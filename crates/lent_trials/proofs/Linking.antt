@@ -20,9 +20,9 @@ held row p = record { row = row; places = p }
 
 -- What is put back is what the call left.
 pub linked : {st : Step} (row : Cluster) (p : Places) (x : Outcome) (t : Told) → x ≡ putTo row t
-    → Link st (held row p) (putInto (held row p) (t .controller)) (t .answer)
-    → Link st (held row p) (held (x .row) p) (x .answer)
-linked {st} row p x t e l = subst (λ y. Link st (held row p) (held (y .row) p) (y .answer)) (sym e) l
+    → Link st (held row p) (putInto (held row p) (t .controller)) (t .answer) 0
+    → Link st (held row p) (held (x .row) p) (x .answer) (x .behind)
+linked {st} row p x t e l = subst (λ y. Link st (held row p) (held (y .row) p) (y .answer) (y .behind)) (sym e) l
 
 -- A board that is the controller's leader if that is one. At stage leader it is: refusal 1 sees to it.
 pub tells-leader : (row : Cluster) (p : Places) → Shape row → valid row p ≡ true → (b : ℕ) → 1 ≤ b → b ≤ 8

@@ -10,12 +10,12 @@ use Rattle.refinement.specs.Refinement.{Places}
 use Rattle.steps.specs.Call.{valid}
 use Rattle.hub.specs.Whole.{putBack, Link}
 
--- The row with the controller that a call left, and the call's answer.
+-- The row with the controller that a call left, and the call's answer, with no one behind it.
 abbrev pub putTo : Cluster → Told → Outcome
-putTo row t = record { answer = t .answer; row = putBack row (t .controller) }
+putTo row t = record { answer = t .answer; behind = 0; row = putBack row (t .controller) }
 
 -- The step is one link of a list that mixes calls by value and over the lent controller. Demand 3 holds for such lists
 -- (`hub::claim`).
 abbrev pub IsLink : Step → Cluster → Outcome → Type 0
 IsLink st row x = (p : Places) → valid row p ≡ true
-    → Link st (record { row = row; places = p }) (record { row = x .row; places = p }) (x .answer)
+    → Link st (record { row = row; places = p }) (record { row = x .row; places = p }) (x .answer) (x .behind)

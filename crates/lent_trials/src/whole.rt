@@ -27,7 +27,8 @@ fn report(row: Cluster, b: u8) -> Report
     }
 }
 
-// The row with the controller as a call left it, and the call's answer. The row's type fixes the lengths of its arrays.
+// The row with the controller as a call left it, and the call's answer, with no one behind it. The row's type fixes the
+// lengths of its arrays.
 fn put_back(row: Cluster, t: Told) -> Outcome
     ensures { λ x. ⌜ (x ≡ putTo row t) × Shape row ⌝ }
 {
@@ -36,6 +37,7 @@ fn put_back(row: Cluster, t: Told) -> Outcome
     next.controller = c;
     Outcome {
         answer: t.answer,
+        behind: 0,
         row: next,
     }
 }

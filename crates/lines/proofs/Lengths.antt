@@ -1,26 +1,30 @@
 -- How long a line is, and how long at most. Assumes nothing.
-use mathlib.Core.Bool.{Bool, true, false, cond}
+use mathlib.Core.Bool.{Bool, true, false, cond, _||_, and-eq-true-iff, false≢true}
 use mathlib.Core.List.{[], _∷_, _++_}
-use mathlib.Core.Path.{_≡_}
-use Prim.Native.Nat.{ℕ, _+_, _*_, _≤_}
+use mathlib.Core.Path.{_≡_, refl}
+use Prim.Native.Nat.{ℕ, _+_, _*_, _≤_, _<_}
 use native.Mathlib.Omega.{arith}
+use lib.Dec.{eqb}
 use lib.ListN.{length, length-append}
-use Rattle.model.specs.Members.{Members}
+use borrow.Author.Tests.{eqb-true}
+use Rattle.model.specs.Members.{Members, bit, size}
 use Rattle.model.specs.State as M
 use Rattle.model.proofs.Range.{ViewInRange}
 use Rattle.text.specs.Text.{Text, digits}
 use Rattle.text.proofs.Laws.{digits-most}
-use Rattle.lines.specs.Lines.{word, space, newline, eight, memberText, membersText, viewText, statusWord, stageWord, lateWord, answerLine, registryLine, controlLine, boardText}
+use Rattle.lines.specs.Lines.{word, space, newline, eight, memberText, membersText, viewText, statusWord, stageWord, lateWord, hasFourth, fourthField, answerLine, registryLine, controlLine, boardText}
 
--- A line by its numbers.
-pub line-length : (k n a : ℕ)
-    → length (answerLine k n a) ≡ length (digits k) + length (digits n) + length (digits a) + 3
+-- A line by its numbers and its fourth field.
+pub line-length : (k n a : ℕ) (q : Members)
+    → length (answerLine k n a q)
+    ≡ length (digits k) + length (digits n) + length (digits a) + length (fourthField n a q) + 3
 unfolding answerLine
-line-length k n a = omega (
+line-length k n a q = omega (
   arith,
-  length-append (digits k) (space ++ (digits n ++ (space ++ (digits a ++ newline)))),
-  length-append (digits n) (space ++ (digits a ++ newline)),
-  length-append (digits a) newline,
+  length-append (digits k) (space ++ (digits n ++ (space ++ (digits a ++ (fourthField n a q ++ newline))))),
+  length-append (digits n) (space ++ (digits a ++ (fourthField n a q ++ newline))),
+  length-append (digits a) (fourthField n a q ++ newline),
+  length-append (fourthField n a q) newline,
 )
 
 -- Eight texts of at most n bytes each.
@@ -39,6 +43,48 @@ unfolding membersText
 members-most m =
     eight-most 1 (memberText m) (member-most (m 1) 49) (member-most (m 2) 50) (member-most (m 3) 51)
     (member-most (m 4) 52) (member-most (m 5) 53) (member-most (m 6) 54) (member-most (m 7) 55) (member-most (m 8) 56)
+
+-- A set has a digit for each of its members.
+member-length : (t : Bool) (x : ℕ) → length (cond {A = Text} t (x ∷ []) []) ≡ bit t
+member-length true x = refl
+member-length false x = refl
+
+pub members-length : (m : Members) → length (membersText m) ≡ size m
+unfolding membersText
+members-length m =
+    simp length-append (omega (
+      arith,
+      member-length (m 1) 49,
+      member-length (m 2) 50,
+      member-length (m 3) 51,
+      member-length (m 4) 52,
+      member-length (m 5) 53,
+      member-length (m 6) 54,
+      member-length (m 7) 55,
+      member-length (m 8) 56,
+    ))
+
+-- The fourth field, where a line has none and where it has one.
+module _ (n a : ℕ) (q : Members) where
+  pub fourth-none : hasFourth n a ≡ false → fourthField n a q ≡ []
+  unfolding fourthField
+  fourth-none e = rw e
+
+  pub fourth-some : hasFourth n a ≡ true → fourthField n a q ≡ space ++ membersText q
+  unfolding fourthField
+  fourth-some e = rw e
+
+-- A line that has one is of an accepted step, whose number has two digits at most.
+pub fourth-of : (n a : ℕ) → hasFourth n a ≡ true → (a ≡ 0) × (n < 16)
+fourth-of n a e =
+    let h = and-eq-true-iff (eqb a 0) (eqb n 2 || (eqb n 13 || eqb n 15)) .0 e in
+    (eqb-true a 0 (h .0), go (eqb n 2) (eqb n 13) (eqb n 15) refl refl refl (h .1))
+  where
+    go : (t u v : Bool) → eqb n 2 ≡ t → eqb n 13 ≡ u → eqb n 15 ≡ v → (t || (u || v)) ≡ true → n < 16
+    go true u v p q r z = omega (arith, eqb-true n 2 p)
+    go false true v p q r z = omega (arith, eqb-true n 13 q)
+    go false false true p q r z = omega (arith, eqb-true n 15 r)
+    go false false false p q r z = absurd (false≢true z)
 
 -- The parts of a view, of a line and of a replica's line, as any texts.
 of-view : (e t l m : Text) → length e ≤ 4 → length t ≤ 4 → length l ≤ 1 → length m ≤ 8

@@ -1,12 +1,13 @@
--- Single lines of a listing of document 01, byte for byte; of a board's mark only its two words, of the receipts' line
--- a single receipt. Cited by the promises of the writers of lines and, through `listing`, of `run_sheet`; its words
+-- Single lines of a listing of document 01, byte for byte, with the fourth field of document 02, Paper 6; of a board's
+-- mark only its two words, of the receipts' line a single receipt. Cited by the promises of the writers of lines and, through `listing`, of `run_sheet`; its words
 -- also by seedline. Assumes nothing.
-use mathlib.Core.Bool.{Bool, cond}
+use mathlib.Core.Bool.{Bool, cond, _&&_, _||_}
 use mathlib.Core.List.{[], _∷_, _++_}
 use Prim.Native.Nat.{ℕ, _+_}
 use Prim.Native.Char.{code}
 use Prim.Native.String as String
 use Prim.Native.String.{String}
+use lib.Dec.{eqb}
 use Rattle.model.specs.Members.{Members}
 use Rattle.model.specs.State as M
 use Rattle.model.specs.State.{Entry, View}
@@ -59,10 +60,20 @@ stageWord M.Stage.choosing = word "choosing"
 
 -- Lines
 
--- "record, step (byte 0 as it is), answer (0 accepted)"
-unfoldable pub answerLine : ℕ → ℕ → ℕ → Text
-unfolding digits
-answerLine k n a = digits k ++ (space ++ (digits n ++ (space ++ (digits a ++ newline))))
+-- "On acceptance of steps 2, 13 and 15 the listing line gains a fourth field" (document 02, Paper 6): the line of step
+-- n with answer a has one.
+abbrev pub hasFourth : ℕ → ℕ → Bool
+hasFourth n a = eqb a 0 && (eqb n 2 || (eqb n 13 || eqb n 15))
+
+-- That field, "with that set as digits": the set q behind the step, and the space before it.
+unfoldable pub fourthField : ℕ → ℕ → Members → Text
+unfolding membersText
+fourthField n a q = cond (hasFourth n a) (space ++ membersText q) []
+
+-- "record, step (byte 0 as it is), answer (0 accepted)", and the fourth field where there is one.
+unfoldable pub answerLine : ℕ → ℕ → ℕ → Members → Text
+unfolding digits fourthField
+answerLine k n a q = digits k ++ (space ++ (digits n ++ (space ++ (digits a ++ (fourthField n a q ++ newline)))))
 
 unfoldable pub registryLine : M.Registry → Text
 unfolding viewText

@@ -1,18 +1,21 @@
 -- The lines of a sheet's records: one more, and the room they take. Assumes nothing.
-use mathlib.Core.List.{List, [], _∷_, _++_, append-assoc, append-nil}
+use mathlib.Core.Bool.{Bool, true, false}
+use mathlib.Core.List.{List, [], _∷_, _++_, map, append-assoc, append-nil, map-append}
 use mathlib.Core.Path.{_≡_, refl, sym, subst, ap, ap₂, _∙_}
 use Prim.Native.Nat.{ℕ, zero, suc, _+_, _-_, _*_, _^_, _≤_, _<_}
 use native.Mathlib.Nat.{add-zero, add-suc}
 use native.Mathlib.Numerals.{add-one}
 use native.Mathlib.Omega.{arith}
-use lib.ListN.{length, take, drop, getD, length-append}
+use lib.ListN.{length, take, drop, getD, length-append, length-map}
 use lib.Seq.{take-suc, length-take-le, getD-drop, drop-drop}
+use Rattle.model.specs.Members.{Members}
 use Rattle.model.specs.Records.{Record}
+use Rattle.cluster.specs.Layout.{bits}
 use Rattle.text.specs.Text.{Text, digits}
 use Rattle.text.proofs.Laws.{digits-most, digits-most-4, digits-most-10}
 use Rattle.records.specs.Bytes.{recordAt, records}
-use Rattle.lines.specs.Lines.{answerLine}
-use Rattle.lines.proofs.Lengths.{line-length}
+use Rattle.lines.specs.Lines.{hasFourth, answerLine}
+use Rattle.lines.proofs.Lengths.{line-length, members-most, fourth-of, fourth-none, fourth-some}
 use Rattle.listing.specs.Listing.{answerLines, lines}
 
 -- One record more.
@@ -24,86 +27,125 @@ records-suc (suc k) s =
     let d : drop (8 * k) (drop 8 s) ≡ drop (8 * suc k) s = drop-drop (8 * k) 8 s ∙ ap (λ m. drop m s) n in
     ap (λ rs. recordAt s ∷ rs) (records-suc k (drop 8 s) ∙ ap (λ t. records k (drop 8 s) ++ (recordAt t ∷ [])) d)
 
--- One record and one answer more are one line more.
-answerLines-suc : (k : ℕ) (rs : List Record) (ns : List ℕ) → length rs ≡ length ns → (r : Record) (n : ℕ)
-    → answerLines k (rs ++ (r ∷ [])) (ns ++ (n ∷ [])) ≡ answerLines k rs ns ++ answerLine (k + length rs) (r .step) n
+-- One record, one answer and one set more are one line more.
+answerLines-suc : (k : ℕ) (rs : List Record) (ns : List ℕ) (qs : List Members) → length rs ≡ length ns
+    → length rs ≡ length qs → (r : Record) (n : ℕ) (q : Members)
+    → answerLines k (rs ++ (r ∷ [])) (ns ++ (n ∷ [])) (qs ++ (q ∷ []))
+    ≡ answerLines k rs ns qs ++ answerLine (k + length rs) (r .step) n q
 unfolding answerLines
-answerLines-suc k [] [] e r n =
-    append-nil (answerLine k (r .step) n) ∙ ap (λ j. answerLine j (r .step) n) (sym (add-zero k))
-answerLines-suc k (q ∷ rs) (m ∷ ns) e r n =
-    let e′ : length rs ≡ length ns = omega (arith, e) in
+answerLines-suc k [] [] [] e f r n q =
+    append-nil (answerLine k (r .step) n q) ∙ ap (λ j. answerLine j (r .step) n q) (sym (add-zero k))
+answerLines-suc k (t ∷ rs) (m ∷ ns) (p ∷ qs) e f r n q =
     let j : suc k + length rs ≡ k + suc (length rs) = omega arith in
-    ap (λ t. answerLine k (q .step) m ++ t) (answerLines-suc (suc k) rs ns e′ r n)
-    ∙ sym (append-assoc (answerLine k (q .step) m) (answerLines (suc k) rs ns)
-    (answerLine (suc k + length rs) (r .step) n))
-    ∙ ap (λ i. (answerLine k (q .step) m ++ answerLines (suc k) rs ns) ++ answerLine i (r .step) n) j
-answerLines-suc k [] (m ∷ ns) e r n = absurd (omega (arith, e))
-answerLines-suc k (q ∷ rs) [] e r n = absurd (omega (arith, e))
+    ap (λ z. answerLine k (t .step) m p ++ z)
+    (answerLines-suc (suc k) rs ns qs (omega (arith, e)) (omega (arith, f)) r n q)
+    ∙ sym (append-assoc (answerLine k (t .step) m p) (answerLines (suc k) rs ns qs)
+    (answerLine (suc k + length rs) (r .step) n q))
+    ∙ ap (λ i. (answerLine k (t .step) m p ++ answerLines (suc k) rs ns qs) ++ answerLine i (r .step) n q) j
+answerLines-suc k [] [] (p ∷ qs) e f r n q = absurd (omega (arith, f))
+answerLines-suc k [] (m ∷ ns) qs e f r n q = absurd (omega (arith, e))
+answerLines-suc k (t ∷ rs) [] qs e f r n q = absurd (omega (arith, e))
+answerLines-suc k (t ∷ rs) (m ∷ ns) [] e f r n q = absurd (omega (arith, f))
 
 records-length : (n : ℕ) (s : Text) → length (records n s) ≡ n
 unfolding records
 records-length zero s = refl
 records-length (suc n) s = ap suc (records-length n (drop 8 s))
 
-pub lines-suc : (s : Text) (ns : List ℕ) (i : ℕ) → i < length ns
-    → lines s ns (suc i) ≡ lines s ns i ++ answerLine (suc i) (getD s (8 * i) 0) (getD ns i 0)
+-- The line of the record after i others.
+abbrev pub lineAt : Text → List ℕ → List ℕ → ℕ → Text
+lineAt s ns ms i = answerLine (i + 1) (getD s (8 * i) 0) (getD ns i 0) (bits (getD ms i 0))
+
+pub lines-none : (s : Text) (ns ms : List ℕ) → lines s ns ms 0 ≡ []
+unfolding lines records answerLines
+lines-none s ns ms = refl
+
+pub one-more : (s : Text) (ns ms : List ℕ) (i : ℕ) → i < length ns → i < length ms
+    → lines s ns ms (i + 1) ≡ lines s ns ms i ++ lineAt s ns ms i
 unfolding lines
-lines-suc s ns i h =
+one-more s ns ms i h k =
     let l : length (records i s) ≡ length (take i ns) = records-length i s ∙ sym (length-take-le i ns (omega arith)) in
+    let l′ : length (records i s) ≡ length (map bits (take i ms)) =
+    records-length i s ∙ sym (length-map (take i ms) bits ∙ length-take-le i ms (omega arith)) in
     let n : 1 + length (records i s) ≡ suc i = omega (arith, records-length i s) in
     let d : getD (drop (8 * i) s) 0 0 ≡ getD s (8 * i) 0 = getD-drop (8 * i) s 0 0
     ∙ ap (λ j. getD s j 0) (add-zero (8 * i)) in
-    ap₂ (answerLines 1) (records-suc i s) (take-suc ns i 0 h)
-    ∙ answerLines-suc 1 (records i s) (take i ns) l (recordAt (drop (8 * i) s)) (getD ns i 0)
-    ∙ ap₂ (λ k n. answerLines 1 (records i s) (take i ns) ++ answerLine k n (getD ns i 0)) n d
-
-pub lines-none : (s : Text) (ns : List ℕ) → lines s ns 0 ≡ []
-unfolding lines records answerLines
-lines-none s ns = refl
+    let sets : map bits (take (suc i) ms) ≡ map bits (take i ms) ++ (bits (getD ms i 0) ∷ []) =
+    ap (map bits) (take-suc ms i 0 k) ∙ map-append bits (take i ms) (getD ms i 0 ∷ []) in
+    rw (add-one i) (
+    (λ j. answerLines 1 (records-suc i s j) (take-suc ns i 0 h j) (sets j))
+    ∙ answerLines-suc 1 (records i s) (take i ns) (map bits (take i ms)) l l′ (recordAt (drop (8 * i) s))
+    (getD ns i 0) (bits (getD ms i 0))
+    ∙ ap₂ (λ j m. answerLines 1 (records i s) (take i ns) (map bits (take i ms))
+    ++ answerLine j m (getD ns i 0) (bits (getD ms i 0))) n d
+    )
 
 -- More records take no less room.
-pub lines-more : (s : Text) (ns : List ℕ) (i d : ℕ) → i + d ≤ length ns
-    → length (lines s ns i) ≤ length (lines s ns (i + d))
-lines-more s ns i zero h = rw (add-zero i) (omega arith)
-lines-more s ns i (suc d) h =
-    rw (add-suc i d) (omega (
+lines-more : (s : Text) (ns ms : List ℕ) (i d : ℕ) → i + d ≤ length ns → i + d ≤ length ms
+    → length (lines s ns ms i) ≤ length (lines s ns ms (i + d))
+lines-more s ns ms i zero h k = rw (add-zero i) (omega arith)
+lines-more s ns ms i (suc d) h k =
+    rw (add-suc i d, ← (add-one (i + d))) (omega (
       arith,
-      lines-more s ns i d (omega (arith, h)),
-      ap length (lines-suc s ns (i + d) (omega (arith, h))),
-      length-append (lines s ns (i + d)) (answerLine (suc (i + d)) (getD s (8 * (i + d)) 0) (getD ns (i + d) 0)),
+      lines-more s ns ms i d (omega (arith, h)) (omega (arith, k)),
+      ap length (one-more s ns ms (i + d) (omega (arith, h)) (omega (arith, k))),
+      length-append (lines s ns ms (i + d)) (lineAt s ns ms (i + d)),
     ))
 
--- The line of the record after i others, as the writer counts.
-abbrev pub lineAt : Text → List ℕ → ℕ → Text
-lineAt s ns i = answerLine (i + 1) (getD s (8 * i) 0) (getD ns i 0)
-
-pub one-more : (s : Text) (ns : List ℕ) (i : ℕ) → i < length ns → lines s ns (i + 1) ≡ lines s ns i ++ lineAt s ns i
-one-more s ns i h = rw (add-one i) (lines-suc s ns i h)
-
 -- Room for the lines of n records is room for each of them after those before it.
-pub lines-room : (s : Text) (ns : List ℕ) (i n : ℕ) → i < n → n ≤ length ns
-    → length (lines s ns i) + length (lineAt s ns i) ≤ length (lines s ns n)
-lines-room s ns i n h l =
+pub lines-room : (s : Text) (ns ms : List ℕ) (i n : ℕ) → i < n → n ≤ length ns → n ≤ length ms
+    → length (lines s ns ms i) + length (lineAt s ns ms i) ≤ length (lines s ns ms n)
+lines-room s ns ms i n h l k =
     let e : i + 1 + (n - (i + 1)) ≡ n = omega (arith, h) in
-    let m = subst (λ k. length (lines s ns (i + 1)) ≤ length (lines s ns k)) e
-    (lines-more s ns (i + 1) (n - (i + 1)) (omega (arith, e, l))) in
-    omega (arith, m, ap length (one-more s ns i (omega (arith, h, l))), length-append (lines s ns i) (lineAt s ns i))
+    let m = subst (λ j. length (lines s ns ms (i + 1)) ≤ length (lines s ns ms j)) e
+    (lines-more s ns ms (i + 1) (n - (i + 1)) (omega (arith, e, l)) (omega (arith, e, k))) in
+    omega (
+      arith,
+      m,
+      ap length (one-more s ns ms i (omega (arith, h, l)) (omega (arith, h, k))),
+      length-append (lines s ns ms i) (lineAt s ns ms i),
+    )
 
 -- How many digits there are at most.
 pub few : (n r : ℕ) → r ≡ length (digits n) → n < 2 ^ 32 → r ≤ 10
 few n r e h = omega (arith, e, digits-most-10 n h)
 
--- A line has at most 12 bytes: four digits of its number, three of the step's byte, two of an answer.
-pub lines-most : (s : Text) (ns : List ℕ) → ((i : ℕ) → getD s i 0 < 256) → (n : ℕ)
-    → ((i : ℕ) → i < n → getD ns i 0 < 100) → n ≤ 4095 → n ≤ length ns → length (lines s ns n) ≤ 12 * n
-lines-most s ns hs zero hn h l = omega (arith, ap length (lines-none s ns))
-lines-most s ns hs (suc n) hn h l = omega (
-  arith,
-  lines-most s ns hs n (λ i q. hn i (omega (arith, q))) (omega (arith, h)) (omega (arith, l)),
-  ap length (lines-suc s ns n (omega (arith, l))),
-  length-append (lines s ns n) (answerLine (suc n) (getD s (8 * n) 0) (getD ns n 0)),
-  line-length (suc n) (getD s (8 * n) 0) (getD ns n 0),
-  digits-most-4 (suc n) (omega (arith, h)),
-  digits-most 2 (getD s (8 * n) 0) (omega (arith, hs (8 * n))),
-  digits-most 1 (getD ns n 0) (omega (arith, hn n (omega arith))),
-)
+-- A line has at most 19 bytes: four digits of its number, three spaces, byte 10 and, with a fourth field, two digits of
+-- its step, one of its answer, eight of the set; with none three of the step's byte and two of an answer.
+line-most : (k n a : ℕ) (q : Members) → k ≤ 4095 → n < 256 → a < 100 → length (answerLine k n a q) ≤ 19
+line-most k n a q hk hn ha = go (hasFourth n a) refl
+  where
+    go : (t : Bool) → hasFourth n a ≡ t → length (answerLine k n a q) ≤ 19
+    go true e =
+        let h = fourth-of n a e in
+        omega (
+          arith,
+          line-length k n a q,
+          ap length (fourth-some n a q e),
+          members-most q,
+          digits-most-4 k (omega (arith, hk)),
+          digits-most 1 n (omega (arith, h .1)),
+          digits-most 0 a (omega (arith, h .0)),
+        )
+    go false e = omega (
+      arith,
+      line-length k n a q,
+      ap length (fourth-none n a q e),
+      digits-most-4 k (omega (arith, hk)),
+      digits-most 2 n (omega (arith, hn)),
+      digits-most 1 a (omega (arith, ha)),
+    )
+
+pub lines-most : (s : Text) (ns ms : List ℕ) → ((i : ℕ) → getD s i 0 < 256) → (n : ℕ)
+    → ((i : ℕ) → i < n → getD ns i 0 < 100) → n ≤ 4095 → n ≤ length ns → n ≤ length ms
+    → length (lines s ns ms n) ≤ 19 * n
+lines-most s ns ms hs zero hn h l k = omega (arith, ap length (lines-none s ns ms))
+lines-most s ns ms hs (suc n) hn h l k =
+    rw (← (add-one n)) (omega (
+      arith,
+      lines-most s ns ms hs n (λ i q. hn i (omega (arith, q))) (omega (arith, h)) (omega (arith, l)) (omega (arith, k)),
+      ap length (one-more s ns ms n (omega (arith, l)) (omega (arith, k))),
+      length-append (lines s ns ms n) (lineAt s ns ms n),
+      line-most (n + 1) (getD s (8 * n) 0) (getD ns n 0) (bits (getD ms n 0)) (omega (arith, h)) (hs (8 * n))
+          (hn n (omega arith)),
+    ))

@@ -1,11 +1,13 @@
--- A listing of document 01, with the mark and the receipts of document 02, byte for byte: the lines of its records and
--- its ending. Cited by the promises of `deliver`, of the writers of the ending and, through `listing`, of
+-- A listing of document 01, with the mark, the receipts and the sets of document 02, byte for byte: the lines of its
+-- records and its ending. Cited by the promises of `deliver`, of the writers of the ending and, through `listing`, of
 -- `run_sheet`. Assumes nothing.
-use mathlib.Core.List.{List, [], _∷_, _++_}
+use mathlib.Core.List.{List, [], _∷_, _++_, map}
 use Prim.Native.Nat.{ℕ, suc}
 use lib.ListN.{length, take}
+use Rattle.model.specs.Members.{Members}
 use Rattle.model.specs.State.{Entry, Outline}
 use Rattle.model.specs.Records.{Record}
+use Rattle.cluster.specs.Layout.{bits}
 use Rattle.text.specs.Text.{Text, digits}
 use Rattle.lines.specs.Lines.{word, space, newline, eight, answerLine, registryLine, controlLine, boardText, receiptText}
 use Rattle.mark.specs.Mark.{lateIn}
@@ -13,16 +15,18 @@ use Rattle.records.specs.Bytes.{records}
 
 -- The records' lines
 
-unfoldable pub answerLines : ℕ → List Record → List ℕ → Text
+-- The lines of records from number k on, with their answers and the sets behind them.
+unfoldable pub answerLines : ℕ → List Record → List ℕ → List Members → Text
 unfolding answerLine
-answerLines k [] ns = []
-answerLines k (r ∷ rs) [] = []
-answerLines k (r ∷ rs) (n ∷ ns) = answerLine k (r .step) n ++ answerLines (suc k) rs ns
+answerLines k [] ns qs = []
+answerLines k (r ∷ rs) [] qs = []
+answerLines k (r ∷ rs) (n ∷ ns) [] = []
+answerLines k (r ∷ rs) (n ∷ ns) (q ∷ qs) = answerLine k (r .step) n q ++ answerLines (suc k) rs ns qs
 
--- The lines of the first n records of s, with the answers ns.
-unfoldable pub lines : Text → List ℕ → ℕ → Text
+-- The lines of the first n records of s, with the answers ns and the sets of the masks ms.
+unfoldable pub lines : Text → List ℕ → List ℕ → ℕ → Text
 unfolding records answerLines
-lines s ns n = answerLines 1 (records n s) (take n ns)
+lines s ns ms n = answerLines 1 (records n s) (take n ns) (map bits (take n ms))
 
 -- The ending
 

@@ -193,3 +193,8 @@ module _ (p : Members) where
   -- A majority among those gathered is a majority among those that pass.
   pub under-quorum : (m : Members) → hasQuorum m (under 9 p) ≡ hasQuorum m p
   under-quorum m = refl
+
+  -- The members among those gathered are the members that pass.
+  pub under-meet : (m : ℕ) → bits m ∩ under 9 p ≡ bits m ∩ p
+  under-meet m = same-members (bits m ∩ under 9 p) (bits m ∩ p) (λ x e. rw (bits-out m x e))
+      (λ x h k. rw (replica x h k, lt-ltb x 9 (omega arith)))

@@ -1,5 +1,5 @@
 -- A step is accepted just where its answer is 0, and no answer is above 16: refusals have the numbers 1 to 16. What a
--- list of checks that answers as the step's own do says of what the step leaves. Assumes nothing.
+-- list of checks that answers as the step's own do says of what the step leaves and hands back. Assumes nothing.
 use mathlib.Core.Bool.{Bool, true, false, cond, _&&_}
 use mathlib.Core.List.{List, [], _∷_}
 use mathlib.Core.Logic.{⊎-elim, _≢_}
@@ -8,8 +8,9 @@ use Prim.Native.Nat.{ℕ, _≤_}
 use native.Mathlib.Omega.{arith}
 use lib.Dec.{T, leb, leb→le}
 use Rattle.model.specs.Prelude.{Check, _else_, firstFailed, passes}
+use Rattle.model.specs.Members.{Members, none}
 use Rattle.model.specs.State.{Entries, State, Outline, outline}
-use Rattle.model.specs.Steps.{Step, append, commit, add, remove, changeLeader, refresh, join, receive, acknowledge, refreshController, readLeader, read, setNormal, hear, install, malformed, checks, accepted, answerOf, next, step}
+use Rattle.model.specs.Steps.{Step, append, commit, add, remove, changeLeader, refresh, join, receive, acknowledge, refreshController, readLeader, read, setNormal, hear, install, malformed, checks, accepted, answerOf, qualified, behind, next, step}
 use Rattle.model.proofs.Tests.{split-and, ne-fact, eq-or-ne, of-true, Holds, facts}
 
 -- Refusals have the numbers 1 to 16.
@@ -90,3 +91,17 @@ module _ (𝓔 : Entries) (s : State (𝓔 .Entry)) (st : Step) (cs : List Check
 
       no : n ≢ 0 → p ≡ part (step 𝓔 s st)
       no h = refused h ∙ left (nonzero-refused (outline s) st (λ z. h (e ∙ same ∙ z)))
+
+-- The step st answers n. The set q that is handed back: no one where it is refused, those that qualify where accepted.
+pub set-left : (m : Outline) (st : Step) (n : ℕ) → n ≡ answerOf m st → (q : Members) → (n ≢ 0 → q ≡ none)
+    → (n ≡ 0 → q ≡ qualified m st) → q ≡ behind m st
+set-left m st n e q refused taken = ⊎-elim yes no (eq-or-ne n 0)
+  where
+    left : {t : Bool} → accepted m st ≡ t → cond t (qualified m st) none ≡ behind m st
+    left a = ap (λ t. cond t (qualified m st) none) (sym a)
+
+    yes : n ≡ 0 → q ≡ behind m st
+    yes z = taken z ∙ left (zero-accepted m st (sym e ∙ z))
+
+    no : n ≢ 0 → q ≡ behind m st
+    no h = refused h ∙ left (nonzero-refused m st (λ z. h (e ∙ z)))

@@ -1,17 +1,18 @@
 -- The count of those that qualify as a set that is a majority, and the three majority questions in document 01's words.
 -- Assumes nothing.
-use mathlib.Core.Bool.{Bool, true, false, not, _&&_, _||_}
+use mathlib.Core.Bool.{Bool, true, false, not, cond, _&&_, _||_}
 use mathlib.Core.Logic.{_⊎_, inl, inr, ⊎-elim, _↔_, _≢_, Iff·rfl}
-use mathlib.Core.Path.{_≡_, refl}
+use mathlib.Core.Path.{_≡_, refl, sym, ap, subst, _∙_}
 use Prim.Native.Nat.{ℕ, zero, suc, _≤_, _<_}
 use native.Mathlib.Omega.{arith}
 use lib.Dec.{T, leb, ltb, eqb, leb→le, le→leb, ltb→lt, lt→ltb, eqb→eq, T-not, not-T}
 use Rattle.model.specs.Prelude.{asks}
-use Rattle.model.specs.Members.{Members, isReplica, _∩_, size, quorum, hasQuorum}
+use Rattle.model.specs.Members.{Members, isReplica, none, _∩_, size, quorum, hasQuorum}
 use Rattle.model.specs.State.{Controller, Outline}
-use Rattle.model.specs.Steps.{Step, commit, setNormal, install, checks, above, countedAbove, heardEnough, rankedNotAbove}
-use Rattle.model.specs.Majority.{SomeMajority, Heard, RanksAbove, Question, Questions, Majorities}
-use Rattle.model.proofs.Tests.{split-and, join-and, eq-test}
+use Rattle.model.specs.Steps.{Step, commit, setNormal, install, checks, answerOf, above, countedAbove, heardEnough, rankedNotAbove, qualified, behind}
+use Rattle.model.specs.Majority.{SomeMajority, Heard, RanksAbove, Question, Questions, AllWith, Sets, Majorities}
+use Rattle.model.proofs.Tests.{split-and, join-and, eq-test, of-true, Holds, facts}
+use Rattle.model.proofs.Answer.{zero-accepted, nonzero-refused}
 use Rattle.model.proofs.Quorum.{size-sub}
 use Rattle.model.proofs.Refusals.{once, once-fails}
 
@@ -128,5 +129,34 @@ module _ (m : Outline) where
     stepFifteen = λ b real member. asking (install b) _ tt (found b member, finds b real);
   }
 
+  -- An accepted step whose question is of the members ms by the test q, which says P.
+  module _ (st : Step) (ms q : Members) (P : ℕ → Type 0) (says : (x : ℕ) → T (q x) ↔ P x)
+      (those : qualified m st ≡ ms ∩ q) (e : answerOf m st ≡ 0) where
+    is-set : behind m st ≡ ms ∩ q
+    is-set = ap (λ t. cond t (qualified m st) none) (zero-accepted m st e) ∙ those
+
+    stood : T (hasQuorum ms q) → AllWith ms P (behind m st)
+    unfolding counted
+    stood t = subst (AllWith ms P) (sym is-set) record {
+      all = λ x. both-say (ms x) (q x) Iff·rfl (says x);
+      majority = counted ms q P says t .majority;
+    }
+
+  sets : Sets m
+  sets = record {
+    stepTwo = λ b e. stood (commit b) (view b .members) (countedAbove (acked b) issued) _
+        (λ x. lt-says issued (acked b x)) refl e (holds (commit b) e 14);
+    stepThirteen = λ e. stood setNormal members (heardEnough controller) _ heard-enough refl e (holds setNormal e 14);
+    stepFifteen = λ b e.
+        let h = split-and (leb 1 (heard b)) (hasQuorum members (fit b)) (holds (install b) e 14) in
+        let z = stood (install b) members (fit b) (Fit b) (not-above b) refl e (h .1) in
+        (z, z .all b .1 (holds (install b) e 5, (some-says (heard b) .0 (h .0), level b)));
+    refused = λ st n. ap (λ t. cond t (qualified m st) none) (nonzero-refused m st n);
+  }
+    where
+      holds : (st : Step) → answerOf m st ≡ 0 → Holds (checks m st)
+      holds st e = facts (checks m st) (of-true (zero-accepted m st e))
+
 pub majorities : Majorities
-majorities = record { counted = λ m q. just m q (λ x. T (q x)) (λ x. Iff·rfl); questions = questions }
+majorities =
+    record { counted = λ m q. just m q (λ x. T (q x)) (λ x. Iff·rfl); questions = questions; sets = sets }

@@ -1,13 +1,14 @@
 -- "Some majority" as document 01 says it, by sets, and that steps 2, 13 and 15 ask for just that: none answers "no
--- majority" where one exists. Cited by the promise of `majorities`. Assumes nothing.
+-- majority" where one exists; and the set that each has behind it where it is accepted, in the words of document 02,
+-- Paper 6. Cited by the promise of `majorities`. Assumes nothing.
 use mathlib.Core.Logic.{_⊎_, _≢_, _↔_}
 use mathlib.Core.Path.{_≡_}
 use Prim.Native.Nat.{ℕ, _≤_, _<_}
 use lib.Dec.{T}
 use Rattle.model.specs.Prelude.{asks}
-use Rattle.model.specs.Members.{Members, isReplica, size, quorum, hasQuorum}
+use Rattle.model.specs.Members.{Members, isReplica, none, size, quorum, hasQuorum}
 use Rattle.model.specs.State.{Controller, Outline}
-use Rattle.model.specs.Steps.{Step, commit, setNormal, install, checks, answerOf}
+use Rattle.model.specs.Steps.{Step, commit, setNormal, install, checks, answerOf, behind}
 
 -- q is a majority of m: a set of its members, of at least as many as "a majority of n boards" is. (That one of just as
 -- many exists is the same.)
@@ -20,6 +21,11 @@ pub record SomeMajority (m : Members) (P : ℕ → Type 0) : Type 0 where
   pub set : Members
   pub majority : MajorityOf m set
   pub each : (x : ℕ) → T (isReplica x) → T (set x) → P x
+
+-- The members of m with P, all of them, are q, and q is a majority.
+pub record AllWith (m : Members) (P : ℕ → Type 0) (q : Members) : Type 0 where
+  pub all : (x : ℕ) → T (q x) ↔ (T (m x) × P x)
+  pub majority : MajorityOf m q
 
 module _ (m : Outline) where
   open Outline m using (controller, view, acked, issued)
@@ -50,8 +56,25 @@ module _ (m : Outline) where
     pub stepFifteen : (b : ℕ) → T (isReplica b) → T (controller .view .members b) → Question (install b)
         ((q : SomeMajority (controller .view .members) (λ x. Heard x × ¬ RanksAbove b x)) × T (q .set b))
 
+  pub record Sets : Type 0 where
+    -- "For a receipt these are the members counted above it,
+    pub stepTwo : (b : ℕ) → answerOf m (commit b) ≡ 0
+        → AllWith (view b .members) (λ x. issued < acked b x) (behind m (commit b))
+    -- for set normal those heard at the leader's heard length or more,
+    pub stepThirteen : answerOf m setNormal ≡ 0
+        → AllWith (controller .view .members) (λ x. Heard x × (heard (controller .view .leader) ≤ heard x))
+        (behind m setNormal)
+    -- for installing those heard and not ranked above the new leader", which is one of them.
+    pub stepFifteen : (b : ℕ) → answerOf m (install b) ≡ 0
+        → AllWith (controller .view .members) (λ x. Heard x × ¬ RanksAbove b x) (behind m (install b))
+        × T (behind m (install b) b)
+    -- A refused step has no one behind it.
+    pub refused : (st : Step) → answerOf m st ≢ 0 → behind m st ≡ none
+
 pub record Majorities : Type 0 where
   -- So many members qualify as a majority is just where some majority of the members qualifies.
   pub counted : (m q : Members) → T (hasQuorum m q) ↔ SomeMajority m (λ x. T (q x))
   -- The checks with refusal 14 are the questions of document 01.
   pub questions : (m : Outline) → Questions m
+  -- Who qualified is behind the step.
+  pub sets : (m : Outline) → Sets m

@@ -35,9 +35,13 @@ size m = bit (m 1) + bit (m 2) + bit (m 3) + bit (m 4) + bit (m 5) + bit (m 6) +
 abbrev pub quorum : ℕ → ℕ
 quorum n = n / 2 + 1
 
+-- As many as a majority of the members m are in q, a set of them.
+abbrev pub isQuorum : Members → Members → Bool
+isQuorum m q = leb (quorum (size m)) (size q)
+
 -- Some majority of the members m lies in q: as many of them do. (That these are the same: Majority.)
 abbrev pub hasQuorum : Members → Members → Bool
-hasQuorum m q = leb (quorum (size m)) (size (m ∩ q))
+hasQuorum m q = isQuorum m (m ∩ q)
 
 -- The lowest replica of a set, 0 for the empty set.
 abbrev pub lowest : Members → ℕ

@@ -4,8 +4,9 @@ use mathlib.Core.Bool.{cond}
 use mathlib.Core.List.{List, [], _∷_, _++_}
 use Prim.Native.Nat.{ℕ}
 use lib.ListN.{length}
+use Rattle.model.specs.Members.{Members}
 use Rattle.model.specs.State.{outline, Entries, State}
-use Rattle.model.specs.Steps.{Step, Writes, appends, commits, receives, nothing, writes, answerOf, accepted, step, entryAt}
+use Rattle.model.specs.Steps.{Step, Writes, appends, commits, receives, nothing, writes, answerOf, accepted, behind, step, entryAt}
 use Rattle.model.specs.Records.{Record, stepOf}
 
 -- The steps that records stand for.
@@ -25,6 +26,11 @@ module _ (𝓔 : Entries) where
   unfoldable pub answers : State Entry → List Step → List ℕ
   answers s [] = []
   answers s (st ∷ sts) = answerOf (outline s) st ∷ answers (step 𝓔 s st) sts
+
+  -- The sets behind them, in order.
+  unfoldable pub setsBehind : State Entry → List Step → List Members
+  setsBehind s [] = []
+  setsBehind s (st ∷ sts) = behind (outline s) st ∷ setsBehind (step 𝓔 s st) sts
 
   -- What an accepted step gives out: step 2 the next entry of b's log, any other nothing.
   abbrev pub gift : State Entry → Writes → List Entry

@@ -7,7 +7,7 @@ use Prim.Native.Nat.{ℕ, suc}
 use lib.Dec.{leb, ltb, eqb}
 use lib.ListN.{length, getD}
 use Rattle.model.specs.Prelude.{upd, Check, _else_, firstFailed, passes}
-use Rattle.model.specs.Members.{Members, isReplica, size, hasQuorum, lowest}
+use Rattle.model.specs.Members.{Members, isReplica, none, _∩_, size, isQuorum, lowest}
 use Rattle.model.specs.State.{Entries, View, Status, normal, waiting, Stage, idle, boards, Registry, Controller, State, Outline, outline, isNormal, isChoosing, stageNumber, stageFor, zeros}
 
 -- The steps, each with its number and document 01's word where ours is another.
@@ -61,7 +61,7 @@ writes malformed = nothing
 abbrev pub raise : Registry → Check
 raise r = ltb (r .view .epoch) 4000 else 7
 
--- The three majority questions, each as the set of those that qualify.
+-- The three majority questions, each as the set of those that qualify, members or not.
 
 -- Step 2: counts above the receipts' length n.
 abbrev pub countedAbove : (ℕ → ℕ) → ℕ → Members
@@ -191,6 +191,29 @@ module _ (m : Outline) where
   abbrev heardBelow : ℕ → Bool
   heardBelow b = ltb (controller .heard b) (suc (len b))
 
+  -- "The majority question now answers with the set of all members that qualify" (document 02, Paper 6): the set of a
+  -- step's question, whatever its other checks say. A step that asks no majority has no one.
+  abbrev pub qualified : Step → Members
+  -- "For a receipt these are the members counted above it,
+  qualified (commit b) = view b .members ∩ countedAbove (acked b) issued
+  -- for set normal those heard at the leader's heard length or more,
+  qualified setNormal = controller .view .members ∩ heardEnough controller
+  -- for installing those heard and not ranked above the new leader."
+  qualified (install b) = controller .view .members ∩ rankedNotAbove controller b
+  qualified (append b value) = none
+  qualified (add b) = none
+  qualified (remove b) = none
+  qualified changeLeader = none
+  qualified (refresh b) = none
+  qualified (join b) = none
+  qualified (receive b) = none
+  qualified (acknowledge a b) = none
+  qualified refreshController = none
+  qualified readLeader = none
+  qualified (read b) = none
+  qualified (hear b) = none
+  qualified malformed = none
+
   -- The checks of each step: first refusal 1 ("1 before a step's own checks"), then those of the paper.
   abbrev pub checks : Step → List Check
   -- 1. Append b, value: "b's leader is b [8]; log under 512 [13]".
@@ -202,7 +225,7 @@ module _ (m : Outline) where
   checks (commit b) = (isReplica b else 1)
       ∷ (leads b else 8)
       ∷ (ltb issued (len b) else 12)
-      ∷ (hasQuorum (view b .members) (countedAbove (acked b) issued) else 14) ∷ []
+      ∷ (isQuorum (view b .members) (qualified (commit b)) else 14) ∷ []
   -- 3. Add b: "not choosing [4]; not a member [5]; raise".
   checks (add b) = (isReplica b else 1)
       ∷ (not (isChoosing (registry .status)) else 4)
@@ -264,7 +287,7 @@ module _ (m : Outline) where
   checks setNormal =
       (atStage boards else 15)
       ∷ (upToDate else 16)
-      ∷ (hasQuorum (controller .view .members) (heardEnough controller) else 14)
+      ∷ (isQuorum (controller .view .members) (qualified setNormal) else 14)
       ∷ raise registry ∷ []
   -- 14. Controller hears b: "stage choosing [15]; b is in the controller's members [5]; b's epoch equals the
   -- controller's [16]; heard length below b's length [12]".
@@ -279,7 +302,7 @@ module _ (m : Outline) where
       ∷ (atStage Stage.choosing else 15)
       ∷ (controller .view .members b else 5)
       ∷ (upToDate else 16)
-      ∷ (leb 1 (controller .heard b) && hasQuorum (controller .view .members) (rankedNotAbove controller b) else 14)
+      ∷ (leb 1 (controller .heard b) && isQuorum (controller .view .members) (qualified (install b)) else 14)
       ∷ raise registry ∷ []
   -- No step.
   checks malformed = (false else 1) ∷ []
@@ -290,6 +313,10 @@ accepted m st = passes (checks m st)
 
 abbrev pub answerOf : Outline → Step → ℕ
 answerOf m st = firstFailed (checks m st)
+
+-- The set behind a step, on acceptance: what a call hands back beside the answer (document 02, Paper 6).
+abbrev pub behind : Outline → Step → Members
+behind m st = cond (accepted m st) (qualified m st) none
 
 -- A state of these parts.
 abbrev fromParts : {E : Type 0} → Registry → Controller

@@ -13,15 +13,16 @@ use borrow.Author.Tests.{ne-eqb}
 use mir.Val.{Fits}
 use mir.Syntax.{w16}
 use Rattle.model.specs.Prelude.{upd}
-use Rattle.model.specs.Members.{isReplica}
+use Rattle.model.specs.Members.{isReplica, none}
 use Rattle.model.specs.State as M
 use Rattle.model.specs.State.{Entry, entry, outline, entries}
-use Rattle.model.specs.Steps.{Step, countedAbove, accepted, answerOf, next}
+use Rattle.model.specs.Steps.{Step, countedAbove, accepted, answerOf, qualified, next}
 use Rattle.model.proofs.Tests.{at-or, by-test, by-cond, eqb-same, upd-same, upd-other, le-or-lt, split-and, is-true, is-false, of-true}
 use Rattle.model.proofs.Quorum.{replica-range}
 use Rattle.model.proofs.Answer.{zero-accepted, nonzero-refused}
 use Rattle.members.specs.Mask.{bits, under}
 use Rattle.members.proofs.Laws.{replica, gathered}
+pub use Rattle.members.proofs.Laws.{bits-none}
 use Rattle.logstore.specs.Log.{place, logOf}
 use Rattle.logstore.proofs.Laws.{pairs-length, pairs-at, pairs-set, log-length, log-other, log-gains}
 use Rattle.cluster.specs.declared.Cluster.{Cluster}
@@ -84,12 +85,13 @@ module _ (row : Cluster) (short : Short (row .len)) (few : row .issued ≤ 512) 
 
   -- A refused step leaves everything.
   pub turns-refused : (st : Step) (n : ℕ) → n ≡ answerOf (outlineOf row) st → n ≢ 0
-      → Turns st row p (record { answer = n; row = row }) p
+      → Turns st row p (record { answer = n; behind = 0; row = row }) p
   turns-refused st n e h =
       let t = nonzero-refused (outlineOf row) st (λ z. h (e ∙ z)) in
       let u : accepted (outline (abs row p)) st ≡ false = ap (λ m. accepted m st) outline-abs ∙ t in
       record {
         answer = e;
+        behind = bits-none ∙ ap (λ x. cond x (qualified (outlineOf row) st) none) (sym t);
         state = ap (λ x. cond x (next entries (abs row p) st) (abs row p)) (sym u);
         short = short;
         issued = few;
@@ -97,16 +99,19 @@ module _ (row : Cluster) (short : Short (row .len)) (few : row .issued ≤ 512) 
         refused = λ _. refl;
       }
 
-  -- An accepted one leaves what the model's does, if it writes what it is to write.
-  pub turns-accepted : (st : Step) (n : ℕ) (row′ : Cluster) (p′ : Places) → n ≡ answerOf (outlineOf row) st → n ≡ 0
+  -- An accepted one leaves what the model's does, if it writes what it is to write, and has those behind it that
+  -- qualify.
+  pub turns-accepted : (st : Step) (n q : ℕ) (row′ : Cluster) (p′ : Places) → n ≡ answerOf (outlineOf row) st → n ≡ 0
+      → bits q ≡ qualified (outlineOf row) st
       → (accepted (outlineOf row) st ≡ true → abs row′ p′ ≡ next entries (abs row p) st)
       → Short (row′ .len) → row′ .issued ≤ 512 → p′ ≡ placesAfter st row p
-      → Turns st row p (record { answer = 0; row = row′ }) p′
-  turns-accepted st n row′ p′ e z f short′ few′ w =
+      → Turns st row p (record { answer = 0; behind = q; row = row′ }) p′
+  turns-accepted st n q row′ p′ e z b f short′ few′ w =
       let t = zero-accepted (outlineOf row) st (sym e ∙ z) in
       let u : accepted (outline (abs row p)) st ≡ true = ap (λ m. accepted m st) outline-abs ∙ t in
       record {
         answer = sym z ∙ e;
+        behind = b ∙ ap (λ x. cond x (qualified (outlineOf row) st) none) (sym t);
         state = f t ∙ ap (λ x. cond x (next entries (abs row p) st) (abs row p)) (sym u);
         short = short′;
         issued = few′;

@@ -7,7 +7,7 @@ use mathlib.Core.Path.{_≡_}
 use Prim.Native.Nat.{ℕ, _≤_}
 use lib.ListN.{length, take, getD, set}
 use Rattle.model.specs.State.{Entry, entry, RowState, entries}
-use Rattle.model.specs.Steps.{Step, Writes, appends, commits, receives, nothing, writes, accepted, answerOf, step}
+use Rattle.model.specs.Steps.{Step, Writes, appends, commits, receives, nothing, writes, accepted, answerOf, behind, step}
 use Rattle.logstore.specs.Log.{pairs, place, logOf}
 use Rattle.cluster.specs.declared.View.{View}
 use Rattle.cluster.specs.declared.Registry.{Registry}
@@ -15,7 +15,7 @@ use Rattle.cluster.specs.declared.Controller.{Controller}
 use Rattle.cluster.specs.declared.Cluster.{Cluster}
 use Rattle.cluster.specs.declared.Outcome.{Outcome}
 use Rattle.cluster.specs.declared.Settled.{Settled}
-use Rattle.cluster.specs.Layout.{registryOf, controllerOf, viewOf, at, atPair, noView, outlineOf}
+use Rattle.cluster.specs.Layout.{bits, registryOf, controllerOf, viewOf, at, atPair, noView, outlineOf}
 pub use Rattle.cluster.specs.Stages.{HasLeader}
 
 -- The lent places of a call: the log store and the committed list (document 01: the receipts), which hold values, and
@@ -110,22 +110,23 @@ written nothing row p = p
 abbrev pub placesAfter : Step → Cluster → Places → Places
 placesAfter st row p = written (writes st) row p
 
--- What the step st of a row and its places answers and leaves: the row of x, the places p′.
+-- What the step st of a row and its places answers, who is behind it, and what it leaves: the row of x, the places p′.
 pub record Turns (st : Step) (row : Cluster) (p : Places) (x : Outcome) (p′ : Places) : Type 0 where
   pub answer : x .answer ≡ answerOf (outlineOf row) st
+  pub behind : bits (x .behind) ≡ behind (outlineOf row) st
   pub state : abs (x .row) p′ ≡ step entries (abs row p) st
   pub short : Short (x .row .len)
   pub issued : x .row .issued ≤ 512
   pub places : p′ ≡ cond (accepted (outlineOf row) st) (placesAfter st row p) p
   pub refused : x .answer ≢ 0 → x .row ≡ row
 
--- The same by the answer n and the row row′ that a step leaves.
-abbrev pub Leaves : Step → Cluster → Places → ℕ → Cluster → Places → Type 0
-Leaves st row p n row′ p′ = Turns st row p (record { answer = n; row = row′ }) p′
+-- The same by the answer n, the mask q of those behind it, and the row row′ that a step leaves.
+abbrev pub Leaves : Step → Cluster → Places → ℕ → ℕ → Cluster → Places → Type 0
+Leaves st row p n q row′ p′ = Turns st row p (record { answer = n; behind = q; row = row′ }) p′
 
--- A step of the registry g and the controller c: what it answers and leaves, whatever the counts, the receipts and the
--- lent places are.
+-- A step of the registry g and the controller c: what it answers, who is behind it and what it leaves, whatever the
+-- counts, the receipts and the lent places are.
 abbrev pub Governs : Step → Registry → Controller → List View → List ℕ → List ℕ → Settled → Type 0
 Governs st g c views joined len x = (acked : List ℕ) (issued : ℕ) (p : Places) → issued ≤ 512 → Full p
     → Leaves st (rowOf g c views joined acked len issued) p
-    (x .answer) (rowOf (x .registry) (x .controller) views joined acked len issued) p
+    (x .answer) (x .behind) (rowOf (x .registry) (x .controller) views joined acked len issued) p

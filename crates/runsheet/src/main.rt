@@ -11,12 +11,11 @@ fn refuse(n: usize) {
     io::write_all(STDOUT_FILENO, b"refused 3\n");
 }
 
-// The longest sheet has 32,760 bytes: of a longer one so much is read that it is seen to be too long. The large buffer
-// has 65,536 bytes and no listing more than 57,790 (include/row.h), so refusal 3 does not happen here; and none has
-// fewer than four.
+// The longest sheet has 32,760 bytes: of a longer one so much is read that it is seen to be too long. No listing has more
+// than 86,455 bytes (include/row.h), so refusal 3 does not happen here; and none has fewer than four.
 fn main() {
     let mut sheet = [0u8; 32768];
-    let mut listing = io::large_buffer();
+    let mut listing = [0u8; 86455];
     let n = io::read_full(STDIN_FILENO, &mut sheet);
     let m = sheet::run_sheet(&sheet[..n], &mut listing);
     if m < 4 {

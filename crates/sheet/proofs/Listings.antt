@@ -7,9 +7,10 @@ use native.Mathlib.Omega.{arith}
 use lib.Dec.{leb}
 use lib.ListN.{length, take, drop, getD, length-append}
 use borrow.Author.Tests.{leb-true}
+use Rattle.model.specs.Members.{none}
 use Rattle.model.specs.State.{entries, outline, Opening, opened}
 use Rattle.model.specs.Records.{openingOf}
-use Rattle.model.specs.Runs.{stepsOf, answers}
+use Rattle.model.specs.Runs.{stepsOf, answers, setsBehind}
 use Rattle.model.specs.Steps.{Step}
 use Rattle.model.specs.Claim.{receipts}
 use Rattle.model.proofs.Theorem.{safe}
@@ -28,15 +29,18 @@ use Rattle.records.proofs.Decoding.{room}
 use Rattle.sheet.proofs.Playing.{sheet-whole, sheet-step, sheet-real, all-most}
 
 -- The first lines of the listing.
-pub lines-are : (s : Text) (k : ℕ) (row : Cluster) (p : Places) (ns : List ℕ) → isSheet s ≡ true → Ran s k row p ns
-    → lines s ns (suc k)
-    ≡ answerLine 1 0 0
+pub lines-are : (s : Text) (k : ℕ) (row : Cluster) (p : Places) (ns ms : List ℕ) → isSheet s ≡ true
+    → Ran s k row p ns ms
+    → lines s ns ms (suc k)
+    ≡ answerLine 1 0 0 none
     ++ answerLines 2 (following s k) (answers entries (opened (openingOf (recordAt s))) (stepsOf (following s k)))
+    (setsBehind entries (opened (openingOf (recordAt s))) (stepsOf (following s k)))
 unfolding lines records answerLines
-lines-are s k row p ns e h =
-    ap (answerLines 1 (recordAt s ∷ following s k)) (h .answered)
-    ∙ ap (λ n. answerLine 1 n 0 ++ answerLines 2 (following s k)
-    (answers entries (opened (openingOf (recordAt s))) (stepsOf (following s k)))) (sheet-step s e)
+lines-are s k row p ns ms e h =
+    ap₂ (answerLines 1 (recordAt s ∷ following s k)) (h .answered) (h .behind)
+    ∙ ap (λ n. answerLine 1 n 0 none ++ answerLines 2 (following s k)
+    (answers entries (opened (openingOf (recordAt s))) (stepsOf (following s k)))
+    (setsBehind entries (opened (openingOf (recordAt s))) (stepsOf (following s k)))) (sheet-step s e)
 
 -- Whatever stands after it, a text is no shorter: so the listing's first line is enough to know that it is long.
 longer : (n : ℕ) (xs ys : Text) → n ≤ length xs → n ≤ length (xs ++ ys)
@@ -46,9 +50,9 @@ longer n xs ys h = omega (arith, length-append xs ys)
 pub lengths-tell : LengthsTell
 unfolding LengthsTell listing listingOf
 lengths-tell s =
-    longer 4 (answerLine 1 0 0) _ (omega (
+    longer 4 (answerLine 1 0 0 none) _ (omega (
       arith,
-      line-length 1 0 0,
+      line-length 1 0 0 none,
       digits-one-length 1 (omega arith),
       digits-one-length 0 (omega arith),
     ))
@@ -75,8 +79,8 @@ refused-holds rest out = (
     refused : (s : Text) → isSheet s ≡ false → Refused s out
     refused s e = let n = no-sheet s out e in (sym (n .0), sym (n .1))
 
-module _ (s : Text) (e : isSheet s ≡ true) (row : Cluster) (p : Places) (ns : List ℕ)
-    (h : Ran s (length s / 8 - 1) row p ns) where
+module _ (s : Text) (e : isSheet s ≡ true) (row : Cluster) (p : Places) (ns ms : List ℕ)
+    (h : Ran s (length s / 8 - 1) row p ns ms) where
   abbrev k : ℕ
   k = length s / 8 - 1
 
@@ -98,18 +102,19 @@ module _ (s : Text) (e : isSheet s ≡ true) (row : Cluster) (p : Places) (ns : 
   kept : take (row .issued) (listed p) ≡ receipts entries opening past
   kept = ap (λ x. x .committed) (h .state) ∙ safe entries opening (sheet-real s e) past .kept
 
-  pub whole : lines s ns (length s / 8) ++ ending (outlineOf row) (take (row .issued) (listed p)) ≡ listing s
+  pub whole : lines s ns ms (length s / 8) ++ ending (outlineOf row) (take (row .issued) (listed p)) ≡ listing s
   unfolding listing listingOf
   whole =
-      ap₂ (λ x y. x ++ y) (ap (lines s ns) (sym some) ∙ lines-are s k row p ns e h) (ap₂ ending (h .outlined) kept)
-      ∙ append-assoc (answerLine 1 0 0) (answerLines 2 (following s k) (answers entries (opened opening) past))
+      ap₂ (λ x y. x ++ y) (ap (lines s ns ms) (sym some) ∙ lines-are s k row p ns ms e h) (ap₂ ending (h .outlined) kept)
+      ∙ append-assoc (answerLine 1 0 0 none)
+      (answerLines 2 (following s k) (answers entries (opened opening) past) (setsBehind entries (opened opening) past))
       (ending (outline (stateAt s k)) (receipts entries opening past))
 
   pub delivered : {text out out′ : Text} {r : ℕ} → text ≡ ending (outlineOf row) (take (row .issued) (listed p))
-      → Delivered (lines s ns (length s / 8) ++ text) out out′ r → (r ≡ result s out) × (out′ ≡ left s out)
+      → Delivered (lines s ns ms (length s / 8) ++ text) out out′ r → (r ≡ result s out) × (out′ ≡ left s out)
   unfolding result left
   delivered {text} {out} {out′} {r} t d =
-      let l : lines s ns (length s / 8) ++ text ≡ listing s = ap (λ x. lines s ns (length s / 8) ++ x) t ∙ whole in (
+      let l : lines s ns ms (length s / 8) ++ text ≡ listing s = ap (λ x. lines s ns ms (length s / 8) ++ x) t ∙ whole in (
         d .answer ∙ ap (λ x. cond (leb (length x) (length out)) (length x) 3) l
             ∙ ap (λ t. cond t (cond (leb (length (listing s)) (length out)) (length (listing s)) 3) 2) (sym e),
         d .left ∙ ap (λ x. cond (leb (length x) (length out)) (over out 0 x) out) l

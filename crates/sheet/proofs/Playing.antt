@@ -1,18 +1,18 @@
 -- One record more of a sheet that is run: the call's promise is the model's step. Assumes nothing.
 use mathlib.Core.Bool.{true, cond, _&&_}
-use mathlib.Core.List.{List, [], _∷_, _++_}
+use mathlib.Core.List.{List, [], _∷_, _++_, map, map-append}
 use mathlib.Core.Path.{_≡_, refl, sym, subst, ap, ap₂, _∙_}
 use Prim.Native.Nat.{ℕ, zero, suc, _+_, _-_, _*_, _/_, _%_, _≤_, _<_}
 use native.Mathlib.Numerals.{add-one}
 use native.Mathlib.Omega.{arith}
 use lib.Dec.{T, eqb, leb, leb→le, eqb→eq}
-use lib.ListN.{length, drop, getD, set, length-set}
+use lib.ListN.{length, take, drop, getD, set, length-set}
 use lib.Seq.{take-suc-set, drop-drop, getD-take}
-use Rattle.model.specs.Members.{isReplica}
+use Rattle.model.specs.Members.{isReplica, none}
 use Rattle.model.specs.State.{RowState, entries, outline, Opening, openingWith, canOpen, opened}
-use Rattle.model.specs.Steps.{Step, answerOf, step}
+use Rattle.model.specs.Steps.{Step, answerOf, behind, step}
 use Rattle.model.specs.Records.{openingOf, Record, stepOf}
-use Rattle.model.specs.Runs.{stepsOf, run, answers}
+use Rattle.model.specs.Runs.{stepsOf, run, answers, setsBehind}
 use Rattle.model.specs.Ranges.{every, eight, inRange, termsInRange, keptInRange}
 use Rattle.model.specs.Claim.{after}
 use Rattle.model.proofs.Tests.{split-and, is-true, of-true}
@@ -23,8 +23,9 @@ use Rattle.model.proofs.Made.{TermIn, terms-made, all-made, kept-in}
 use Rattle.model.proofs.Theorem.{run-append}
 use Rattle.cluster.specs.declared.Cluster.{Cluster}
 use Rattle.cluster.specs.declared.Outcome.{Outcome}
-use Rattle.cluster.specs.Layout.{outlineOf}
+use Rattle.cluster.specs.Layout.{bits, outlineOf}
 use Rattle.refinement.specs.Refinement.{Places, Full, abs, Shape, Ready, Turns}
+use Rattle.refinement.proofs.Turning.{bits-none}
 use Rattle.steps_central.specs.Opening.{Opens, OpenedWith}
 use Rattle.steps.specs.Call.{valid, Did}
 use Rattle.shown.proofs.Valid.{ready, all-tests}
@@ -89,6 +90,12 @@ unfolding answers run
 answers-suc s [] st = refl
 answers-suc s (q ∷ sts) st = ap (λ ns. answerOf (outline s) q ∷ ns) (answers-suc (step entries s q) sts st)
 
+sets-suc : (s : RowState) (sts : List Step) (st : Step)
+    → setsBehind entries s (sts ++ (st ∷ [])) ≡ setsBehind entries s sts ++ (behind (outline (run entries s sts)) st ∷ [])
+unfolding setsBehind run
+sets-suc s [] st = refl
+sets-suc s (q ∷ sts) st = ap (λ qs. behind (outline s) q ∷ qs) (sets-suc (step entries s q) sts st)
+
 -- No answer is above 16.
 answers-most : (t : RowState) (sts : List Step) (i : ℕ) → getD (answers entries t sts) i 0 ≤ 16
 unfolding answers
@@ -100,8 +107,8 @@ pub all-most : (t : RowState) (sts : List Step) (i : ℕ) → getD (0 ∷ answer
 all-most t sts zero = omega arith
 all-most t sts (suc i) = answers-most t sts i
 
-module _ (s : Text) (sheet : isSheet s ≡ true) (k : ℕ) (row : Cluster) (p : Places) (ns : List ℕ)
-    (h : Ran s k row p ns) where
+module _ (s : Text) (sheet : isSheet s ≡ true) (k : ℕ) (row : Cluster) (p : Places) (ns ms : List ℕ)
+    (h : Ran s k row p ns ms) where
   abbrev opening : Opening
   opening = openingOf (recordAt s)
 
@@ -139,7 +146,7 @@ module _ (s : Text) (sheet : isSheet s ≡ true) (k : ℕ) (row : Cluster) (p : 
 
   -- The record r that stands next, and the call of it.
   module _ (r : Record) (place : r ≡ recordAt (drop (8 * k + 8) s)) {x : Outcome} {p′ : Places}
-      (t : Turns (stepOf r) row p x p′) (small : k + 1 < length ns) where
+      (t : Turns (stepOf r) row p x p′) (small : k + 1 < length ns) (few : k + 1 < length ms) where
     valid-here : valid row p ≡ true
     valid-here =
         all-tests row p (h .full) ran-fits ∙ ap keptInRange (h .state) ∙ is-true (keptInRange (stateAt s k)) kept-fits
@@ -155,7 +162,7 @@ module _ (s : Text) (sheet : isSheet s ≡ true) (k : ℕ) (row : Cluster) (p : 
     unfolding run
     reached = sym (run-append entries (opened opening) past (stepOf r ∷ [])) ∙ ap (after entries opening) (sym more)
 
-    pub ran-more : Ran s (k + 1) (x .row) p′ (set ns (k + 1) (x .answer))
+    pub ran-more : Ran s (k + 1) (x .row) p′ (set ns (k + 1) (x .answer)) (set ms (k + 1) (x .behind))
     ran-more = rw (add-one k) record {
       state = t .state ∙ ap (λ y. step entries y (stepOf r)) (h .state) ∙ reached;
       outlined =
@@ -165,18 +172,26 @@ module _ (s : Text) (sheet : isSheet s ≡ true) (k : ℕ) (row : Cluster) (p : 
           ∙ ap₂ (λ xs n. xs ++ (n ∷ [])) (h .answered) (t .answer ∙ ap (λ o. answerOf o (stepOf r)) (h .outlined))
           ∙ ap (λ xs. 0 ∷ xs) (sym (answers-suc (opened opening) past (stepOf r))
           ∙ ap (answers entries (opened opening)) (sym more));
+      behind = ap (map bits) (take-suc-set ms (suc k) (x .behind) (omega arith))
+          ∙ map-append bits (take (suc k) ms) (x .behind ∷ [])
+          ∙ ap₂ (λ xs q. xs ++ (q ∷ [])) (h .behind) (t .behind ∙ ap (λ o. behind o (stepOf r)) (h .outlined))
+          ∙ ap (λ xs. none ∷ xs) (sym (sets-suc (opened opening) past (stepOf r))
+          ∙ ap (setsBehind entries (opened opening)) (sym more));
       full = did-full (stepOf r) row p did (h .full);
       room = length-set ns (suc k) (x .answer) ∙ h .room;
+      sets = length-set ms (suc k) (x .behind) ∙ h .sets;
     }
 
 -- Nothing but the opening.
 pub ran-none : (s : Text) (row : Cluster) → OpenedWith (openingOf (recordAt s)) row → (p : Places) → Full p
-    → (ns : List ℕ) → length ns ≡ 4096 → Ran s 0 row p (set ns 0 0)
-unfolding records run answers
-ran-none s row o p full ns room = record {
+    → (ns ms : List ℕ) → length ns ≡ 4096 → length ms ≡ 4096 → Ran s 0 row p (set ns 0 0) (set ms 0 0)
+unfolding records run answers setsBehind
+ran-none s row o p full ns ms room sets = record {
   state = o .state p;
   outlined = o .outline;
   answered = take-suc-set ns 0 0 (omega arith);
+  behind = ap (map bits) (take-suc-set ms 0 0 (omega arith)) ∙ ap (λ q. q ∷ []) bits-none;
   full = full;
   room = length-set ns 0 0 ∙ room;
+  sets = length-set ms 0 0 ∙ sets;
 }

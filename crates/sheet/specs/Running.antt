@@ -1,14 +1,15 @@
 -- How far a sheet has been run. Cited by the contracts of the runner. Assumes nothing.
-use mathlib.Core.List.{List, _∷_}
+use mathlib.Core.List.{List, _∷_, map}
 use mathlib.Core.Path.{_≡_}
 use Prim.Native.Nat.{ℕ, suc}
 use lib.ListN.{length, take, drop}
+use Rattle.model.specs.Members.{none}
 use Rattle.model.specs.State.{RowState, entries, outline, opened}
 use Rattle.model.specs.Records.{openingOf, Record}
-use Rattle.model.specs.Runs.{stepsOf, answers}
+use Rattle.model.specs.Runs.{stepsOf, answers, setsBehind}
 use Rattle.model.specs.Claim.{after}
 use Rattle.cluster.specs.declared.Cluster.{Cluster}
-use Rattle.cluster.specs.Layout.{outlineOf}
+use Rattle.cluster.specs.Layout.{bits, outlineOf}
 use Rattle.refinement.specs.Refinement.{Places, Full, abs}
 use Rattle.text.specs.Text.{Text}
 use Rattle.records.specs.Bytes.{recordAt, records}
@@ -21,11 +22,14 @@ following s k = records k (drop 8 s)
 abbrev pub stateAt : Text → ℕ → RowState
 stateAt s k = after entries (openingOf (recordAt s)) (stepsOf (following s k))
 
--- The sheet s was run up to there: the row and the lent places stand for the model's state, and ns has the answers from
--- its first place on.
-pub record Ran (s : Text) (k : ℕ) (row : Cluster) (p : Places) (ns : List ℕ) : Type 0 where
+-- The sheet s was run up to there: the row and the lent places stand for the model's state, and from their first places
+-- on ns has the answers and ms the masks of the sets behind them. (The opening asks no majority.)
+pub record Ran (s : Text) (k : ℕ) (row : Cluster) (p : Places) (ns ms : List ℕ) : Type 0 where
   pub state : abs row p ≡ stateAt s k
   pub outlined : outlineOf row ≡ outline (stateAt s k)
   pub answered : take (suc k) ns ≡ 0 ∷ answers entries (opened (openingOf (recordAt s))) (stepsOf (following s k))
+  pub behind : map bits (take (suc k) ms)
+      ≡ none ∷ setsBehind entries (opened (openingOf (recordAt s))) (stepsOf (following s k))
   pub full : Full p
   pub room : length ns ≡ 4096
+  pub sets : length ms ≡ 4096

@@ -7,9 +7,10 @@ use mathlib.Core.Path.{_≡_}
 use Prim.Native.Nat.{ℕ, _-_, _/_, _≤_}
 use lib.Dec.{leb}
 use lib.ListN.{length, drop, replicate}
+use Rattle.model.specs.Members.{none}
 use Rattle.model.specs.State.{entries, outline, Opening, opened}
 use Rattle.model.specs.Records.{openingOf, Record}
-use Rattle.model.specs.Runs.{stepsOf, answers}
+use Rattle.model.specs.Runs.{stepsOf, answers, setsBehind}
 use Rattle.model.specs.Claim.{after, receipts}
 use Rattle.text.specs.Text.{Text, over}
 use Rattle.records.specs.Bytes.{recordAt, records, isSheet}
@@ -18,11 +19,12 @@ use Rattle.listing.specs.Listing.{answerLines, ending}
 
 -- The listing
 
--- The listing of the opening o and the records rs: the answers, then the state, then the receipts given.
+-- The listing of the opening o and the records rs: the answers and the sets behind them, then the state, then the
+-- receipts given.
 unfoldable pub listingOf : Opening → List Record → Text
 unfolding answerLine answerLines ending
-listingOf o rs = answerLine 1 0 0
-    ++ (answerLines 2 rs (answers entries (opened o) (stepsOf rs))
+listingOf o rs = answerLine 1 0 0 none
+    ++ (answerLines 2 rs (answers entries (opened o) (stepsOf rs)) (setsBehind entries (opened o) (stepsOf rs))
     ++ ending (outline (after entries o (stepsOf rs))) (receipts entries o (stepsOf rs)))
 
 -- The listing of a sheet that refusal 2 lets through.
@@ -51,7 +53,7 @@ left s out = cond (isSheet s && leb (length (listing s)) (length out)) (over out
 -- Trials
 
 -- The sample of document 01: opening 1; append 1, 41; receipt by 1; add 2. Its listing as document 02 has it: boards
--- `late` (Paper 1), the receipt `41@1` (Paper 4).
+-- `late` (Paper 1), the receipt `41@1` (Paper 4), board 1 behind it (Paper 6).
 abbrev pub sampleSheet : Text
 sampleSheet =
     0 ∷ 1 ∷ 0 ∷ 0 ∷ 0 ∷ 0 ∷ 0 ∷ 0
@@ -61,12 +63,12 @@ sampleSheet =
 
 abbrev pub sampleListing : Text
 sampleListing =
-    word "1 0 0\n2 1 0\n3 2 0\n4 3 0\nregistry 2 1 1 12 waiting\ncontrol 1 1 1 1 idle\nboard 1 1 1 1 1 1 1 late\nboard 2 1 1 1 1 1 0 late\n"
+    word "1 0 0\n2 1 0\n3 2 0 1\n4 3 0\nregistry 2 1 1 12 waiting\ncontrol 1 1 1 1 idle\nboard 1 1 1 1 1 1 1 late\nboard 2 1 1 1 1 1 0 late\n"
     ++ word "board 3 1 1 1 1 1 0 late\nboard 4 1 1 1 1 1 0 late\nboard 5 1 1 1 1 1 0 late\nboard 6 1 1 1 1 1 0 late\nboard 7 1 1 1 1 1 0 late\n"
     ++ word "board 8 1 1 1 1 1 0 late\nreceipts 1 41@1\n"
 
 unfoldable pub SampleHolds : Type 0
-SampleHolds = (isSheet sampleSheet ≡ true) × (listing sampleSheet ≡ sampleListing) × (length sampleListing ≡ 287)
+SampleHolds = (isSheet sampleSheet ≡ true) × (listing sampleSheet ≡ sampleListing) × (length sampleListing ≡ 289)
 
 -- A slice of n bytes.
 abbrev pub slice : ℕ → Text
@@ -76,9 +78,9 @@ slice n = replicate n 255
 -- those past the listing.
 unfoldable pub RoomHolds : Type 0
 RoomHolds =
-    (result sampleSheet (slice 286) ≡ 3) × (left sampleSheet (slice 286) ≡ slice 286)
-    × (result sampleSheet (slice 287) ≡ 287) × (left sampleSheet (slice 287) ≡ sampleListing)
-    × (result sampleSheet (slice 289) ≡ 287) × (left sampleSheet (slice 289) ≡ sampleListing ++ slice 2)
+    (result sampleSheet (slice 288) ≡ 3) × (left sampleSheet (slice 288) ≡ slice 288)
+    × (result sampleSheet (slice 289) ≡ 289) × (left sampleSheet (slice 289) ≡ sampleListing)
+    × (result sampleSheet (slice 291) ≡ 289) × (left sampleSheet (slice 291) ≡ sampleListing ++ slice 2)
 
 -- The record of an opening.
 abbrev pub openingBytes : ℕ → Text

@@ -27,6 +27,7 @@ pub fn answers(sheet: &[u8]) -> [u8; 4096]
     let mut list = [0u32; 512];
     let mut list2 = [0u16; 512];
     let mut answers = [0u8; 4096];
+    let mut sets = [0u8; 4096];
     running::play(
         sheet,
         &mut store,
@@ -34,6 +35,7 @@ pub fn answers(sheet: &[u8]) -> [u8; 4096]
         &mut list,
         &mut list2,
         &mut answers,
+        &mut sets,
     );
     answers
 }
@@ -53,6 +55,7 @@ pub fn run_sheet(sheet: &[u8], listing: &mut [u8]) -> usize
     let mut list = [0u32; 512];
     let mut list2 = [0u16; 512];
     let mut answers = [0u8; 4096];
+    let mut sets = [0u8; 4096];
     let row = running::play(
         sheet,
         &mut store,
@@ -60,8 +63,9 @@ pub fn run_sheet(sheet: &[u8], listing: &mut [u8]) -> usize
         &mut list,
         &mut list2,
         &mut answers,
+        &mut sets,
     );
     let mut end = [0u8; 8704];
     let n = listing::ending::put_ending(&mut end, row, &list, &list2);
-    listing::answers::deliver(sheet, &answers, &end[..n], listing)
+    listing::answers::deliver(sheet, &answers, &sets, &end[..n], listing)
 }

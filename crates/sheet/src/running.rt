@@ -47,17 +47,18 @@ fn walk(
     list: &mut [u32],
     list2: &mut [u16],
     answers: &mut [u8],
+    sets: &mut [u8],
 ) -> Carried
     requires { ⌜ (isSheet (now sheet) ≡ true)
         × Shape (rowOf (o .registry) (o .controller) (o .views) (now joined) (now acked) (now len) (o .issued))
         × Ran (now sheet) 0
         (rowOf (o .registry) (o .controller) (o .views) (now joined) (now acked) (now len) (o .issued))
-        (lent (now store) (now store2) (now list) (now list2)) (now answers) ⌝ }
+        (lent (now store) (now store2) (now list) (now list2)) (now answers) (now sets) ⌝ }
     ensures { λ r. ⌜ Ran (now (sheet .entry)) (length (now (sheet .entry)) / 8 - 1)
         (rowOf (r .registry) (r .controller) (r .views)
         (now (joined .exit)) (now (acked .exit)) (now (len .exit)) (r .issued))
         (lent (now (store .exit)) (now (store2 .exit)) (now (list .exit)) (now (list2 .exit)))
-        (now (answers .exit)) ⌝ }
+        (now (answers .exit)) (now (sets .exit)) ⌝ }
 {
     let n = sheet.len() / 8 - 1;
     let mut g = o.registry;
@@ -83,6 +84,7 @@ fn walk(
         );
         let s = x.central;
         answers[k + 1] = s.answer;
+        sets[k + 1] = s.behind;
         issued = x.issued;
         let i = x.place;
         let v = x.view;
@@ -101,8 +103,8 @@ fn walk(
     }
 }
 
-// The whole sheet. Inner layer: callers see to it that refusal 2 lets the sheet through, and that the lent places have
-// their lengths.
+// The whole sheet: its answers, and the sets behind them as masks. Inner layer: callers see to it that refusal 2 lets the
+// sheet through, and that the lent places have their lengths.
 pub fn play(
     sheet: &[u8],
     store: &mut [u32],
@@ -110,17 +112,19 @@ pub fn play(
     list: &mut [u32],
     list2: &mut [u16],
     answers: &mut [u8],
+    sets: &mut [u8],
 ) -> Cluster
     requires { ⌜
         (isSheet (now sheet) ≡ true) × Full (lent (now store) (now store2) (now list) (now list2))
-        × (length (now answers) ≡ 4096)
+        × (length (now answers) ≡ 4096) × (length (now sets) ≡ 4096)
         ⌝ }
     ensures { λ r. ⌜ Ran (now (sheet .entry)) (length (now (sheet .entry)) / 8 - 1) r
         (lent (now (store .exit)) (now (store2 .exit)) (now (list .exit)) (now (list2 .exit)))
-        (now (answers .exit)) ⌝ }
+        (now (answers .exit)) (now (sets .exit)) ⌝ }
 {
     let row = begin(sheet);
     answers[0] = 0;
+    sets[0] = 0;
     let g = row.registry;
     let c = row.controller;
     let views = row.views;
@@ -144,6 +148,7 @@ pub fn play(
         &mut *list,
         &mut *list2,
         &mut *answers,
+        &mut *sets,
     );
     let h = x.registry;
     let d = x.controller;

@@ -3,14 +3,15 @@ use mathlib.Core.Bool.{Bool, true, false, cond, _&&_}
 use mathlib.Core.Path.{_≡_, sym, subst, ap, _∙_}
 use Prim.Native.Nat.{ℕ}
 use lib.ListN.{length-set}
+use Rattle.model.specs.Members.{none}
 use Rattle.model.specs.State.{Entry, outline, entries}
-use Rattle.model.specs.Steps.{Step, Writes, appends, commits, receives, nothing, writes, accepted, answerOf, step}
+use Rattle.model.specs.Steps.{Step, Writes, appends, commits, receives, nothing, writes, accepted, answerOf, behind, step}
 use Rattle.model.proofs.Tests.{by-cond}
 use Rattle.cluster.specs.declared.Cluster.{Cluster}
 use Rattle.cluster.specs.declared.Outcome.{Outcome}
-use Rattle.cluster.specs.Layout.{outlineOf}
+use Rattle.cluster.specs.Layout.{bits, outlineOf}
 use Rattle.refinement.specs.Refinement.{Places, Full, abs, putLog, putList, written, placesAfter, Turns}
-use Rattle.refinement.proofs.Turning.{outline-abs}
+use Rattle.refinement.proofs.Turning.{bits-none, outline-abs}
 use Rattle.steps.specs.Call.{valid, Did}
 
 -- The lent places keep their lengths.
@@ -42,9 +43,10 @@ kept-full t st row p e f = subst Full (sym e) (by-cond Full t (λ _. written-ful
 
 module _ (st : Step) (row : Cluster) (p : Places) where
   -- Refusal 1.
-  pub did-refused : valid row p ≡ false → (x : Outcome) → x .answer ≡ 1 → x .row ≡ row → Did st row p x p
-  did-refused v x ea er = record {
+  pub did-refused : valid row p ≡ false → (x : Outcome) → x .answer ≡ 1 → x .behind ≡ 0 → x .row ≡ row → Did st row p x p
+  did-refused v x ea eb er = record {
     answer = ea ∙ ap (λ t. cond t (answerOf (outlineOf row) st) 1) (sym v);
+    behind = ap bits eb ∙ bits-none ∙ ap (λ t. cond t (behind (outlineOf row) st) none) (sym v);
     state = ap (λ y. abs y p) er ∙ ap (λ t. cond t (step entries (abs row p) st) (abs row p)) (sym v);
     outlined = ap outlineOf er ∙ ap (λ t. cond t (outline (step entries (abs row p) st)) (outlineOf row)) (sym v);
     places = ap (λ t. cond (t && accepted (outlineOf row) st) (placesAfter st row p) p) (sym v);
@@ -61,6 +63,7 @@ module _ (st : Step) (row : Cluster) (p : Places) where
       let full′ = kept-full (accepted (outlineOf row) st) st row p (t .places) full in
       record {
         answer = t .answer ∙ ap (λ u. cond u (answerOf (outlineOf row) st) 1) (sym v);
+        behind = t .behind ∙ ap (λ u. cond u (behind (outlineOf row) st) none) (sym v);
         state = t .state ∙ ap (λ u. cond u (step entries (abs row p) st) (abs row p)) (sym v);
         outlined = sym (outline-abs (x .row) (t .short) (t .issued) p′ full′) ∙ ap outline (t .state)
             ∙ ap (λ u. cond u (outline (step entries (abs row p) st)) (outlineOf row)) (sym v);

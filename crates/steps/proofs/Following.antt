@@ -1,12 +1,13 @@
 -- Calls follow the model's run: by induction over the list, each call's promise is the model's step. Assumes nothing.
 use mathlib.Core.Bool.{true, cond}
-use mathlib.Core.List.{List, _∷_, _++_}
+use mathlib.Core.List.{List, _∷_, _++_, map}
 use mathlib.Core.Path.{_≡_, refl, sym, subst, ap, _∙_}
 use Prim.Native.Nat.{ℕ}
 use Rattle.model.specs.Prelude.{_⊑_}
+use Rattle.model.specs.Members.{none}
 use Rattle.model.specs.State.{RowState, entries, Entry, outline, Opening, openingWith, canOpen, opened}
-use Rattle.model.specs.Steps.{Step, answerOf, step}
-use Rattle.model.specs.Runs.{run, answers}
+use Rattle.model.specs.Steps.{Step, answerOf, behind, step}
+use Rattle.model.specs.Runs.{run, answers, setsBehind}
 use Rattle.model.specs.Ranges.{inRange, keptInRange}
 use Rattle.model.specs.Claim.{LeadsUnder, after, receipts, Safe}
 use Rattle.model.proofs.Tests.{is-true}
@@ -15,7 +16,7 @@ use Rattle.model.proofs.Range.{from-ranges}
 use Rattle.model.proofs.Theorem.{opened-inv, step-keeps, run-append, safe}
 use Rattle.model.proofs.Bounds.{Bounds, opened-bounds, step-bounds, all-in}
 use Rattle.model.proofs.Made.{Kept, TermIn, terms-made, opened-made, step-made, kept-in}
-use Rattle.cluster.specs.Layout.{outlineOf}
+use Rattle.cluster.specs.Layout.{bits, outlineOf}
 use Rattle.refinement.specs.Refinement.{Full}
 use Rattle.steps.specs.Call.{valid}
 use Rattle.steps.specs.Calls.{Held, stateOf, Called, Calls, stop, call, Begins, Follows, CallsSafe}
@@ -41,19 +42,22 @@ fit {s} {h} k m =
     ∙ is-true (inRange (outline s)) (from-ranges (outline s) (all-in (k .inv) (k .bounds))))
     ∙ ap keptInRange (m .state) ∙ is-true (keptInRange s) (kept-in (k .kept))
 
--- A call goes on to the model's next state, with the model's answer.
-pub record Goes (s : RowState) (st : Step) (h : Held) (n : ℕ) : Type 0 where
+-- A call goes on to the model's next state, with the model's answer and set.
+pub record Goes (s : RowState) (st : Step) (h : Held) (n q : ℕ) : Type 0 where
   pub answered : n ≡ answerOf (outline s) st
+  pub behind : bits q ≡ behind (outline s) st
   pub reached : Reached (step entries s st)
   pub holds : Holds (step entries s st) h
 
-pub goes : {s : RowState} {st : Step} {h h′ : Held} {n : ℕ} → Reached s → Holds s h → Called st h h′ n → Goes s st h′ n
+pub goes : {s : RowState} {st : Step} {h h′ : Held} {n q : ℕ} → Reached s → Holds s h → Called st h h′ n q
+    → Goes s st h′ n q
 goes {s} {st} {h} {h′} k m d =
     let v = fit k m in
     let i = step-keeps entries (k .inv) st in
     record {
       answered = d .answer ∙ ap (λ t. cond t (answerOf (outlineOf (h .row)) st) 1) v
           ∙ ap (λ x. answerOf x st) (m .outlined);
+      behind = d .behind ∙ ap (λ t. cond t (behind (outlineOf (h .row)) st) none) v ∙ ap (λ x. behind x st) (m .outlined);
       reached = record {
         history = i .history;
         inv = i .inv;
@@ -69,20 +73,26 @@ goes {s} {st} {h} {h′} k m d =
       };
     }
 
--- After calls of sts from s: the model's answers, and the model's state.
-pub record Ends (s : RowState) (sts : List Step) (h : Held) (ns : List ℕ) : Type 0 where
+-- After calls of sts from s: the model's answers and sets, and the model's state.
+pub record Ends (s : RowState) (sts : List Step) (h : Held) (ns qs : List ℕ) : Type 0 where
   pub answered : ns ≡ answers entries s sts
+  pub behind : map bits qs ≡ setsBehind entries s sts
   pub reached : Reached (run entries s sts)
   pub holds : Holds (run entries s sts) h
 
-pub follow : {h h′ : Held} {sts : List Step} {ns : List ℕ} → Calls h sts h′ ns → (s : RowState) → Reached s → Holds s h
-    → Ends s sts h′ ns
-unfolding run answers
-follow stop s k m = record { answered = refl; reached = k; holds = m }
+pub follow : {h h′ : Held} {sts : List Step} {ns qs : List ℕ} → Calls h sts h′ ns qs → (s : RowState) → Reached s
+    → Holds s h → Ends s sts h′ ns qs
+unfolding run answers setsBehind
+follow stop s k m = record { answered = refl; behind = refl; reached = k; holds = m }
 follow (call {st = st} d cs) s k m =
     let g = goes k m d in
     let z = follow cs (step entries s st) (g .reached) (g .holds) in
-    record { answered = λ j. g .answered j ∷ z .answered j; reached = z .reached; holds = z .holds }
+    record {
+      answered = λ j. g .answered j ∷ z .answered j;
+      behind = λ j. g .behind j ∷ z .behind j;
+      reached = z .reached;
+      holds = z .holds;
+    }
 
 module _ (o : Opening) (h : Held) (start : Begins o h) where
   pub opening : Holds (opened o) h
@@ -102,16 +112,16 @@ module _ (o : Opening) (h : Held) (start : Begins o h) where
     kept = opened-made entries TermIn terms-made o;
   }
 
-  module _ (sts : List Step) (h′ : Held) (ns : List ℕ) (calls : Calls h sts h′ ns) where
-    here : Ends (opened o) sts h′ ns
+  module _ (sts : List Step) (h′ : Held) (ns qs : List ℕ) (calls : Calls h sts h′ ns qs) where
+    here : Ends (opened o) sts h′ ns qs
     here = follow calls (opened o) open-reached opening
 
     model : Safe entries o sts
     model = safe entries o (start .real) sts
 
-    later : (more : List Step) (h″ : Held) (ms : List ℕ) → Calls h′ more h″ ms → stateOf h″
+    later : (more : List Step) (h″ : Held) (ms ps : List ℕ) → Calls h′ more h″ ms ps → stateOf h″
         ≡ after entries o (sts ++ more)
-    later more h″ ms cs = follow cs (after entries o sts) (here .reached) (here .holds) .holds .state
+    later more h″ ms ps cs = follow cs (after entries o sts) (here .reached) (here .holds) .holds .state
         ∙ sym (run-append entries (opened o) sts more)
 
     leader : h′ .row .registry .view .leader ≡ after entries o sts .registry .view .leader
@@ -120,24 +130,25 @@ module _ (o : Opening) (h : Held) (start : Begins o h) where
     kept : stateOf h′ .committed ≡ receipts entries o sts
     kept = ap (λ s. s .committed) (here .holds .state) ∙ model .kept
 
-    pub follows : Follows o sts h′ ns
+    pub follows : Follows o sts h′ ns qs
     follows = record {
       answered = here .answered;
+      behind = here .behind;
       state = here .holds .state;
       outlined = here .holds .outlined;
       fit = fit (here .reached) (here .holds);
       leading = λ n. subst (λ s. receipts entries o sts ⊑ s .log (s .registry .view .leader)) (sym (here .holds .state))
           (model .leading (λ z. n (leader ∙ z)));
       kept = kept;
-      lasting = λ more h″ ms cs. subst (λ x. x ⊑ stateOf h″ .committed) (sym kept)
+      lasting = λ more h″ ms ps cs. subst (λ x. x ⊑ stateOf h″ .committed) (sym kept)
           (subst (λ x. receipts entries o sts ⊑ x)
-          (sym (ap (λ s. s .committed) (later more h″ ms cs) ∙ safe entries o (start .real) (sts ++ more) .kept))
+          (sym (ap (λ s. s .committed) (later more h″ ms ps cs) ∙ safe entries o (start .real) (sts ++ more) .kept))
           (model .lasting more));
-      alone = λ more h″ ms cs x y t p q. model .aloneLater more x y t
+      alone = λ more h″ ms ps cs x y t p q. model .aloneLater more x y t
           (subst (λ s. LeadsUnder s x t) (here .holds .state) p)
-          (subst (λ s. LeadsUnder s y t) (later more h″ ms cs) q);
+          (subst (λ s. LeadsUnder s y t) (later more h″ ms ps cs) q);
     }
 
 pub calls-safe : CallsSafe
 unfolding CallsSafe
-calls-safe o h start sts h′ ns calls = follows o h start sts h′ ns calls
+calls-safe o h start sts h′ ns qs calls = follows o h start sts h′ ns qs calls

@@ -1,13 +1,14 @@
--- What a call promises: its answer, the row it returns and every place of what it was lent. Cited by the contracts of
--- steps and hub's claim. Assumes nothing.
+-- What a call promises: its answer, who is behind it, the row it returns and every place of what it was lent. Cited by
+-- the contracts of steps and hub's claim. Assumes nothing.
 use mathlib.Core.Bool.{cond, _&&_}
 use mathlib.Core.Logic.{_≢_}
 use mathlib.Core.Path.{_≡_}
+use Rattle.model.specs.Members.{none}
 use Rattle.model.specs.State.{outline, entries}
-use Rattle.model.specs.Steps.{Step, accepted, answerOf, step}
+use Rattle.model.specs.Steps.{Step, accepted, answerOf, behind, step}
 use Rattle.cluster.specs.declared.Cluster.{Cluster}
 use Rattle.cluster.specs.declared.Outcome.{Outcome}
-use Rattle.cluster.specs.Layout.{outlineOf}
+use Rattle.cluster.specs.Layout.{bits, outlineOf}
 use Rattle.refinement.specs.Refinement.{Places, abs, placesAfter}
 pub use Rattle.shown.specs.Shown.{valid}
 
@@ -15,6 +16,8 @@ pub use Rattle.shown.specs.Shown.{valid}
 pub record Did (st : Step) (row : Cluster) (p : Places) (x : Outcome) (p′ : Places) : Type 0 where
   -- Refusal 1 first, then the model's answer.
   pub answer : x .answer ≡ cond (valid row p) (answerOf (outlineOf row) st) 1
+  -- "The set of all members that qualify", on acceptance; else the empty one.
+  pub behind : bits (x .behind) ≡ cond (valid row p) (behind (outlineOf row) st) none
   -- The state then is the model's step of the state before.
   pub state : abs (x .row) p′ ≡ cond (valid row p) (step entries (abs row p) st) (abs row p)
   -- An outline fixes its row (`RowsFixed`), so this is the whole row.

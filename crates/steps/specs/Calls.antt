@@ -2,7 +2,7 @@
 -- places as the one before returned or left them. Cited by the promise of `steps::claim`, and by hub's, which adds the
 -- calls over a lent controller. Assumes nothing.
 use mathlib.Core.Bool.{true}
-use mathlib.Core.List.{List, [], _∷_}
+use mathlib.Core.List.{List, [], _∷_, map}
 use mathlib.Core.Logic.{_≢_}
 use mathlib.Core.Path.{_≡_}
 use Prim.Native.Nat.{ℕ}
@@ -10,11 +10,11 @@ use lib.Dec.{T}
 use Rattle.model.specs.Prelude.{_⊑_}
 use Rattle.model.specs.State.{RowState, entries, outline, Opening, canOpen, opened}
 use Rattle.model.specs.Steps.{Step, append, commit, add, remove, changeLeader, refresh, join, receive, acknowledge, refreshController, readLeader, read, setNormal, hear, install}
-use Rattle.model.specs.Runs.{stepsOf, answers}
+use Rattle.model.specs.Runs.{stepsOf, answers, setsBehind}
 use Rattle.model.specs.Claim.{LeadsUnder, after, receipts}
 use Rattle.model.specs.Records.{bare, of, ofBoth, ofValue}
 use Rattle.cluster.specs.declared.Cluster.{Cluster}
-use Rattle.cluster.specs.Layout.{outlineOf}
+use Rattle.cluster.specs.Layout.{bits, outlineOf}
 use Rattle.refinement.specs.Refinement.{Places, Full, abs}
 use Rattle.steps_central.specs.Opening.{Opens}
 use Rattle.steps.specs.Call.{valid, Did}
@@ -27,27 +27,29 @@ pub record Held : Type 0 where
 abbrev pub stateOf : Held → RowState
 stateOf h = abs (h .row) (h .places)
 
--- One call, by the record that each call promises: it answered n, and the caller holds h′ after it.
-abbrev pub Called : Step → Held → Held → ℕ → Type 0
-Called st h h′ n = Did st (h .row) (h .places) (record { answer = n; row = h′ .row }) (h′ .places)
+-- One call, by the record that each call promises: it answered n with those of the mask q behind it, and the caller
+-- holds h′ after it.
+abbrev pub Called : Step → Held → Held → ℕ → ℕ → Type 0
+Called st h h′ n q = Did st (h .row) (h .places) (record { answer = n; behind = q; row = h′ .row }) (h′ .places)
 
--- Calls one after the other, and their answers. A call by name is one of its step; the call of a record is one of the
--- step that the record stands for, which may be malformed.
-pub data Calls : Held → List Step → Held → List ℕ → Type 0 where
-  stop : {h : Held} → Calls h [] h []
-  call : {h h′ h″ : Held} {st : Step} {sts : List Step} {n : ℕ} {ns : List ℕ}
-      → Called st h h′ n → Calls h′ sts h″ ns → Calls h (st ∷ sts) h″ (n ∷ ns)
+-- Calls one after the other, their answers and the masks of those behind them. A call by name is one of its step; the
+-- call of a record is one of the step that the record stands for, which may be malformed.
+pub data Calls : Held → List Step → Held → List ℕ → List ℕ → Type 0 where
+  stop : {h : Held} → Calls h [] h [] []
+  call : {h h′ h″ : Held} {st : Step} {sts : List Step} {n q : ℕ} {ns qs : List ℕ}
+      → Called st h h′ n q → Calls h′ sts h″ ns qs → Calls h (st ∷ sts) h″ (n ∷ ns) (q ∷ qs)
 
 -- The caller has made the opening o, and was lent places of their lengths that may hold anything.
 pub record Begins (o : Opening) (h : Held) : Type 0 where
   pub real : T (canOpen o)
-  pub opens : Opens o (record { answer = 0; row = h .row })
+  pub opens : Opens o (record { answer = 0; behind = 0; row = h .row })
   pub full : Full (h .places)
 
--- After calls of the steps sts, with the answers ns, the caller holds h.
-pub record Follows (o : Opening) (sts : List Step) (h : Held) (ns : List ℕ) : Type 0 where
+-- After calls of the steps sts, with the answers ns and those of qs behind them, the caller holds h.
+pub record Follows (o : Opening) (sts : List Step) (h : Held) (ns qs : List ℕ) : Type 0 where
   -- "The calls accept the same steps, and the row and lent places that they return or leave hold the same."
   pub answered : ns ≡ answers entries (opened o) sts
+  pub behind : map bits qs ≡ setsBehind entries (opened o) sts
   pub state : stateOf h ≡ after entries o sts
   pub outlined : outlineOf (h .row) ≡ outline (after entries o sts)
   -- No row of a run earns refusal 1.
@@ -58,16 +60,16 @@ pub record Follows (o : Opening) (sts : List Step) (h : Held) (ns : List ℕ) : 
       → receipts entries o sts ⊑ stateOf h .log (h .row .registry .view .leader)
   pub kept : stateOf h .committed ≡ receipts entries o sts
   -- Whatever calls follow, the receipts then begin with them,
-  pub lasting : (more : List Step) (h′ : Held) (ms : List ℕ) → Calls h more h′ ms
+  pub lasting : (more : List Step) (h′ : Held) (ms ps : List ℕ) → Calls h more h′ ms ps
       → stateOf h .committed ⊑ stateOf h′ .committed
   -- and no two replicas hold themselves leader under one term, now or then.
-  pub alone : (more : List Step) (h′ : Held) (ms : List ℕ) → Calls h more h′ ms
+  pub alone : (more : List Step) (h′ : Held) (ms ps : List ℕ) → Calls h more h′ ms ps
       → (x y t : ℕ) → LeadsUnder (stateOf h) x t → LeadsUnder (stateOf h′) y t → x ≡ y
 
 unfoldable pub CallsSafe : Type 0
 CallsSafe =
-    (o : Opening) (h : Held) → Begins o h → (sts : List Step) (h′ : Held) (ns : List ℕ) → Calls h sts h′ ns
-    → Follows o sts h′ ns
+    (o : Opening) (h : Held) → Begins o h → (sts : List Step) (h′ : Held) (ns qs : List ℕ) → Calls h sts h′ ns qs
+    → Follows o sts h′ ns qs
 
 -- A call by name is the call of a record, in which the fields that its step does not use are 0: the step of each is its
 -- record's.

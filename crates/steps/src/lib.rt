@@ -15,12 +15,13 @@ use cluster::Cluster;
 use cluster::Outcome;
 use records::Record;
 
-// Refusal 1 of the row or of the lent places: the answer 1, and the row as it was.
+// Refusal 1 of the row or of the lent places: the answer 1, no one behind it, and the row as it was.
 fn refused(row: Cluster) -> Outcome
-    ensures { λ x. ⌜ (x .answer ≡ 1) × (x .row ≡ row) ⌝ }
+    ensures { λ x. ⌜ (x .answer ≡ 1) × (x .behind ≡ 0) × (x .row ≡ row) ⌝ }
 {
     Outcome {
         answer: 1,
+        behind: 0,
         row: row,
     }
 }
@@ -67,6 +68,7 @@ fn turn(
     let d = s.controller;
     Outcome {
         answer: s.answer,
+        behind: s.behind,
         row: Cluster {
             registry: h,
             controller: d,

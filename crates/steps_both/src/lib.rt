@@ -108,10 +108,12 @@ pub fn set_normal(r: Registry, c: Controller) -> Settled
     if n != 0 {
         return Settled {
             answer: n,
+            behind: 0,
             registry: r,
             controller: c,
         };
     }
+    let s = members::both(v.members, q);
     let e = raised(w.epoch);
     let ruled = View {
         epoch: e,
@@ -127,6 +129,7 @@ pub fn set_normal(r: Registry, c: Controller) -> Settled
     };
     Settled {
         answer: 0,
+        behind: s,
         registry: Registry {
             view: ruled,
             status: Status::Normal,
@@ -172,10 +175,12 @@ pub fn install(r: Registry, c: Controller, b: u8) -> Settled
     if n != 0 {
         return Settled {
             answer: n,
+            behind: 0,
             registry: r,
             controller: c,
         };
     }
+    let s = members::both(v.members, q);
     let e = raised(w.epoch);
     let ruled = View {
         epoch: e,
@@ -191,6 +196,7 @@ pub fn install(r: Registry, c: Controller, b: u8) -> Settled
     };
     Settled {
         answer: 0,
+        behind: s,
         registry: Registry {
             view: ruled,
             status: Status::Waiting,

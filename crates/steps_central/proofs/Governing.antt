@@ -6,10 +6,12 @@ use mathlib.Core.Logic.{_≢_}
 use mathlib.Core.Path.{_≡_, refl, sym, ap, _∙_}
 use Prim.Native.Nat.{ℕ, _-_, _≤_}
 use lib.ListN.{length, getD}
-use Rattle.model.specs.Members.{isReplica}
-use Rattle.model.specs.State.{RowState, outline, entries}
-use Rattle.model.specs.Steps.{Step, nothing, writes, accepted, answerOf, next, step, withRegistry, withController}
+use Rattle.model.specs.Members.{isReplica, none}
+use Rattle.model.specs.State.{RowState, Outline, outline, entries}
+use Rattle.model.specs.Steps.{Step, nothing, writes, accepted, answerOf, qualified, behind, next, step, withRegistry, withController}
 use Rattle.model.proofs.Tests.{same-choice}
+use Rattle.members.specs.Mask.{bits}
+use Rattle.members.proofs.Laws.{bits-none}
 use Rattle.cluster.specs.declared.View.{View}
 use Rattle.cluster.specs.declared.Registry.{Registry}
 use Rattle.cluster.specs.declared.Controller.{Controller}
@@ -54,6 +56,7 @@ module _ (st : Step) (g : Registry) (c : Controller) (views : List View) (joined
   governs : (put : RowState → RowState → RowState) → ((s : RowState) → put s s ≡ s) → Only put st → (x : Settled)
       → ((acked : List ℕ) (issued : ℕ) (p : Places) → Full p
       → (x .answer ≡ answerOf (outline (abs (row acked issued) p)) st)
+      × (bits (x .behind) ≡ behind (outline (abs (row acked issued) p)) st)
       × (abs (rowOf (x .registry) (x .controller) views joined acked len issued) p
       ≡ put (abs (row acked issued) p) (step entries (abs (row acked issued) p) st)))
       → (x .answer ≢ 0 → (x .registry ≡ g) × (x .controller ≡ c))
@@ -63,7 +66,8 @@ module _ (st : Step) (g : Registry) (c : Controller) (views : List View) (joined
       let h = f acked issued p full in
       record {
         answer = h .0 ∙ ap (λ m. answerOf m st) m;
-        state = h .1 ∙ whole put st o idle (abs (row acked issued) p);
+        behind = h .1 ∙ ap (λ m. behind m st) m;
+        state = h .2 ∙ whole put st o idle (abs (row acked issued) p);
         short = s;
         issued = few;
         places = same-choice (accepted (outlineOf (row acked issued)) st)
@@ -71,29 +75,37 @@ module _ (st : Step) (g : Registry) (c : Controller) (views : List View) (joined
         refused = λ z. let q = r z in λ i. rowOf (q .0 i) (q .1 i) views joined acked len issued;
       }
 
+  -- One that asks no majority has no one behind it.
+  nobody : ((m : Outline) → qualified m st ≡ none) → (m : Outline) → bits 0 ≡ behind m st
+  nobody quiet m = bits-none ∙ same-choice (accepted m st) (quiet m)
+
   -- A step of the registry alone.
-  pub rules-govern : Only takeRegistry st → (a : Ruled) → Rules st g a
-      → Governs st g c views joined len (record { answer = a .answer; registry = a .registry; controller = c })
-  rules-govern o a h =
-      governs takeRegistry (λ s. refl) o (record { answer = a .answer; registry = a .registry; controller = c })
-      (λ acked issued p _. let s = abs (row acked issued) p in (h .answer s, ap (withRegistry s) (h .after s)))
+  pub rules-govern : Only takeRegistry st → ((m : Outline) → qualified m st ≡ none) → (a : Ruled) → Rules st g a
+      → Governs st g c views joined len (record { answer = a .answer; behind = 0; registry = a .registry; controller = c })
+  rules-govern o quiet a h =
+      governs takeRegistry (λ s. refl) o
+      (record { answer = a .answer; behind = 0; registry = a .registry; controller = c })
+      (λ acked issued p _. let s = abs (row acked issued) p in
+      (h .answer s, nobody quiet (outline s), ap (withRegistry s) (h .after s)))
       (λ z. (h .refused z, refl))
 
   -- A step of the controller alone, which is told what is so of the row.
-  pub tells-govern : {Known : RowState → Type 0} → Only takeController st → (a : Told) → Tells Known st c a
+  pub tells-govern : {Known : RowState → Type 0} → Only takeController st → ((m : Outline) → qualified m st ≡ none)
+      → (a : Told) → Tells Known st c a
       → ((acked : List ℕ) (issued : ℕ) (p : Places) → Full p → Known (abs (row acked issued) p))
-      → Governs st g c views joined len (record { answer = a .answer; registry = g; controller = a .controller })
-  tells-govern o a h k =
-      governs takeController (λ s. refl) o (record { answer = a .answer; registry = g; controller = a .controller })
+      → Governs st g c views joined len (record { answer = a .answer; behind = 0; registry = g; controller = a .controller })
+  tells-govern o quiet a h k =
+      governs takeController (λ s. refl) o
+      (record { answer = a .answer; behind = 0; registry = g; controller = a .controller })
       (λ acked issued p full. let s = abs (row acked issued) p in let e = k acked issued p full in
-      (h .answer s e, ap (withController s) (h .after s e)))
+      (h .answer s e, nobody quiet (outline s), ap (withController s) (h .after s e)))
       (λ z. (refl, h .refused z))
 
   -- A step of both.
   pub settles-govern : Only takeBoth st → (a : Settled) → Settles st g c a → Governs st g c views joined len a
   settles-govern o a h = governs takeBoth (λ s. refl) o a
       (λ acked issued p _. let s = abs (row acked issued) p in
-      (h .answer s, λ i. withController (withRegistry s (h .registry s i)) (h .controller s i)))
+      (h .answer s, h .behind s, λ i. withController (withRegistry s (h .registry s i)) (h .controller s i)))
       (h .refused)
 
 -- What stands at the seat k of b is, if b is a replica, what b has.

@@ -107,9 +107,10 @@ module _ (b k : ℕ) (e : k ≡ cond (isReplica b) b 1) where
       go false h = (omega arith, omega arith)
 
   pub opens : (n : ℕ) (row : Cluster) → n ≡ M.openAnswer (M.openingWith b) → OpenedWith (M.openingWith k) row
-      → Opens (M.openingWith b) (record { answer = n; row = row })
+      → Opens (M.openingWith b) (record { answer = n; behind = 0; row = row })
   opens n row a o = record {
     answer = a;
+    behind = bits-none;
     row = subst (λ p. OpenedWith p row) (ap M.openingWith e ∙ by-board (isReplica b)) o;
   }
     where

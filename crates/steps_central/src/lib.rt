@@ -68,6 +68,7 @@ pub fn opening(b: u8) -> Outcome
     let row = opened(k);
     Outcome {
         answer: n,
+        behind: 0,
         row: row,
     }
 }
@@ -81,6 +82,7 @@ pub fn add(g: Registry, c: Controller, b: u8) -> Settled
     let h = a.registry;
     Settled {
         answer: a.answer,
+        behind: 0,
         registry: h,
         controller: c,
     }
@@ -95,6 +97,7 @@ pub fn remove(g: Registry, c: Controller, b: u8) -> Settled
     let h = a.registry;
     Settled {
         answer: a.answer,
+        behind: 0,
         registry: h,
         controller: c,
     }
@@ -109,6 +112,7 @@ pub fn change(g: Registry, c: Controller) -> Settled
     let h = a.registry;
     Settled {
         answer: a.answer,
+        behind: 0,
         registry: h,
         controller: c,
     }
@@ -123,6 +127,7 @@ pub fn refresh_controller(g: Registry, c: Controller) -> Settled
     let d = a.controller;
     Settled {
         answer: a.answer,
+        behind: 0,
         registry: g,
         controller: d,
     }
@@ -142,6 +147,7 @@ pub fn read_leader(g: Registry, c: Controller, views: [View; 8], len: &[u16]) ->
     let d = a.controller;
     Settled {
         answer: a.answer,
+        behind: 0,
         registry: g,
         controller: d,
     }
@@ -161,6 +167,7 @@ pub fn read(g: Registry, c: Controller, joined: &[u16], len: &[u16], b: u8) -> S
     let d = a.controller;
     Settled {
         answer: a.answer,
+        behind: 0,
         registry: g,
         controller: d,
     }
@@ -195,6 +202,7 @@ pub fn hear(
     let d = a.controller;
     Settled {
         answer: a.answer,
+        behind: 0,
         registry: g,
         controller: d,
     }
@@ -210,6 +218,7 @@ pub fn install(g: Registry, c: Controller, b: u8) -> Settled
     let d = a.controller;
     Settled {
         answer: a.answer,
+        behind: a.behind,
         registry: installed,
         controller: d,
     }

@@ -101,7 +101,7 @@ pub fn refresh(
         → Leaves (S.Step.refresh b)
         (rowOf (record { view = w; status = s }) c views (now (joined .entry)) (now (acked .entry)) (now (len .entry))
         issued) p
-        (x .answer) (rowOf (record { view = w; status = s }) c (set views (x .place) (x .view)) (now (joined .exit))
+        (x .answer) 0 (rowOf (record { view = w; status = s }) c (set views (x .place) (x .view)) (now (joined .exit))
         (now (acked .exit)) (now (len .entry)) issued) p
         ) ⌝ }
 {
@@ -165,7 +165,7 @@ pub fn join(
         → Leaves (S.Step.join b)
         (rowOf g c views (now (joined .entry)) acked (now (len .entry)) issued)
         (lent (now (store .entry)) (now (store2 .entry)) list list2)
-        x (rowOf g c views (now (joined .exit)) acked (now (len .exit)) issued)
+        x 0 (rowOf g c views (now (joined .exit)) acked (now (len .exit)) issued)
         (lent (now (store .entry)) (now (store2 .entry)) list list2)
         ) ⌝ }
 {
@@ -229,7 +229,7 @@ pub fn receive(
         → Leaves (S.Step.receive b)
         (rowOf g c views (now (joined .entry)) acked (now (len .entry)) issued)
         (lent (now (store .entry)) (now (store2 .entry)) list list2)
-        x (rowOf g c views (now (joined .entry)) acked (now (len .exit)) issued)
+        x 0 (rowOf g c views (now (joined .entry)) acked (now (len .exit)) issued)
         (lent (now (store .exit)) (now (store2 .exit)) list list2)
         ) ⌝ }
 {

@@ -1,19 +1,20 @@
--- The checks of a leader's steps are the model's, and what an answer of 0 says of the lengths. Assumes nothing.
+-- The checks of a leader's steps are the model's, who is behind a receipt, and what an answer of 0 says of the lengths.
+-- Assumes nothing.
 use mathlib.Core.Bool.{true, not, _&&_}
-use mathlib.Core.Path.{_≡_, sym, _∙_}
+use mathlib.Core.Path.{_≡_, sym, ap, _∙_}
 use Prim.Native.Nat.{ℕ, _+_, _-_, _*_, _<_}
 use lib.Dec.{eqb, ltb→lt}
 use lib.ListN.{getD}
 use Rattle.model.specs.Prelude.{firstFailed}
-use Rattle.model.specs.Members.{isReplica}
-use Rattle.model.specs.Steps.{append, commit, acknowledge, countedAbove, answerOf}
-use Rattle.model.proofs.Tests.{split-and, is-true, of-true}
+use Rattle.model.specs.Members.{isReplica, _∩_}
+use Rattle.model.specs.Steps.{append, commit, acknowledge, countedAbove, checks, accepted, answerOf, qualified}
+use Rattle.model.proofs.Tests.{split-and, is-true, of-true, facts}
 use Rattle.model.proofs.Answer.{zero-holds}
 use Rattle.members.specs.Mask.{bits, under}
-use Rattle.members.proofs.Laws.{under-quorum}
+use Rattle.members.proofs.Laws.{under-quorum, under-meet}
 use Rattle.cluster.specs.declared.View.{View}
 use Rattle.cluster.specs.declared.Cluster.{Cluster}
-use Rattle.cluster.specs.Layout.{atPair, noView, outlineOf}
+use Rattle.cluster.specs.Layout.{at, atPair, noView, outlineOf}
 use Rattle.cluster.proofs.Laws.{guarded, at-seat}
 use Rattle.steps_leader.specs.Checks.{appendChecks, commitChecks, acknowledgeChecks}
 
@@ -48,6 +49,17 @@ module _ (row : Cluster) where
               (bits (getD (row .views) (k - 1) noView .members)),
         ) (guarded (isReplica b) _ _ 1 (λ t.
         let r = of-true t in rw (at-seat noView (row .views) b k hk r, at-seat 0 (row .len) b k hk r, hk t)))
+
+    -- Who qualifies among b's members, s.
+    pub commit-set : (q s : ℕ) {v : View} → v ≡ getD (row .views) (k - 1) noView
+        → bits q ≡ under 9 (countedAbove (atPair (row .acked) k) (row .issued)) → bits s ≡ bits (v .members) ∩ bits q
+        → accepted (outlineOf row) (commit b) ≡ true → bits s ≡ qualified (outlineOf row) (commit b)
+    commit-set q s ev e es t =
+        let r = facts (checks (outlineOf row) (commit b)) (of-true t) 1 in
+        rw (es, ev, e, at-seat noView (row .views) b k hk r)
+        (under-meet (countedAbove (atPair (row .acked) k) (row .issued)) (at noView (row .views) b .members)
+        ∙ ap (λ x. bits (at noView (row .views) b .members) ∩ countedAbove (atPair (row .acked) x) (row .issued))
+        (hk (is-true (isReplica b) r)))
 
   -- Step 9.
   pub acknowledge-answer : (a b i k : ℕ) → (isReplica a ≡ true → i ≡ a) → (isReplica b ≡ true → k ≡ b)

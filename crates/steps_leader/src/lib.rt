@@ -25,9 +25,10 @@ use cluster::seat;
 use refinement::lookup;
 use refinement::view;
 
-// What step 2 answers, and the number of receipts it leaves.
+// What step 2 answers, the members behind it, and the number of receipts it leaves.
 pub struct Given {
     pub answer: u8,
+    pub behind: u8,
     pub issued: u16,
 }
 
@@ -59,7 +60,7 @@ pub fn append(
         → Leaves (S.Step.append b value)
         (rowOf g c views joined (now (acked .entry)) (now (len .entry)) issued)
         (lent (now (store .entry)) (now (store2 .entry)) list list2)
-        x (rowOf g c views joined (now (acked .exit)) (now (len .exit)) issued)
+        x 0 (rowOf g c views joined (now (acked .exit)) (now (len .exit)) issued)
         (lent (now (store .exit)) (now (store2 .exit)) list list2)
         ) ⌝ }
 {
@@ -132,7 +133,7 @@ pub fn commit(
         → Leaves (S.Step.commit b)
         (rowOf g c views joined (now (acked .entry)) (now (len .entry)) issued)
         (lent (now (store .entry)) (now (store2 .entry)) (now (list .entry)) (now (list2 .entry)))
-        (x .answer) (rowOf g c views joined (now (acked .entry)) (now (len .entry)) (x .issued))
+        (x .answer) (x .behind) (rowOf g c views joined (now (acked .entry)) (now (len .entry)) (x .issued))
         (lent (now (store .entry)) (now (store2 .entry)) (now (list .exit)) (now (list2 .exit)))
         ) ⌝ }
 {
@@ -144,15 +145,19 @@ pub fn commit(
     if r != 0 {
         return Given {
             answer: r,
+            behind: 0,
             issued: issued,
         };
     }
+    let s = members::both(v.members, q);
     let e = logstore::value(store, k, issued);
     let t = logstore::term(store2, k, issued);
     logstore::commit(&mut *list, &mut *list2, issued, e, t);
+    let m = issued + 1;
     Given {
         answer: 0,
-        issued: issued + 1,
+        behind: s,
+        issued: m,
     }
 }
 
@@ -191,7 +196,7 @@ pub fn acknowledge(
         (g : Registry) (c : Controller) (issued : ℕ) (p : Places) → issued ≤ 512 → Full p
         → Leaves (S.Step.acknowledge a b)
         (rowOf g c views (now (joined .entry)) (now (acked .entry)) (now (len .entry)) issued) p
-        x (rowOf g c views (now (joined .entry)) (now (acked .exit)) (now (len .entry)) issued) p
+        x 0 (rowOf g c views (now (joined .entry)) (now (acked .exit)) (now (len .entry)) issued) p
         ) ⌝ }
 {
     let h = seat(a);

@@ -7,9 +7,6 @@ use borrow.Author.Needs.{needs}
 use Rattle.runsheet.proofs.main.Statement.{statement}
 use Rattle.runsheet.proofs.main.Tie as tie
 
-large-buffer-requires : tie.Need-large-buffer-requires
-large-buffer-requires c κs = search needs
-
 slice-aggregate-read-full : tie.Need-slice-aggregate-read-full
 slice-aggregate-read-full c = search needs
 
@@ -51,7 +48,6 @@ pub main-spec : {M : Type 1} → statement M
 main-spec =
     tie.close
     (tie.spec
-    large-buffer-requires
     slice-aggregate-read-full
     read-full-requires
     array-share-prefix-sheet

@@ -20,18 +20,22 @@ slice-aggregate-play-4 c = search needs
 slice-aggregate-play-5 : tie.Need-slice-aggregate-play-5
 slice-aggregate-play-5 c = search needs
 
+slice-aggregate-play-6 : tie.Need-slice-aggregate-play-6
+slice-aggregate-play-6 c = search needs
+
 play-requires : tie.Need-play-requires
 play-requires c κs = (
-  c .before .before .before .before .before .before .pre,
+  c .before .before .before .before .before .before .before .pre,
   record { store = refl; store2 = refl; list = refl; list2 = refl },
+  refl,
   refl,
 )
 
 returns : tie.Need-returns
 returns c =
-    let p = c .before .before .before .before .before in
-    let e = p .before .before .before .before .before .before .before in
-    answers-are _ (e .pre) _ _ _ (p .play .ensures)
+    let p = c .before .before .before .before .before .before in
+    let e = p .before .before .before .before .before .before .before .before in
+    answers-are _ (e .pre) _ _ _ _ (p .play .ensures)
 
 pub answers-spec : {M : Type 1} → statement M
 answers-spec =
@@ -42,5 +46,6 @@ answers-spec =
     slice-aggregate-play-3
     slice-aggregate-play-4
     slice-aggregate-play-5
+    slice-aggregate-play-6
     play-requires
     returns)

@@ -21,10 +21,10 @@ abbrev start : tie.After-is-sheet → tie.Start
 start c = c .before .before .before
 
 abbrev ready : tie.After-play → tie.Else1
-ready c = c .before .before .before .before .before .before
+ready c = c .before .before .before .before .before .before .before
 
 abbrev played : tie.After-put-ending → tie.After-play
-played c = c .before .before .before .before .before .before .before .before .before
+played c = c .before .before .before .before .before .before .before .before .before .before
 
 abbrev bytes : tie.Else1 → Text
 bytes c = now (start (c .before) .args .sheet)
@@ -56,10 +56,14 @@ slice-aggregate-play-4 c = search needs
 slice-aggregate-play-5 : tie.Need-slice-aggregate-play-5
 slice-aggregate-play-5 c = search needs
 
+slice-aggregate-play-6 : tie.Need-slice-aggregate-play-6
+slice-aggregate-play-6 c = search needs
+
 play-requires : tie.Need-play-requires
 play-requires c κs = (
-  passed (c .before .before .before .before .before),
+  passed (c .before .before .before .before .before .before),
   record { store = refl; store2 = refl; list = refl; list2 = refl },
+  refl,
   refl,
 )
 
@@ -74,12 +78,12 @@ slice-aggregate-put-ending-3 c = search needs
 
 put-ending-requires : tie.Need-put-ending-requires
 put-ending-requires c κs =
-    let p = c .before .before .before .before .before .before .before .before in
+    let p = c .before .before .before .before .before .before .before .before .before in
     let d = ready p in
     let h = p .play .ensures in (
-      ran-fits (bytes d) (passed d) _ _ _ _ h,
-      ran-terms (bytes d) (passed d) _ _ _ _ h,
-      ran-issued (bytes d) (passed d) _ _ _ _ h,
+      ran-fits (bytes d) (passed d) _ _ _ _ _ h,
+      ran-terms (bytes d) (passed d) _ _ _ _ _ h,
+      ran-issued (bytes d) (passed d) _ _ _ _ _ h,
       h .full .list ∙ sym (h .full .list2),
       omega arith,
     )
@@ -87,19 +91,22 @@ put-ending-requires c κs =
 slice-aggregate-deliver : tie.Need-slice-aggregate-deliver
 slice-aggregate-deliver c = search needs
 
+slice-aggregate-deliver-2 : tie.Need-slice-aggregate-deliver-2
+slice-aggregate-deliver-2 c = search needs
+
 array-share-prefix-end : tie.Need-array-share-prefix-end
 array-share-prefix-end c =
-    let w = c .before .before .put-ending .ensures in
+    let w = c .before .before .before .put-ending .ensures in
     omega (arith, w .1, wrote-length (w .0))
 
-slice-aggregate-deliver-2 : tie.Need-slice-aggregate-deliver-2
-slice-aggregate-deliver-2 c =
-    let w = c .before .before .before .put-ending .ensures in
+slice-aggregate-deliver-3 : tie.Need-slice-aggregate-deliver-3
+slice-aggregate-deliver-3 c =
+    let w = c .before .before .before .before .put-ending .ensures in
     sym (length-take-le _ _ (omega (arith, w .1, wrote-length (w .0))))
 
 deliver-requires : tie.Need-deliver-requires
 deliver-requires c κs =
-    let w = c .before .before .before .before in
+    let w = c .before .before .before .before .before in
     let p = played w in
     let d = ready p in
     let s = bytes d in
@@ -107,8 +114,9 @@ deliver-requires c κs =
     let most = sheet-most s (passed d) in (
       most,
       omega (arith, most, h .room),
+      omega (arith, most, h .sets),
       omega (arith, w .put-ending .ensures .1, length-take (w .put-ending .result) (w .put-ending .last .0)),
-      λ i q. omega (arith, ran-most s (passed d) (length s / 8 - 1) _ _ _ h i (omega (arith, q))),
+      λ i q. omega (arith, ran-most s (passed d) (length s / 8 - 1) _ _ _ _ h i (omega (arith, q))),
     )
 
 same-length : tie.Need-same-length
@@ -117,11 +125,11 @@ same-length c = search needs
 returns-2 : tie.Need-returns-2
 returns-2 c =
     let x = c .before .before in
-    let w = x .before .before .before .before .before in
+    let w = x .before .before .before .before .before .before in
     let p = played w in
     let d = ready p in
     let back = read-back (w .put-ending .ensures .0) (omega (arith, w .put-ending .ensures .1)) in
-    delivered (bytes d) (passed d) _ _ _ (p .play .ensures) back (x .deliver .ensures)
+    delivered (bytes d) (passed d) _ _ _ _ (p .play .ensures) back (x .deliver .ensures)
 
 pub run-sheet-spec : {M : Type 1} → statement M
 run-sheet-spec =
@@ -134,14 +142,16 @@ run-sheet-spec =
     slice-aggregate-play-3
     slice-aggregate-play-4
     slice-aggregate-play-5
+    slice-aggregate-play-6
     play-requires
     slice-aggregate-put-ending
     slice-aggregate-put-ending-2
     slice-aggregate-put-ending-3
     put-ending-requires
     slice-aggregate-deliver
-    array-share-prefix-end
     slice-aggregate-deliver-2
+    array-share-prefix-end
+    slice-aggregate-deliver-3
     deliver-requires
     same-length
     returns-2)

@@ -3,18 +3,18 @@ use mathlib.Core.Path.{refl}
 use Rattle.sheet.proofs.sample.Statement.{statement}
 use Rattle.sheet.proofs.sample.Tie as tie
 use Rattle.model.proofs.Table.{trials-hold}
-use Rattle.model.specs.Runs.{run, answers, given}
+use Rattle.model.specs.Runs.{run, answers, setsBehind, given}
 use Rattle.text.specs.Text.{digits, digitsWithin, over}
 use Rattle.sheet.proofs.Listings.{refused-holds, lengths-tell}
 use Rattle.records.specs.Bytes.{records}
-use Rattle.lines.specs.Lines.{answerLine, registryLine, controlLine, viewText, membersText, receiptText}
+use Rattle.lines.specs.Lines.{answerLine, fourthField, registryLine, controlLine, viewText, membersText, receiptText}
 use Rattle.listing.specs.Listing.{answerLines, boardLine, boardLines, receiptsLine, receiptsText, ending}
 use Rattle.sheet.specs.Sheet.{SampleHolds, RoomHolds, result, left, listing, listingOf}
 
 returns : tie.Need-returns
 unfolding SampleHolds RoomHolds result left over listing listingOf records answerLine answerLines
     registryLine controlLine boardLine boardLines receiptsLine receiptsText receiptText ending viewText membersText
-    digits digitsWithin run answers given
+    fourthField digits digitsWithin run answers setsBehind given
 returns c =
     ((refl, refl, refl), (refl, refl, refl, refl, refl, refl), refused-holds, lengths-tell, trials-hold)
 

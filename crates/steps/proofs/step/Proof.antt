@@ -43,7 +43,7 @@ returns c =
     let s = c .before .before .before .before .before .before .before .before .before .before .before in
     did-refused _ (s .args .row) (places s)
     (sym (c .before .before .fits2 .ensures .0) ∙ not-true _ (c .before .if1 .taken)) _
-    (c .refused .ensures .0) (c .refused .ensures .1)
+    (c .refused .ensures .0) (c .refused .ensures .1) (c .refused .ensures .2)
 
 turn-requires : tie.Need-turn-requires
 turn-requires c κs =

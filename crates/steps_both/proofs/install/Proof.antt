@@ -4,12 +4,14 @@ use mathlib.Core.Path.{refl, sym}
 use Prim.Native.Nat.{_-_}
 use lib.ListN.{getD}
 use Rattle.model.specs.Prelude.{Check}
+use Rattle.model.specs.Members.{isReplica}
 use Rattle.model.specs.Steps.{install}
+use Rattle.model.proofs.Tests.{is-true}
 use Rattle.cluster.specs.declared.Status.the-variants.{Waiting}
 use Rattle.cluster.specs.declared.Stage.the-variants.{Leader}
 use Rattle.cluster.proofs.Steps.{settles}
 use Rattle.steps_both.specs.Checks.{installChecks}
-use Rattle.steps_both.proofs.Answers.{install-answer}
+use Rattle.steps_both.proofs.Answers.{install-answer, install-set}
 use Rattle.steps_both.proofs.Afters.{installedView, both-after}
 use borrow.Author.Needs.{needs}
 use Rattle.steps_both.proofs.install.Statement.{statement}
@@ -67,19 +69,26 @@ returns c =
     let seat = own d .seat .ensures .2 in
     settles (install (a .b)) (made d) tt (a .r) (a .c)
     (install-answer (a .r) (a .c) (a .b) _ _ seat (those d .ranked-not-above .ensures)) _
-    (d .may-install .ensures) refl (λ _. (refl, refl)) (λ z. absurd (c .if1 .taken z))
+    (d .may-install .ensures) refl (λ _. refl) (λ z. absurd (c .if1 .taken z)) (λ _. (refl, refl))
+    (λ z. absurd (c .if1 .taken z))
+
+both-requires : tie.Need-both-requires
+both-requires c κs = search needs
 
 raised-requires : tie.Need-raised-requires
 raised-requires c κs = search needs
 
 returns-2 : tie.Need-returns-2
 returns-2 c =
-    let d = c .before .before in
+    let d = c .before .before .before in
     let a = entry d .args in
     let seat = own d .seat .ensures .2 in
     settles (install (a .b)) (made d) tt (a .r) (a .c)
     (install-answer (a .r) (a .c) (a .b) _ _ seat (those d .ranked-not-above .ensures)) _
-    (d .may-install .ensures) (sym (c .before .if1 .left)) (λ h. absurd (h refl))
+    (d .may-install .ensures) (sym (c .before .before .if1 .left)) (λ h. absurd (h refl))
+    (λ _ h s. install-set (a .r) (a .c) (a .b) _ _ seat (those d .ranked-not-above .ensures) _
+    (c .before .both .ensures) (is-true (isReplica (a .b)) (h 1)))
+    (λ h. absurd (h refl))
     (λ _ h s. both-after (a .r) (a .c) _ (c .raised .ensures) (installedView (a .b)) Waiting Leader (h 7))
 
 pub install-spec : {M : Type 1} → statement M
@@ -96,5 +105,6 @@ install-spec =
     ranked-not-above-requires
     may-install-requires
     returns
+    both-requires
     raised-requires
     returns-2)

@@ -5,7 +5,7 @@ use Rattle.cluster.specs.declared.Status.the-variants.{Normal}
 use Rattle.cluster.specs.declared.Stage.the-variants.{Idle}
 use Rattle.cluster.proofs.Steps.{settles}
 use Rattle.steps_both.specs.Checks.{setNormalChecks}
-use Rattle.steps_both.proofs.Answers.{set-normal-answer}
+use Rattle.steps_both.proofs.Answers.{set-normal-answer, set-normal-set}
 use Rattle.steps_both.proofs.Afters.{normalView, both-after}
 use borrow.Author.Needs.{needs}
 use Rattle.steps_both.proofs.set_normal.Statement.{statement}
@@ -34,19 +34,26 @@ returns c =
     let q = those d .heard-enough in
     settles setNormal (setNormalChecks (a .r) (a .c .view) (a .c .stage) (q .result)) tt (a .r) (a .c)
     (set-normal-answer (a .r) (a .c) _ _ (those d .before .heard-at .ensures) (q .ensures)) _
-    (d .may-set-normal .ensures) refl (λ _. (refl, refl)) (λ z. absurd (c .if1 .taken z))
+    (d .may-set-normal .ensures) refl (λ _. refl) (λ z. absurd (c .if1 .taken z)) (λ _. (refl, refl))
+    (λ z. absurd (c .if1 .taken z))
+
+both-requires : tie.Need-both-requires
+both-requires c κs = search needs
 
 raised-requires : tie.Need-raised-requires
 raised-requires c κs = search needs
 
 returns-2 : tie.Need-returns-2
 returns-2 c =
-    let d = c .before .before in
+    let d = c .before .before .before in
     let a = entry d .args in
     let q = those d .heard-enough in
     settles setNormal (setNormalChecks (a .r) (a .c .view) (a .c .stage) (q .result)) tt (a .r) (a .c)
     (set-normal-answer (a .r) (a .c) _ _ (those d .before .heard-at .ensures) (q .ensures)) _
-    (d .may-set-normal .ensures) (sym (c .before .if1 .left)) (λ h. absurd (h refl))
+    (d .may-set-normal .ensures) (sym (c .before .before .if1 .left)) (λ h. absurd (h refl))
+    (λ _ h s. set-normal-set (a .r) (a .c) _ _ _ (those d .before .heard-at .ensures) (q .ensures)
+    (c .before .both .ensures))
+    (λ h. absurd (h refl))
     (λ _ h s. both-after (a .r) (a .c) _ (c .raised .ensures) normalView Normal Idle (h 7))
 
 pub set-normal-spec : {M : Type 1} → statement M
@@ -57,5 +64,6 @@ set-normal-spec =
     heard-enough-requires
     may-set-normal-requires
     returns
+    both-requires
     raised-requires
     returns-2)

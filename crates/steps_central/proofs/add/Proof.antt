@@ -13,7 +13,7 @@ returns : tie.Need-returns
 returns c =
     let a = c .before .before .args in
     λ views joined len s. rules-govern (add (a .b)) (a .g) (a .c) views joined len s
-    (record { state = λ _. refl; places = refl }) _ (c .before .add .ensures)
+    (record { state = λ _. refl; places = refl }) (λ _. refl) _ (c .before .add .ensures)
 
 pub add-spec : {M : Type 1} → statement M
 add-spec = tie.close (tie.spec add-requires returns)

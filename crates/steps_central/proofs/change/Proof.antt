@@ -13,7 +13,7 @@ returns : tie.Need-returns
 returns c =
     let a = c .before .before .args in
     λ views joined len s. rules-govern changeLeader (a .g) (a .c) views joined len s
-    (record { state = λ _. refl; places = refl }) _ (c .before .change .ensures)
+    (record { state = λ _. refl; places = refl }) (λ _. refl) _ (c .before .change .ensures)
 
 pub change-spec : {M : Type 1} → statement M
 change-spec = tie.close (tie.spec change-requires returns)

@@ -46,7 +46,7 @@ returns c =
     let p = c .before .before .before .before .before .before .before .before .pre in
     let k = c .before .before .before .before .before .seat .ensures in
     tells-govern (hear (a .b)) (a .g) (a .c) (a .t3) (now (a .joined)) (now (a .len)) (p .1)
-    (record { state = λ _. refl; places = refl }) _ (c .before .hear .ensures)
+    (record { state = λ _. refl; places = refl }) (λ _. refl) _ (c .before .hear .ensures)
     (λ acked issued q full t. seated (now (a .len)) (p .1) _ (k .0) (a .g) (a .c) (a .t3) (now (a .joined)) acked issued
     (a .b) (k .2) q full t)
 

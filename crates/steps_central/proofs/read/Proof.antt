@@ -40,7 +40,7 @@ returns c =
     let p = c .before .before .before .before .before .before .before .pre in
     let k = c .before .before .before .before .seat .ensures in
     λ views. tells-govern (read (a .b)) (a .g) (a .c) views (now (a .joined)) (now (a .len)) (p .1)
-    (record { state = λ _. refl; places = refl }) _ (c .before .read .ensures)
+    (record { state = λ _. refl; places = refl }) (λ _. refl) _ (c .before .read .ensures)
     (λ acked issued q full t. let f = seated (now (a .len)) (p .1) _ (k .0) (a .g) (a .c) views (now (a .joined)) acked
     issued (a .b) (k .2) q full t in (f .1, f .2))
 

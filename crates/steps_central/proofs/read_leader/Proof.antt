@@ -40,7 +40,7 @@ returns c =
     let p = c .before .before .before .before .before .before .before .pre in
     let k = c .before .before .before .before .seat .ensures in
     λ joined. tells-govern readLeader (a .g) (a .c) (a .t3) joined (now (a .len)) (p .1)
-    (record { state = λ _. refl; places = refl }) _ (c .before .read-leader .ensures)
+    (record { state = λ _. refl; places = refl }) (λ _. refl) _ (c .before .read-leader .ensures)
     (λ acked issued q full t.
     let f = seated (now (a .len)) (p .1) _ (k .0) (a .g) (a .c) (a .t3) joined acked issued (a .c .view .leader) (k .2)
     q full (p .0 t) in

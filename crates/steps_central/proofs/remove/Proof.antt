@@ -13,7 +13,7 @@ returns : tie.Need-returns
 returns c =
     let a = c .before .before .args in
     λ views joined len s. rules-govern (remove (a .b)) (a .g) (a .c) views joined len s
-    (record { state = λ _. refl; places = refl }) _ (c .before .remove .ensures)
+    (record { state = λ _. refl; places = refl }) (λ _. refl) _ (c .before .remove .ensures)
 
 pub remove-spec : {M : Type 1} → statement M
 remove-spec = tie.close (tie.spec remove-requires returns)

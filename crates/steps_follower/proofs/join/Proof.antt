@@ -11,7 +11,7 @@ use Rattle.cluster.specs.declared.Controller.{Controller}
 use Rattle.cluster.specs.declared.Cluster.{Cluster}
 use Rattle.cluster.specs.Layout.{outlineOf}
 use Rattle.refinement.specs.Refinement.{rowOf}
-use Rattle.refinement.proofs.Turning.{logged-full, turns-refused, turns-accepted, short-at, len-short}
+use Rattle.refinement.proofs.Turning.{bits-none, logged-full, turns-refused, turns-accepted, short-at, len-short}
 use Rattle.steps_follower.proofs.Answers.{join-answer}
 use Rattle.steps_follower.proofs.Afters.{join-after, join-short}
 use Rattle.steps_follower.proofs.join.Statement.{statement}
@@ -143,8 +143,8 @@ returns-2 c g k acked issued list list2 few full =
     let p = entry d .pre in
     let h = own d .seat .ensures in
     let short = short-at (now (a .len)) (own d .seat .result) (p .2) (h .0) in
-    turns-accepted (row d g k acked issued) (p .2) few _ full _ _ _ _ (answers d g k acked issued)
-    (c .before .before .before .if1 .left)
+    turns-accepted (row d g k acked issued) (p .2) few _ full _ _ _ _ _ (answers d g k acked issued)
+    (c .before .before .before .if1 .left) bits-none
     (join-after (row d g k acked issued) (p .2) _ full (a .b) _ _ _ _ (h .2) (p .1)
     (d .before .before .before .before .view .ensures) (other d .seat2 .ensures .2) (p .0) (c .shared .ensures))
     (len-short (now (a .len)) (p .2) _ _ (h .0) (h .1)

@@ -13,7 +13,7 @@ use Rattle.cluster.specs.declared.Controller.{Controller}
 use Rattle.cluster.specs.declared.Cluster.{Cluster}
 use Rattle.cluster.specs.Layout.{outlineOf}
 use Rattle.refinement.specs.Refinement.{lent, rowOf}
-use Rattle.refinement.proofs.Turning.{turns-refused, turns-accepted, short-at, fits-next, len-short}
+use Rattle.refinement.proofs.Turning.{bits-none, turns-refused, turns-accepted, short-at, fits-next, len-short}
 use Rattle.steps_follower.proofs.Answers.{receive-room, receive-answer}
 use Rattle.steps_follower.proofs.Afters.{receive-after, receive-places}
 use Rattle.steps_follower.proofs.receive.Statement.{statement}
@@ -153,7 +153,7 @@ returns-2 c g k acked issued list list2 few full =
     let w = (λ i. lent (s .0 i) (s .1 i) list list2)
     ∙ receive-places r q (a .b) _ (h .2) _ (d .before .before .before .before .before .before .view .ensures) _
     (other d .seat2 .ensures .2) (p .0) (zero-accepted (outlineOf r) (receive (a .b)) (sym e ∙ z)) in
-    turns-accepted r (p .2) few q full _ _ _ _ e z (receive-after r (p .2) q full (a .b) _ (h .2) _ w)
+    turns-accepted r (p .2) few q full _ _ _ _ _ e z bits-none (receive-after r (p .2) q full (a .b) _ (h .2) _ w)
     (len-short (now (a .len)) (p .2) _ _ (h .0) (h .1) (omega (arith, room d z))) few w
 
 pub receive-spec : {M : Type 1} → statement M

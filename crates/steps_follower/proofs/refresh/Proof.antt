@@ -12,7 +12,7 @@ use Rattle.cluster.specs.declared.View.{View}
 use Rattle.cluster.specs.declared.Cluster.{Cluster}
 use Rattle.cluster.specs.Layout.{noView, outlineOf}
 use Rattle.refinement.specs.Refinement.{rowOf, Leaves}
-use Rattle.refinement.proofs.Turning.{turns-refused, turns-accepted, set-idle}
+use Rattle.refinement.proofs.Turning.{bits-none, turns-refused, turns-accepted, set-idle}
 use Rattle.steps_follower.proofs.Answers.{refresh-answer}
 use Rattle.steps_follower.proofs.Afters.{refresh-after}
 use Rattle.steps_follower.proofs.refresh.Statement.{statement}
@@ -63,7 +63,7 @@ returns c =
       search needs,
       λ s k issued q few full.
           subst (λ vs. Leaves (refresh (a .b)) (row (c .before) s k (a .views) issued) q
-          (c .before .may-refresh .result) (row (c .before) s k vs issued) q)
+          (c .before .may-refresh .result) 0 (row (c .before) s k vs issued) q)
           (sym (ap (set (a .views) i) (c .before .before .view .ensures) ∙ set-idle noView (a .views) i))
           (turns-refused _ (p .2) few q full _ _ (answers (c .before) s k issued) (c .if1 .taken)),
     )
@@ -102,8 +102,8 @@ returns-2 c =
     let p = entry d .pre in (
       search needs,
       λ s k issued q few full.
-          turns-accepted (row d s k (a .views) issued) (p .2) few q full _ _ _ _ (answers d s k issued)
-          (c .before .before .before .before .before .before .before .if1 .left)
+          turns-accepted (row d s k (a .views) issued) (p .2) few q full _ _ _ _ _ (answers d s k issued)
+          (c .before .before .before .before .before .before .before .if1 .left) bits-none
           (refresh-after (row d s k (a .views) issued) (p .2) q full (a .b) _ _ _ _
           (c .before .before .counts .last .1 .1 .1 .0) (own d .seat .ensures .2) (d .before .view .ensures)
           (c .before .before .before .before .before .before .lookup .ensures) (eight (entry d)) (p .0)

@@ -10,7 +10,7 @@ use Rattle.cluster.specs.declared.Controller.{Controller}
 use Rattle.cluster.specs.declared.Cluster.{Cluster}
 use Rattle.cluster.specs.Layout.{outlineOf}
 use Rattle.refinement.specs.Refinement.{rowOf}
-use Rattle.refinement.proofs.Turning.{turns-refused, turns-accepted}
+use Rattle.refinement.proofs.Turning.{bits-none, turns-refused, turns-accepted}
 use Rattle.steps_leader.proofs.Answers.{acknowledge-answer}
 use Rattle.steps_leader.proofs.Afters.{acknowledge-after}
 use Rattle.steps_leader.proofs.acknowledge.Statement.{statement}
@@ -107,8 +107,8 @@ returns-2 : tie.Need-returns-2
 returns-2 c g k issued q few full =
     let a = entry (c .before) .args in
     let p = entry (c .before) .pre in
-    turns-accepted (row (c .before) g k issued) (p .2) few q full _ _ _ _ (answers (c .before) g k issued)
-    (c .if1 .left)
+    turns-accepted (row (c .before) g k issued) (p .2) few q full _ _ _ _ _ (answers (c .before) g k issued)
+    (c .if1 .left) bits-none
     (acknowledge-after (row (c .before) g k issued) (p .2) q full (a .a) (a .b) _ _ _ _
     (one (c .before) .seat .ensures .2) (other (c .before) .seat2 .ensures .2)
     (c .before .before .before .before .before .before .before .pair .ensures) (c .before .before .lookup2 .ensures)

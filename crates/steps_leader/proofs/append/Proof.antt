@@ -13,7 +13,7 @@ use Rattle.cluster.specs.declared.Controller.{Controller}
 use Rattle.cluster.specs.declared.Cluster.{Cluster}
 use Rattle.cluster.specs.Layout.{outlineOf}
 use Rattle.refinement.specs.Refinement.{lent, rowOf}
-use Rattle.refinement.proofs.Turning.{turns-refused, turns-accepted, fits-next, len-short}
+use Rattle.refinement.proofs.Turning.{bits-none, turns-refused, turns-accepted, fits-next, len-short}
 use Rattle.steps_leader.proofs.Answers.{append-room, append-answer}
 use Rattle.steps_leader.proofs.Afters.{append-after, append-places}
 use Rattle.steps_leader.proofs.append.Statement.{statement}
@@ -121,7 +121,7 @@ returns-2 c g k joined issued list list2 few full =
     let w = (λ i. lent (s .0 i) (s .1 i) list list2)
     ∙ append-places r q (a .b) (a .value) _ (h .2) (d .before .before .view .ensures)
     (zero-accepted (outlineOf r) (append (a .b) (a .value)) (sym e ∙ z)) in
-    turns-accepted r (p .1) few q full _ _ _ _ e z
+    turns-accepted r (p .1) few q full _ _ _ _ _ e z bits-none
     (append-after r (p .1) q full (a .b) (a .value) _ (h .2) (p .0) _ w)
     (len-short (now (a .len)) (p .1) _ _ (h .0) (h .1) (omega (arith, room d z))) few w
 

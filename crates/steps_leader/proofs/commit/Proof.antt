@@ -14,7 +14,7 @@ use Rattle.cluster.specs.declared.Cluster.{Cluster}
 use Rattle.cluster.specs.Layout.{outlineOf}
 use Rattle.refinement.specs.Refinement.{lent, rowOf}
 use Rattle.refinement.proofs.Turning.{turns-refused, turns-accepted, short-at}
-use Rattle.steps_leader.proofs.Answers.{commit-room, commit-answer}
+use Rattle.steps_leader.proofs.Answers.{commit-room, commit-answer, commit-set}
 use Rattle.steps_leader.proofs.Afters.{commit-after, commit-places}
 use Rattle.steps_leader.proofs.commit.Statement.{statement}
 use Rattle.steps_leader.proofs.commit.Tie as tie
@@ -71,27 +71,31 @@ returns c g k joined =
     turns-refused (row (c .before) g k joined) (p .2) (p .0) _ (p .3) _ _ (answers (c .before) g k joined)
     (c .if1 .taken)
 
+both-requires : tie.Need-both-requires
+both-requires c κs = search needs
+
 value-requires : tie.Need-value-requires
 value-requires c κs =
-    let h = own (c .before) .seat .ensures in
-    (entry (c .before) .pre .3 .store, h .0, h .1, room (c .before) (c .if1 .left))
+    let d = c .before in
+    let h = own (d .before) .seat .ensures in
+    (entry (d .before) .pre .3 .store, h .0, h .1, room (d .before) (d .if1 .left))
 
 term-requires : tie.Need-term-requires
 term-requires c κs =
-    let d = c .before in
+    let d = c .before .before in
     let h = own (d .before) .seat .ensures in
     (entry (d .before) .pre .3 .store2, h .0, h .1, room (d .before) (d .if1 .left))
 
 commit-requires : tie.Need-commit-requires
 commit-requires c κs =
-    let d = c .before .before .before .before in
+    let d = c .before .before .before .before .before in
     let s = entry (d .before) in
     let r = room (d .before) (d .if1 .left) in
     let n = s .args .issued in
     (subst (λ m. n < m) (sym (s .pre .3 .list)) r, subst (λ m. n < m) (sym (s .pre .3 .list2)) r)
 
-add-t23 : tie.Need-add-t23
-add-t23 c = search needs
+add-m : tie.Need-add-m
+add-m c = search needs
 
 same-length : tie.Need-same-length
 same-length c = search needs
@@ -103,7 +107,7 @@ returns-2 : tie.Need-returns-2
 returns-2 c g k joined =
     let m = c .before .before .before .before in
     let v = m .before .before .before .before in
-    let f = v .before in
+    let f = v .before .before in
     let d = f .before in
     let z = f .if1 .left in
     let a = entry d .args in
@@ -116,7 +120,9 @@ returns-2 c g k joined =
     let w = (λ i. lent (now (a .store)) (now (a .store2)) (l i) (t i))
     ∙ commit-places r q (a .b) _ (own d .seat .ensures .2) (zero-accepted (outlineOf r) (commit (a .b)) (sym e ∙ z)) in
     let n = room d z in
-    turns-accepted r (p .2) (p .0) q (p .3) _ _ _ _ e z
+    turns-accepted r (p .2) (p .0) q (p .3) _ _ _ _ _ e z
+    (commit-set r (a .b) _ (own d .seat .ensures .2) _ _ (d .before .before .before .view .ensures)
+    (d .before .counted .ensures) (v .before .both .ensures) (zero-accepted (outlineOf r) (commit (a .b)) (sym e ∙ z)))
     (commit-after r (p .2) q (p .3) (a .b) _ w n) (p .2) (omega (arith, n)) w
 
 pub commit-spec : {M : Type 1} → statement M
@@ -129,10 +135,11 @@ commit-spec =
     counted-requires
     may-commit-requires
     returns
+    both-requires
     value-requires
     term-requires
     commit-requires
-    add-t23
+    add-m
     same-length
     same-length-2
     returns-2)

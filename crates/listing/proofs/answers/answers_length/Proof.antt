@@ -11,13 +11,14 @@ use Rattle.listing.proofs.answers.answers_length.Statement.{statement}
 use Rattle.listing.proofs.answers.answers_length.Tie as tie
 
 abbrev Inv-loop : tie.InvT-loop
-Inv-loop sheet answers n total₀ i₀ total i = (i ≤ n) × (total ≤ 33 * i) × (total ≡ length (lines sheet answers i))
+Inv-loop sheet answers sets n total₀ i₀ total i =
+    (i ≤ n) × (total ≤ 42 * i) × (total ≡ length (lines sheet answers sets i))
 
 abbrev μ-loop : tie.MeasureT-loop
-μ-loop sheet answers n total₀ i₀ total i = n - i
+μ-loop sheet answers sets n total₀ i₀ total i = n - i
 
 loop-holds : tie.Need-loop-holds Inv-loop μ-loop
-loop-holds c = (omega arith, omega arith, sym (ap length (lines-none _ _)))
+loop-holds c = (omega arith, omega arith, sym (ap length (lines-none _ _ _)))
 
 add-line-length : tie.Need-add-line-length Inv-loop μ-loop
 add-line-length c = omega arith
@@ -34,6 +35,9 @@ shared-slice-read-line-length c = omega arith
 shared-slice-read-line-length-2 : tie.Need-shared-slice-read-line-length-2 Inv-loop μ-loop
 shared-slice-read-line-length-2 c = omega arith
 
+shared-slice-read-line-length-3 : tie.Need-shared-slice-read-line-length-3 Inv-loop μ-loop
+shared-slice-read-line-length-3 c = omega arith
+
 line-length-requires : tie.Need-line-length-requires Inv-loop μ-loop
 line-length-requires c κs = search needs
 
@@ -48,22 +52,23 @@ loop-less c = omega arith
 
 loop-again : tie.Need-loop-again Inv-loop μ-loop
 loop-again c =
-    let d = c .before .before .before .before in
+    let d = c .before .before .before .before .before in
     let l = d .loop in
-    let a = d .before .before .before .args in
+    let a = d .before .before .before .before .args in
     let s = now (a .sheet) in
     let ns = now (a .answers) in
-    let more = ap length (one-more s ns (l .i) (omega arith)) in
-    let both = length-append (lines s ns (l .i)) (lineAt s ns (l .i)) in
+    let ms = now (a .sets) in
+    let more = ap length (one-more s ns ms (l .i) (omega arith) (omega arith)) in
+    let both = length-append (lines s ns ms (l .i)) (lineAt s ns ms (l .i)) in
     let w = c .line-length .ensures in
     (omega arith, omega (arith, l .inv .1, w .1), omega (arith, l .inv .2, w .0, more, both))
 
 returns : tie.Need-returns Inv-loop μ-loop
 returns c =
     let l = c .before .loop in
-    let a = c .before .before .before .before .args in
+    let a = c .before .before .before .before .before .args in
     let e : l .i ≡ length (now (a .sheet)) / 8 = omega arith in
-    (l .inv .2 ∙ ap (λ n. length (lines (now (a .sheet)) (now (a .answers)) n)) e, omega (arith, l .inv .1, e))
+    (l .inv .2 ∙ ap (λ n. length (lines (now (a .sheet)) (now (a .answers)) (now (a .sets)) n)) e, omega (arith, l .inv .1, e))
 
 pub answers-length-spec : {M : Type 1} → statement M
 answers-length-spec =
@@ -77,6 +82,7 @@ answers-length-spec =
     mul-line-length
     shared-slice-read-line-length
     shared-slice-read-line-length-2
+    shared-slice-read-line-length-3
     line-length-requires
     add-total
     add-i

@@ -13,11 +13,12 @@ use Rattle.listing.proofs.answers.deliver.Statement.{statement}
 use Rattle.listing.proofs.answers.deliver.Tie as tie
 
 abbrev start : tie.After-has-room → tie.Start
-start c = c .before .before .before .before .before
+start c = c .before .before .before .before .before .before
 
 -- The records' lines.
 abbrev answers : tie.Start → Text
-answers e = lines (now (e .args .sheet)) (now (e .args .answers)) (length (now (e .args .sheet)) / 8)
+answers e =
+    lines (now (e .args .sheet)) (now (e .args .answers)) (now (e .args .sets)) (length (now (e .args .sheet)) / 8)
 
 has-room-requires : tie.Need-has-room-requires
 has-room-requires c κs = search needs
@@ -38,7 +39,7 @@ room c = leb-true _ _ (sym (c .before .has-room .ensures) ∙ not-false _ (c .if
 put-answers-requires : tie.Need-put-answers-requires
 put-answers-requires c κs =
     let p = start (c .before .before) .pre in
-    (p .0, p .1, omega (arith, room (c .before)))
+    (p .0, p .1, p .2, omega (arith, room (c .before)))
 
 put-bytes-requires : tie.Need-put-bytes-requires
 put-bytes-requires c κs =

@@ -18,16 +18,17 @@ mul-if1 c = search needs
 add-if1 : tie.Need-add-if1
 add-if1 c = search needs
 
--- There is place for 12 bytes a line.
+-- There is place for 19 bytes a line.
 returns : tie.Need-returns
 returns c =
-    let e = c .before .before .before in
+    let e = c .before .before .before .before in
     let s = now (e .args .sheet) in
     let ns = now (e .args .answers) in
-    let bytes = c .before .before .shared-slice-known .given in
+    let ms = now (e .args .sets) in
+    let bytes = c .before .before .before .shared-slice-known .given in
     let n = length s / 8 in
-    let most = lines-most s ns (λ i. omega (arith, bytes i)) n (e .pre .3) (e .pre .0) (e .pre .1) in
-    sym (le-leb (length (lines s ns n) + e .args .end) (e .args .room) (omega (arith, most, c .if1 .taken)))
+    let most = lines-most s ns ms (λ i. omega (arith, bytes i)) n (e .pre .4) (e .pre .0) (e .pre .1) (e .pre .2) in
+    sym (le-leb (length (lines s ns ms n) + e .args .end) (e .args .room) (omega (arith, most, c .if1 .taken)))
 
 answers-length-requires : tie.Need-answers-length-requires
 answers-length-requires c κs = search needs
@@ -37,7 +38,7 @@ add-result c = search needs
 
 returns-2 : tie.Need-returns-2
 returns-2 c =
-    let a = c .before .before .before .before .args in
+    let a = c .before .before .before .before .before .args in
     ap (λ n. leb (n + a .end) (a .room)) (c .answers-length .ensures .0)
 
 pub has-room-spec : {M : Type 1} → statement M

@@ -1,6 +1,7 @@
 -- `listing::answers::line_length` meets its contract. Assumes nothing.
-use Prim.Native.Nat.{_≤_}
+use Prim.Native.Nat.{_+_, _≤_}
 use native.Mathlib.Omega.{arith}
+use Rattle.cluster.specs.Layout.{bits}
 use Rattle.lines.proofs.Lengths.{line-length}
 use Rattle.listing.proofs.AnswerLines.{few}
 use borrow.Author.Needs.{needs}
@@ -33,17 +34,37 @@ number-length-requires-3 c κs = search needs
 add-result-2 : tie.Need-add-result-2
 add-result-2 c = omega (arith, few1 (c .before .before), few2 (c .before), few3 c)
 
+fourth-length-requires : tie.Need-fourth-length-requires
+fourth-length-requires c κs = search needs
+
+-- So the four parts have at most 39 bytes.
+sum : (c : tie.After-fourth-length) → let d3 = c .before in let d2 = d3 .before in
+    d2 .before .number-length .result + d2 .number-length2 .result + d3 .number-length3 .result + c .fourth-length .result ≤ 39
+sum c =
+    let d3 = c .before in
+    omega (arith, few1 (d3 .before .before), few2 (d3 .before), few3 d3, c .fourth-length .ensures .1)
+
 add-result-3 : tie.Need-add-result-3
-add-result-3 c = omega (arith, few1 (c .before .before), few2 (c .before), few3 c)
+add-result-3 c = omega (arith, sum c)
+
+add-result-4 : tie.Need-add-result-4
+add-result-4 c = omega (arith, sum c)
 
 returns : tie.Need-returns
 returns c =
-    let d1 = c .before .before in
-    let d2 = c .before in
-    let a = d1 .before .args in
-    let sum = line-length (a .k) (a .step) (a .answer) in (
-      omega (arith, sum, d1 .number-length .ensures, d2 .number-length2 .ensures, c .number-length3 .ensures),
-      omega (arith, few1 d1, few2 d2, few3 c),
+    let d3 = c .before in
+    let d2 = d3 .before in
+    let d1 = d2 .before in
+    let a = d1 .before .args in (
+      omega (
+        arith,
+        line-length (a .k) (a .step) (a .answer) (bits (a .q)),
+        d1 .number-length .ensures,
+        d2 .number-length2 .ensures,
+        d3 .number-length3 .ensures,
+        c .fourth-length .ensures .0,
+      ),
+      omega (arith, sum c),
     )
 
 pub line-length-spec : {M : Type 1} → statement M
@@ -55,5 +76,7 @@ line-length-spec =
     add-result
     number-length-requires-3
     add-result-2
+    fourth-length-requires
     add-result-3
+    add-result-4
     returns)

@@ -14,21 +14,21 @@ use Rattle.sheet.proofs.running.walk.Statement.{statement}
 use Rattle.sheet.proofs.running.walk.Tie as tie
 
 abbrev Inv-loop : tie.InvT-loop
-Inv-loop sheet joined₀ acked₀ len₀ store₀ store2₀ list₀ list2₀ answers₀ n g₀ c₀ views₀ issued₀ k₀
-    joined acked len store store2 list list2 answers g c views issued k =
+Inv-loop sheet joined₀ acked₀ len₀ store₀ store2₀ list₀ list2₀ answers₀ sets₀ n g₀ c₀ views₀ issued₀ k₀
+    joined acked len store store2 list list2 answers sets g c views issued k =
     (k ≤ n)
     × Shape (rowOf g c views joined acked len issued)
-    × Ran sheet k (rowOf g c views joined acked len issued) (lent store store2 list list2) answers
+    × Ran sheet k (rowOf g c views joined acked len issued) (lent store store2 list list2) answers sets
 
 abbrev μ-loop : tie.MeasureT-loop
-μ-loop sheet joined₀ acked₀ len₀ store₀ store2₀ list₀ list2₀ answers₀ n g₀ c₀ views₀ issued₀ k₀
-    joined acked len store store2 list list2 answers g c views issued k =
+μ-loop sheet joined₀ acked₀ len₀ store₀ store2₀ list₀ list2₀ answers₀ sets₀ n g₀ c₀ views₀ issued₀ k₀
+    joined acked len store store2 list list2 answers sets g c views issued k =
     n - k
 
 -- The ways back: from the loop to the start, and in a turn of the loop from what send answered to its call, to the
 -- record and to the turn's test.
-abbrev entry : tie.After-slice-known8 Inv-loop μ-loop → tie.Start Inv-loop μ-loop
-entry c = c .before .before .before .before .before .before .before .before .before
+abbrev entry : tie.After-slice-known9 Inv-loop μ-loop → tie.Start Inv-loop μ-loop
+entry c = c .before .before .before .before .before .before .before .before .before .before
 
 abbrev start : tie.At-loop Inv-loop μ-loop → tie.Start Inv-loop μ-loop
 start c = entry (c .before .before .before .before)
@@ -77,7 +77,7 @@ send-requires c κs =
     let d = t .before in
     let e = start d in
     let h = d .loop .inv .2 in (
-      ran-ready (now (e .args .sheet)) (e .pre .0) (d .loop .k) _ (places d) (d .loop .answers) h (d .loop .inv .1),
+      ran-ready (now (e .args .sheet)) (e .pre .0) (d .loop .k) _ (places d) (d .loop .answers) (d .loop .sets) h (d .loop .inv .1),
       h .full,
     )
 
@@ -86,6 +86,12 @@ add-answers c = omega (arith, small (turn (sent c)))
 
 slice-write-answers : tie.Need-slice-write-answers Inv-loop μ-loop
 slice-write-answers c = let t = turn (sent c) in omega (arith, small t, t .before .loop .inv .2 .room)
+
+add-sets : tie.Need-add-sets Inv-loop μ-loop
+add-sets c = omega (arith, small (turn (sent c)))
+
+slice-write-sets : tie.Need-slice-write-sets Inv-loop μ-loop
+slice-write-sets c = let t = turn (sent c) in omega (arith, small t, t .before .loop .inv .2 .sets)
 
 mul-views : tie.Need-mul-views Inv-loop μ-loop
 mul-views c = search needs
@@ -117,8 +123,9 @@ loop-again c =
         acked = same .1 .0 ∙ l .inv .1 .acked;
         len = same .1 .1 .0 ∙ l .inv .1 .len;
       },
-      ran-more (now (e .args .sheet)) (e .pre .0) (l .k) (row d) (places d) (l .answers) h _
-          (decoded x .decode .ensures) (x .send .ensures .leaves) (omega (arith, small t, h .room)),
+      ran-more (now (e .args .sheet)) (e .pre .0) (l .k) (row d) (places d) (l .answers) (l .sets) h _
+          (decoded x .decode .ensures) (x .send .ensures .leaves) (omega (arith, small t, h .room))
+          (omega (arith, small t, h .sets)),
     )
 
 same-length : tie.Need-same-length Inv-loop μ-loop
@@ -145,12 +152,15 @@ same-length-7 c = search needs
 same-length-8 : tie.Need-same-length-8 Inv-loop μ-loop
 same-length-8 c = search needs
 
+same-length-9 : tie.Need-same-length-9 Inv-loop μ-loop
+same-length-9 c = search needs
+
 returns : tie.Need-returns Inv-loop μ-loop
 returns c =
     let d = c .before in
     let s = now (start d .args .sheet) in
     let e : d .loop .k ≡ length s / 8 - 1 = omega arith in
-    subst (λ m. Ran s m (row d) (places d) (d .loop .answers)) e (d .loop .inv .2)
+    subst (λ m. Ran s m (row d) (places d) (d .loop .answers) (d .loop .sets)) e (d .loop .inv .2)
 
 pub walk-spec : {M : Type 1} → statement M
 walk-spec =
@@ -166,6 +176,8 @@ walk-spec =
     send-requires
     add-answers
     slice-write-answers
+    add-sets
+    slice-write-sets
     mul-views
     array-set-from-views
     add-k
@@ -179,4 +191,5 @@ walk-spec =
     same-length-6
     same-length-7
     same-length-8
+    same-length-9
     returns)
