@@ -5,19 +5,21 @@ use Prim.Native.Nat.{ℕ}
 use lib.Dec.{T, leb, eqb, eqb→eq}
 use lib.ListN.{length}
 use borrow.Author.Tests.{eqb-false, eq-eqb}
-use Rattle.model.specs.Members.{isReplica}
-use Rattle.model.specs.State.{RowState, outline, entries, stageNumber}
-use Rattle.model.specs.Steps.{Step, accepted, next, step, withController}
+use Rattle.model.specs.Members.{isReplica, none}
+use Rattle.model.specs.State.{RowState, Outline, outline, entries, stageNumber}
+use Rattle.model.specs.Steps.{Step, accepted, qualified, next, step, withController}
 use Rattle.model.specs.Ranges.{every}
-use Rattle.model.proofs.Tests.{of-true, is-true, split-and}
+use Rattle.model.proofs.Tests.{same-choice, of-true, is-true, split-and}
 use Rattle.model.proofs.Range.{AllTrue, of-every}
 use Rattle.cluster.specs.declared.Controller.{Controller}
 use Rattle.cluster.specs.declared.Told.{Told}
-use Rattle.cluster.specs.Layout.{stageOf, controllerOf}
+use Rattle.cluster.specs.Layout.{bits, stageOf, controllerOf}
 use Rattle.cluster.specs.Parts.{Tells}
 use Rattle.cluster.specs.Stages.{HasLeader}
 use Rattle.steps_controller.specs.Known.{LeaderKnown, ReadKnown, HearKnown}
+use Rattle.refinement.proofs.Turning.{bits-none}
 use Rattle.hub.specs.declared.Report.{Report}
+use Rattle.hub.specs.declared.Returned.{Returned}
 use Rattle.hub.specs.Lent.{controllerFits, reportRanges, reportFits, leaderFits, Reported, Lends}
 
 -- A step that changes the controller at most: the state before it with the controller after it is the state after it.
@@ -31,29 +33,35 @@ module _ (st : Step) (only : (s : RowState) → next entries s st ≡ withContro
       go false = refl
 
 -- Refusal 1, which leaves c.
-pub turned-away : (st : Step) (c : Controller) (fits : Bool) → fits ≡ false → (Known : RowState → Type 0) (t : Told)
-    → t .answer ≡ 1 → t .controller ≡ c → Lends fits Known st c (t .answer) (t .controller)
-turned-away st c fits unfit Known t ea ec = record {
+pub turned-away : (st : Step) (c : Controller) (fits : Bool) → fits ≡ false → (Known : RowState → Type 0) (t : Returned)
+    → t .reply .answer ≡ 1 → t .reply .behind ≡ 0 → t .controller ≡ c → Lends fits Known st c (t .reply) (t .controller)
+turned-away st c fits unfit Known t ea eb ec = record {
   answer = λ s f. ea ∙ rw unfit;
+  behind = λ s f. rw unfit (ap bits eb ∙ bits-none);
   state = λ s f. rw (unfit, ec);
   refused = λ _. ec;
 }
 
--- The core's step of c, which is st, gave a; refusal 1 is checked before it, and what is refused leaves c.
+-- The core's step of c, which is st and asks no majority, gave a; refusal 1 is checked before it, and what is refused
+-- leaves c.
 module _ (st : Step) (only : (s : RowState) → next entries s st ≡ withController s (next entries s st .controller))
-    (c : Controller) (Known′ : RowState → Type 0) (core : Step) (a : Told) (by-core : Tells Known′ core c a)
+    (quiet : (m : Outline) → qualified m st ≡ none) (c : Controller) (Known′ : RowState → Type 0) (core : Step) (a : Told) (by-core : Tells Known′ core c a)
     (same-step : core ≡ st) where
   h : Tells Known′ st c a
   h = subst (λ st. Tells Known′ st c a) same-step by-core
 
   pub lends : (fits : Bool) (Known : RowState → Type 0) → ((s : RowState) → fits ≡ true → Known s → Known′ s) → (n : ℕ)
       → n ≡ cond fits (a .answer) 1
-      → (t : Told) → t .answer ≡ n → t .controller ≡ cond (eqb n 0) (a .controller) c
-      → Lends fits Known st c (t .answer) (t .controller)
-  lends true Known k n e t ea ec =
+      → (t : Returned) → t .reply .answer ≡ n → t .reply .behind ≡ 0
+      → t .controller ≡ cond (eqb n 0) (a .controller) c
+      → Lends fits Known st c (t .reply) (t .controller)
+  lends true Known k n e t ea eb ec =
       let left : t .controller ≡ a .controller = ec ∙ same (eqb n 0) refl in
       record {
         answer = λ s f. ea ∙ e ∙ h .answer s (k s refl (f refl));
+        behind = λ s f. ap bits eb ∙ bits-none
+            ∙ same-choice (accepted (outline (withController s (controllerOf c))) st)
+            (quiet (outline (withController s (controllerOf c))));
         state = λ s f. ap (λ d. withController s (controllerOf d)) left
             ∙ ap (withController s) (h .after s (k s refl (f refl)))
             ∙ put-back st only (withController s (controllerOf c));
@@ -63,8 +71,8 @@ module _ (st : Step) (only : (s : RowState) → next entries s st ≡ withContro
       same : (u : Bool) → eqb n 0 ≡ u → cond u (a .controller) c ≡ a .controller
       same true q = refl
       same false q = sym (h .refused (λ y. eqb-false n 0 q (e ∙ y)))
-  lends false Known k n e t ea ec =
-      turned-away st c false refl Known t (ea ∙ e) (ec ∙ ap (λ m. cond (eqb m 0) (a .controller) c) e)
+  lends false Known k n e t ea eb ec =
+      turned-away st c false refl Known t (ea ∙ e) eb (ec ∙ ap (λ m. cond (eqb m 0) (a .controller) c) e)
 
 -- A report that fits.
 module _ (c : Controller) (x : Report) where

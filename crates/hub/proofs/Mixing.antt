@@ -15,13 +15,13 @@ called : {s : RowState} {st : Step} {h h′ : Held} {n q : ℕ} → Reached s �
     → Called st h h′ n q
 unfolding PutBack
 called k m (byValue d) = d
-called k m (news {h = h} {n = n} {c′ = c′} shape l) = put-back (h .row) (h .places) shape (fit k m) .news n c′ l
-called k m (readLeader {h = h} {b = b} {n = n} {c′ = c′} shape t l) =
-    put-back (h .row) (h .places) shape (fit k m) .readLeader b n c′ t l
-called k m (read {h = h} {b = b} {n = n} {c′ = c′} shape l) =
-    put-back (h .row) (h .places) shape (fit k m) .read b n c′ l
-called k m (hear {h = h} {b = b} {n = n} {c′ = c′} shape l) =
-    put-back (h .row) (h .places) shape (fit k m) .hear b n c′ l
+called k m (news {h = h} {r = r} {c′ = c′} shape l) = put-back (h .row) (h .places) shape (fit k m) .news r c′ l
+called k m (readLeader {h = h} {b = b} {r = r} {c′ = c′} shape t l) =
+    put-back (h .row) (h .places) shape (fit k m) .readLeader b r c′ t l
+called k m (read {h = h} {b = b} {r = r} {c′ = c′} shape l) =
+    put-back (h .row) (h .places) shape (fit k m) .read b r c′ l
+called k m (hear {h = h} {b = b} {r = r} {c′ = c′} shape l) =
+    put-back (h .row) (h .places) shape (fit k m) .hear b r c′ l
 
 calls : {h h′ : Held} {sts : List Step} {ns qs : List ℕ} → Links h sts h′ ns qs → (s : RowState) → Reached s
     → Holds s h → Calls h sts h′ ns qs

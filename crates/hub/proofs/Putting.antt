@@ -10,28 +10,21 @@ use borrow.Author.Tests.{eqb-true, eq-eqb}
 use Rattle.model.specs.Members.{isReplica, none}
 use Rattle.model.specs.State.{RowState, Outline, outline, entries, stageNumber}
 use Rattle.model.specs.Steps as S
-use Rattle.model.specs.Steps.{Step, nothing, writes, accepted, answerOf, qualified, behind, step}
+use Rattle.model.specs.Steps.{Step, nothing, writes, accepted, answerOf, qualified, behind, next, step}
 use Rattle.model.specs.Ranges.{every, viewRanges, replicaRanges, leaderNamed, controllerLeaderNamed, ranges, inRange}
 use Rattle.model.proofs.Tests.{same-choice, of-true, is-true}
 use Rattle.model.proofs.Range.{AllTrue, of-every, to-every, of-eight, to-eight}
 use Rattle.cluster.specs.declared.Controller.{Controller}
 use Rattle.cluster.specs.declared.Cluster.{Cluster}
-use Rattle.cluster.specs.Layout.{stageOf, at, outlineOf}
+use Rattle.cluster.specs.Layout.{bits, stageOf, at, outlineOf}
 use Rattle.refinement.specs.Refinement.{Places, logged, abs, Shape, Ready, written}
-use Rattle.refinement.proofs.Turning.{bits-none, logged-full, log-len, outline-abs}
+use Rattle.refinement.proofs.Turning.{logged-full, log-len, outline-abs}
 use Rattle.steps.specs.Call.{valid}
 use Rattle.shown.proofs.Valid.{ready, valid-full, valid-range}
+use Rattle.hub.specs.declared.Reply.{Reply}
 use Rattle.hub.specs.Lent.{registryFits, controllerFits, reportRanges, reportFits, leaderFits, Reported, Lends}
 use Rattle.hub.specs.Whole.{putBack, reportOf, AsWhole, PutBack}
 use Rattle.hub.proofs.Fitting.{registry-fits, hearings, controller-fits}
-
--- A step that writes no lent place and asks no majority.
-record Plain (st : Step) : Type 0 where
-  places : writes st ≡ nothing
-  quiet : (m : Outline) → qualified m st ≡ none
-
-plain : {st : Step} → writes st ≡ nothing → ((m : Outline) → qualified m st ≡ none) → Plain st
-plain w q = record { places = w; quiet = q }
 
 -- A row that refusal 1 lets through: its parts fit, and what its boards tell does.
 module _ (row : Cluster) (ok : inRange (outlineOf row) ≡ true) where
@@ -97,55 +90,60 @@ module _ (row : Cluster) (p : Places) (shape : Shape row) (v : valid row p ≡ t
   }
 
   -- A lent call that answered and left what the model's step does is a call of the whole row.
-  as-whole : (st : Step) → Plain st → (n : ℕ) (c′ : Controller) → n ≡ answerOf (outline s) st
-      → abs (putBack row c′) p ≡ step entries s st
-      → (n ≢ 0 → c′ ≡ row .controller) → AsWhole st row p n c′
-  as-whole st w n c′ a e r =
+  as-whole : (st : Step) → writes st ≡ nothing → (r : Reply) (c′ : Controller) → r .answer ≡ answerOf (outline s) st
+      → bits (r .behind) ≡ behind (outline s) st → abs (putBack row c′) p ≡ step entries s st
+      → (r .answer ≢ 0 → c′ ≡ row .controller) → AsWhole st row p r c′
+  as-whole st w r c′ a b e f =
       let full = valid-full row p v in
       let o = outline-abs row (is-ready .short) (is-ready .issued) p full in
       let o′ = outline-abs (putBack row c′) (is-ready .short) (is-ready .issued) p full in
       record {
         answer = a ∙ ap (λ m. answerOf m st) o ∙ ap (λ u. cond u (answerOf (outlineOf row) st) 1) (sym v);
-        behind = bits-none ∙ same-choice (accepted (outlineOf row) st) (w .quiet (outlineOf row))
-            ∙ ap (λ u. cond u (behind (outlineOf row) st) none) (sym v);
+        behind = b ∙ ap (λ m. behind m st) o ∙ ap (λ u. cond u (behind (outlineOf row) st) none) (sym v);
         state = e ∙ ap (λ u. cond u (step entries s st) s) (sym v);
         outlined = sym o′ ∙ ap outline e ∙ ap (λ u. cond u (outline (step entries s st)) (outlineOf row)) (sym v);
-        places = same-choice (valid row p && accepted (outlineOf row) st) (ap (λ x. written x row p) (w .places));
-        refused = λ z. ap (putBack row) (r z);
+        places = same-choice (valid row p && accepted (outlineOf row) st) (ap (λ x. written x row p) w);
+        refused = λ z. ap (putBack row) (f z);
       }
 
   -- It did, where what it was given fits and is so.
-  fitting : (st : Step) → Plain st → (fits : Bool) (Known : RowState → Type 0) (n : ℕ) (c′ : Controller)
+  fitting : (st : Step) → writes st ≡ nothing → (fits : Bool) (Known : RowState → Type 0) (r : Reply)
+      (c′ : Controller)
       → fits ≡ true → Known s
-      → Lends fits Known st (row .controller) n c′ → AsWhole st row p n c′
-  fitting st w fits Known n c′ f k l = as-whole st w n c′
+      → Lends fits Known st (row .controller) r c′ → AsWhole st row p r c′
+  fitting st w fits Known r c′ f k l = as-whole st w r c′
       (l .answer s (λ _. k) ∙ ap (λ u. cond u (answerOf (outline s) st) 1) f)
+      (l .behind s (λ _. k) ∙ ap (λ u. cond u (behind (outline s) st) none) f)
       (l .state s (λ _. k) ∙ ap (λ u. cond u (step entries s st) s) f) (l .refused)
 
   -- It did, where what it was given does not fit, if the step refuses with 1 too.
-  unfitting : (st : Step) → Plain st → (fits : Bool) (Known : RowState → Type 0) (n : ℕ) (c′ : Controller)
+  unfitting : (st : Step) → writes st ≡ nothing → (fits : Bool) (Known : RowState → Type 0) (r : Reply)
+      (c′ : Controller)
       → fits ≡ false
-      → answerOf (outline s) st ≡ 1 → step entries s st ≡ s → Lends fits Known st (row .controller) n c′
-      → AsWhole st row p n c′
-  unfitting st w fits Known n c′ f a e l = as-whole st w n c′
-      (l .answer s none ∙ ap (λ u. cond u (answerOf (outline s) st) 1) f ∙ sym a)
-      (l .state s none ∙ ap (λ u. cond u (step entries s st) s) f ∙ sym e) (l .refused)
+      → answerOf (outline s) st ≡ 1 → accepted (outline s) st ≡ false → Lends fits Known st (row .controller) r c′
+      → AsWhole st row p r c′
+  unfitting st w fits Known r c′ f a e l = as-whole st w r c′
+      (l .answer s untold ∙ ap (λ u. cond u (answerOf (outline s) st) 1) f ∙ sym a)
+      (l .behind s untold ∙ ap (λ u. cond u (behind (outline s) st) none) f
+      ∙ ap (λ u. cond u (qualified (outline s) st) none) (sym e))
+      (l .state s untold ∙ ap (λ u. cond u (step entries s st) s) f ∙ ap (λ u. cond u (next entries s st) s) (sym e))
+      (l .refused)
     where
-      none : fits ≡ true → Known s
-      none t = absurd (subst (λ u. T (not u)) (sym f ∙ t) tt)
+      untold : fits ≡ true → Known s
+      untold t = absurd (subst (λ u. T (not u)) (sym f ∙ t) tt)
 
   -- Steps 12 and 14, of any number b: a board, or none, which both refuse with 1.
   told-whole : (st : Step) (b : ℕ)
-      → ((m : Outline) → isReplica b ≡ false → (answerOf m st ≡ 1) × (accepted m st ≡ false)) → Plain st
-      → (n : ℕ) (c′ : Controller) → Lends (reportFits (row .controller) (reportOf row b)) (Reported (reportOf row b)) st
-      (row .controller) n c′ → AsWhole st row p n c′
-  told-whole st b first w n c′ l = go (isReplica b) refl
+      → ((m : Outline) → isReplica b ≡ false → (answerOf m st ≡ 1) × (accepted m st ≡ false)) → writes st ≡ nothing
+      → (r : Reply) (c′ : Controller) → Lends (reportFits (row .controller) (reportOf row b)) (Reported (reportOf row b)) st
+      (row .controller) r c′ → AsWhole st row p r c′
+  told-whole st b first w r c′ l = go (isReplica b) refl
     where
-      go : (t : Bool) → isReplica b ≡ t → AsWhole st row p n c′
-      go true e = fitting st w _ _ n c′ (report-fit row within b e) (reported b) l
+      go : (t : Bool) → isReplica b ≡ t → AsWhole st row p r c′
+      go true e = fitting st w _ _ r c′ (report-fit row within b e) (reported b) l
       go false e =
           let f = first (outline s) e in
-          unfitting st w _ _ n c′ (rw (controller-fit row within, e)) (f .0) (rw (f .1)) l
+          unfitting st w _ _ r c′ (rw (controller-fit row within, e)) (f .0) (f .1) l
 
 -- Step 11's report is the leader's at stage leader.
 leader-fit : (row : Cluster) (b : ℕ) → reportFits (row .controller) (reportOf row b) ≡ true
@@ -164,10 +162,10 @@ unfolding PutBack
 put-back row p shape v =
     let ok = within row p shape v in
     record {
-      news = λ n c′ l. fitting row p shape v S.refreshController (plain refl λ _. refl) _ _ n c′
+      news = λ r c′ l. fitting row p shape v S.refreshController refl _ _ r c′
           (rw (registry-fit row ok, controller-fit row ok)) refl l;
-      readLeader = λ b n c′ t l. fitting row p shape v S.readLeader (plain refl λ _. refl) _ _ n c′
+      readLeader = λ b r c′ t l. fitting row p shape v S.readLeader refl _ _ r c′
           (leader-fit row b (report-fit row ok b (t .0)) (t .1)) (reported row p shape v b) l;
-      read = λ b n c′ l. told-whole row p shape v (S.read b) b (λ m e. (rw e, rw e)) (plain refl λ _. refl) n c′ l;
-      hear = λ b n c′ l. told-whole row p shape v (S.hear b) b (λ m e. (rw e, rw e)) (plain refl λ _. refl) n c′ l;
+      read = λ b r c′ l. told-whole row p shape v (S.read b) b (λ m e. (rw e, rw e)) refl r c′ l;
+      hear = λ b r c′ l. told-whole row p shape v (S.hear b) b (λ m e. (rw e, rw e)) refl r c′ l;
     }

@@ -4,18 +4,19 @@ use mathlib.Core.Bool.{Bool, true, not, cond, _&&_, _||_}
 use mathlib.Core.List.{List, [], _∷_}
 use mathlib.Core.Logic.{_≢_}
 use mathlib.Core.Path.{_≡_}
-use Prim.Native.Nat.{ℕ}
+use Prim.Native.Nat.{_<_}
 use lib.Dec.{leb, eqb}
 use lib.ListN.{length}
-use Rattle.model.specs.Members.{isReplica}
+use Rattle.model.specs.Members.{isReplica, none}
 use Rattle.model.specs.State.{RowState, outline, entries, Entry, openingWith, opened, stageNumber}
-use Rattle.model.specs.Steps.{Step, refreshController, readLeader, read, hear, answerOf, step, withRegistry, withController}
+use Rattle.model.specs.Steps.{Step, refreshController, readLeader, read, hear, answerOf, behind, step, withRegistry, withController}
 use Rattle.model.specs.Ranges.{every, isEpoch, inRange}
 use Rattle.cluster.specs.declared.Registry.{Registry}
 use Rattle.cluster.specs.declared.Controller.{Controller}
-use Rattle.cluster.specs.Layout.{stageOf, registryOf, controllerOf}
+use Rattle.cluster.specs.Layout.{bits, stageOf, registryOf, controllerOf}
 use Rattle.refinement.specs.Rows.{TypedController}
 use Rattle.hub.specs.declared.Report.{Report}
+use Rattle.hub.specs.declared.Reply.{Reply}
 
 -- Refusal 1 of a registry, and of a controller: "a number outside the ranges above, the registry's leader 0 while
 -- status is not choosing, or the controller's leader 0 at stage leader or boards". All else in an opened row is in
@@ -48,41 +49,52 @@ pub record Reported (x : Report) (s : RowState) : Type 0 where
   pub joined : s .joined (x .board) ≡ x .joined
   pub len : length (s .log (x .board)) ≡ x .len
 
--- A call of the step st, lent the controller c: it answers n and leaves c′. If what it is given fits, this is so of any
--- state in which what it was told is so; if not, of any state. There are such states, and one fixes n and c′
+-- A call of the step st, lent the controller c: it replies r and leaves c′. If what it is given fits, this is so of any
+-- state in which what it was told is so; if not, of any state. There are such states, and one fixes r and c′
 -- (`LentFixed`).
-pub record Lends (fits : Bool) (Known : RowState → Type 0) (st : Step) (c : Controller) (n : ℕ) (c′ : Controller) : Type
-    0 where
+pub record Lends (fits : Bool) (Known : RowState → Type 0) (st : Step) (c : Controller) (r : Reply)
+    (c′ : Controller) : Type 0 where
   -- Refusal 1 first, then the model's answer.
-  pub answer : (s : RowState) → (fits ≡ true → Known s) → n
+  pub answer : (s : RowState) → (fits ≡ true → Known s) → r .answer
       ≡ cond fits (answerOf (outline (withController s (controllerOf c))) st) 1
+  -- The set behind it.
+  pub behind : (s : RowState) → (fits ≡ true → Known s) → bits (r .behind)
+      ≡ cond fits (behind (outline (withController s (controllerOf c))) st) none
   -- The state with c′ put back is the model's step of the state with c.
   pub state : (s : RowState) → (fits ≡ true → Known s)
       → withController s (controllerOf c′)
       ≡ cond fits (step entries (withController s (controllerOf c)) st) (withController s (controllerOf c))
   -- A refused call leaves the record itself.
-  pub refused : n ≢ 0 → c′ ≡ c
+  pub refused : r .answer ≢ 0 → c′ ≡ c
 
 -- The four steps by what they are told: step 10 of the registry g, the others of a board by x.
-abbrev pub TakesNews : Controller → Registry → ℕ → Controller → Type 0
+abbrev pub TakesNews : Controller → Registry → Reply → Controller → Type 0
 TakesNews c g = Lends (registryFits g && controllerFits c) (λ s. s .registry ≡ registryOf g) refreshController c
 
-abbrev pub ReadsLeader : Controller → Report → ℕ → Controller → Type 0
+abbrev pub ReadsLeader : Controller → Report → Reply → Controller → Type 0
 ReadsLeader c x = Lends (leaderFits c x) (Reported x) readLeader c
 
-abbrev pub Reads : Controller → Report → ℕ → Controller → Type 0
+abbrev pub Reads : Controller → Report → Reply → Controller → Type 0
 Reads c x = Lends (reportFits c x) (Reported x) (read (x .board)) c
 
-abbrev pub Hears : Controller → Report → ℕ → Controller → Type 0
+abbrev pub Hears : Controller → Report → Reply → Controller → Type 0
 Hears c x = Lends (reportFits c x) (Reported x) (hear (x .board)) c
 
--- Such a promise fixes the answer and the record that a call leaves: what it is told is so in some state.
+-- What a reply's type fixes: its set is a mask.
+abbrev pub TypedReply : Reply → Type 0
+TypedReply r = r .behind < 256
+
+-- Such a promise fixes the reply and the record that a call leaves: what it is told is so in some state.
 pub record LentFixed : Type 0 where
-  pub news : (c : Controller) (g : Registry) (n m : ℕ) (c′ d : Controller) → TypedController c′ → TypedController d
-      → TakesNews c g n c′ → TakesNews c g m d → (n ≡ m) × (c′ ≡ d)
-  pub readLeader : (c : Controller) (x : Report) (n m : ℕ) (c′ d : Controller) → TypedController c′ → TypedController d
-      → ReadsLeader c x n c′ → ReadsLeader c x m d → (n ≡ m) × (c′ ≡ d)
-  pub read : (c : Controller) (x : Report) (n m : ℕ) (c′ d : Controller) → TypedController c′ → TypedController d
-      → Reads c x n c′ → Reads c x m d → (n ≡ m) × (c′ ≡ d)
-  pub hear : (c : Controller) (x : Report) (n m : ℕ) (c′ d : Controller) → TypedController c′ → TypedController d
-      → Hears c x n c′ → Hears c x m d → (n ≡ m) × (c′ ≡ d)
+  pub news : (c : Controller) (g : Registry) (r q : Reply) (c′ d : Controller) → TypedReply r → TypedReply q
+      → TypedController c′ → TypedController d
+      → TakesNews c g r c′ → TakesNews c g q d → (r ≡ q) × (c′ ≡ d)
+  pub readLeader : (c : Controller) (x : Report) (r q : Reply) (c′ d : Controller) → TypedReply r → TypedReply q
+      → TypedController c′ → TypedController d
+      → ReadsLeader c x r c′ → ReadsLeader c x q d → (r ≡ q) × (c′ ≡ d)
+  pub read : (c : Controller) (x : Report) (r q : Reply) (c′ d : Controller) → TypedReply r → TypedReply q
+      → TypedController c′ → TypedController d
+      → Reads c x r c′ → Reads c x q d → (r ≡ q) × (c′ ≡ d)
+  pub hear : (c : Controller) (x : Report) (r q : Reply) (c′ d : Controller) → TypedReply r → TypedReply q
+      → TypedController c′ → TypedController d
+      → Hears c x r c′ → Hears c x q d → (r ≡ q) × (c′ ≡ d)

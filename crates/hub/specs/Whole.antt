@@ -15,6 +15,7 @@ use Rattle.refinement.specs.Refinement.{Places, Shape}
 use Rattle.steps.specs.Call.{valid, Did}
 use Rattle.steps.specs.Calls.{Held, Called, Calls, Begins, Follows}
 use Rattle.hub.specs.declared.Report.{Report}
+use Rattle.hub.specs.declared.Reply.{Reply}
 use Rattle.hub.specs.Lent.{TakesNews, ReadsLeader, Reads, Hears}
 
 -- The row with the controller c.
@@ -45,18 +46,21 @@ abbrev pub TellsOfLeader : Cluster → ℕ → Type 0
 TellsOfLeader row b =
     (isReplica b ≡ true) × (stageNumber (stageOf (row .controller .stage)) ≡ 1 → b ≡ row .controller .view .leader)
 
--- The call answered n and left c′. With c′ put back, that is a call of the step with the whole row, which has no one
--- behind it, as none of the four steps asks a majority, and leaves the lent places.
-abbrev pub AsWhole : Step → Cluster → Places → ℕ → Controller → Type 0
-AsWhole st row p n c′ = Did st row p (record { answer = n; behind = 0; row = putBack row c′ }) p
+-- The call replied r and left c′. With c′ put back, that is a call of the step with the whole row, which leaves the
+-- lent places.
+abbrev pub AsWhole : Step → Cluster → Places → Reply → Controller → Type 0
+AsWhole st row p r c′ =
+    Did st row p (record { answer = r .answer; behind = r .behind; row = putBack row c′ }) p
 
 pub record LentAsWhole (row : Cluster) (p : Places) : Type 0 where
-  pub news : (n : ℕ) (c′ : Controller) → TakesNews (row .controller) (row .registry) n c′
-      → AsWhole S.refreshController row p n c′
-  pub readLeader : (b n : ℕ) (c′ : Controller) → TellsOfLeader row b
-      → ReadsLeader (row .controller) (reportOf row b) n c′ → AsWhole S.readLeader row p n c′
-  pub read : (b n : ℕ) (c′ : Controller) → Reads (row .controller) (reportOf row b) n c′ → AsWhole (S.read b) row p n c′
-  pub hear : (b n : ℕ) (c′ : Controller) → Hears (row .controller) (reportOf row b) n c′ → AsWhole (S.hear b) row p n c′
+  pub news : (r : Reply) (c′ : Controller) → TakesNews (row .controller) (row .registry) r c′
+      → AsWhole S.refreshController row p r c′
+  pub readLeader : (b : ℕ) (r : Reply) (c′ : Controller) → TellsOfLeader row b
+      → ReadsLeader (row .controller) (reportOf row b) r c′ → AsWhole S.readLeader row p r c′
+  pub read : (b : ℕ) (r : Reply) (c′ : Controller) → Reads (row .controller) (reportOf row b) r c′
+      → AsWhole (S.read b) row p r c′
+  pub hear : (b : ℕ) (r : Reply) (c′ : Controller) → Hears (row .controller) (reportOf row b) r c′
+      → AsWhole (S.hear b) row p r c′
 
 -- So it is for every row and places that refusal 1 lets through. (If it does not, the fault may be in a part of the row
 -- or in a lent place that a call lent the controller is not given. The row's type fixes the lengths of its arrays.)
@@ -71,14 +75,18 @@ putInto h c = record { row = putBack (h .row) c; places = h .places }
 -- which is then put back.
 pub data Link : Step → Held → Held → ℕ → ℕ → Type 0 where
   byValue : {st : Step} {h h′ : Held} {n q : ℕ} → Called st h h′ n q → Link st h h′ n q
-  news : {h : Held} {n : ℕ} {c′ : Controller} → Shape (h .row)
-      → TakesNews (h .row .controller) (h .row .registry) n c′ → Link S.refreshController h (putInto h c′) n 0
-  readLeader : {h : Held} {b n : ℕ} {c′ : Controller} → Shape (h .row) → TellsOfLeader (h .row) b
-      → ReadsLeader (h .row .controller) (reportOf (h .row) b) n c′ → Link S.readLeader h (putInto h c′) n 0
-  read : {h : Held} {b n : ℕ} {c′ : Controller} → Shape (h .row)
-      → Reads (h .row .controller) (reportOf (h .row) b) n c′ → Link (S.read b) h (putInto h c′) n 0
-  hear : {h : Held} {b n : ℕ} {c′ : Controller} → Shape (h .row)
-      → Hears (h .row .controller) (reportOf (h .row) b) n c′ → Link (S.hear b) h (putInto h c′) n 0
+  news : {h : Held} {r : Reply} {c′ : Controller} → Shape (h .row)
+      → TakesNews (h .row .controller) (h .row .registry) r c′
+      → Link S.refreshController h (putInto h c′) (r .answer) (r .behind)
+  readLeader : {h : Held} {b : ℕ} {r : Reply} {c′ : Controller} → Shape (h .row) → TellsOfLeader (h .row) b
+      → ReadsLeader (h .row .controller) (reportOf (h .row) b) r c′
+      → Link S.readLeader h (putInto h c′) (r .answer) (r .behind)
+  read : {h : Held} {b : ℕ} {r : Reply} {c′ : Controller} → Shape (h .row)
+      → Reads (h .row .controller) (reportOf (h .row) b) r c′
+      → Link (S.read b) h (putInto h c′) (r .answer) (r .behind)
+  hear : {h : Held} {b : ℕ} {r : Reply} {c′ : Controller} → Shape (h .row)
+      → Hears (h .row .controller) (reportOf (h .row) b) r c′
+      → Link (S.hear b) h (putInto h c′) (r .answer) (r .behind)
 
 -- Calls of both kinds one after the other, their answers and the masks of those behind them.
 pub data Links : Held → List Step → Held → List ℕ → List ℕ → Type 0 where

@@ -19,40 +19,53 @@ pub struct Report {
     pub len: u16,
 }
 
+// What a call answers, and the members behind its step as a mask: the empty set, as none of the four steps asks a
+// majority.
+pub struct Reply {
+    pub answer: u8,
+    pub behind: u8,
+}
+
+// The reply of a call, and the record that it leaves.
+pub struct Returned {
+    pub reply: Reply,
+    pub controller: Controller,
+}
+
 // Step 10, the controller takes news of the registry g.
-pub fn refresh_controller(c: &mut Controller, g: Registry) -> u8
-    ensures { λ n. ⌜ TakesNews (now (c .entry)) g n (now (c .exit)) ⌝ }
+pub fn refresh_controller(c: &mut Controller, g: Registry) -> Reply
+    ensures { λ r. ⌜ TakesNews (now (c .entry)) g r (now (c .exit)) ⌝ }
 {
     let a = copied::refresh_controller(*c, g);
     *c = a.controller;
-    a.answer
+    a.reply
 }
 
 // Step 11, the controller reads its leader, of which x tells.
-pub fn read_leader(c: &mut Controller, x: Report) -> u8
-    ensures { λ n. ⌜ ReadsLeader (now (c .entry)) x n (now (c .exit)) ⌝ }
+pub fn read_leader(c: &mut Controller, x: Report) -> Reply
+    ensures { λ r. ⌜ ReadsLeader (now (c .entry)) x r (now (c .exit)) ⌝ }
 {
     let a = copied::read_leader(*c, x);
     *c = a.controller;
-    a.answer
+    a.reply
 }
 
 // Step 12, the controller reads the board of which x tells.
-pub fn read(c: &mut Controller, x: Report) -> u8
-    ensures { λ n. ⌜ Reads (now (c .entry)) x n (now (c .exit)) ⌝ }
+pub fn read(c: &mut Controller, x: Report) -> Reply
+    ensures { λ r. ⌜ Reads (now (c .entry)) x r (now (c .exit)) ⌝ }
 {
     let a = copied::read(*c, x);
     *c = a.controller;
-    a.answer
+    a.reply
 }
 
 // Step 14, the controller hears the board of which x tells.
-pub fn hear(c: &mut Controller, x: Report) -> u8
-    ensures { λ n. ⌜ Hears (now (c .entry)) x n (now (c .exit)) ⌝ }
+pub fn hear(c: &mut Controller, x: Report) -> Reply
+    ensures { λ r. ⌜ Hears (now (c .entry)) x r (now (c .exit)) ⌝ }
 {
     let a = copied::hear(*c, x);
     *c = a.controller;
-    a.answer
+    a.reply
 }
 
 // The lent controller put back into its row makes a call of the whole row; so demand 3 holds for lists that mix calls

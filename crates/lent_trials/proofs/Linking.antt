@@ -7,11 +7,11 @@ use Rattle.model.specs.Steps.{Step}
 use Rattle.members.proofs.Laws.{replica}
 use Rattle.cluster.specs.declared.Cluster.{Cluster}
 use Rattle.cluster.specs.declared.Outcome.{Outcome}
-use Rattle.cluster.specs.declared.Told.{Told}
 use Rattle.refinement.specs.Refinement.{Places, Shape}
 use Rattle.steps.specs.Call.{valid}
 use Rattle.steps.specs.Calls.{Held}
 use Rattle.shown.proofs.Valid.{ready, valid-range}
+use Rattle.hub.specs.declared.Returned.{Returned}
 use Rattle.hub.specs.Whole.{putInto, TellsOfLeader, Link}
 use Rattle.lent_trials.specs.Put.{putTo}
 
@@ -19,8 +19,8 @@ abbrev pub held : Cluster → Places → Held
 held row p = record { row = row; places = p }
 
 -- What is put back is what the call left.
-pub linked : {st : Step} (row : Cluster) (p : Places) (x : Outcome) (t : Told) → x ≡ putTo row t
-    → Link st (held row p) (putInto (held row p) (t .controller)) (t .answer) 0
+pub linked : {st : Step} (row : Cluster) (p : Places) (x : Outcome) (t : Returned) → x ≡ putTo row t
+    → Link st (held row p) (putInto (held row p) (t .controller)) (t .reply .answer) (t .reply .behind)
     → Link st (held row p) (held (x .row) p) (x .answer) (x .behind)
 linked {st} row p x t e l = subst (λ y. Link st (held row p) (held (y .row) p) (y .answer) (y .behind)) (sym e) l
 

@@ -5,14 +5,14 @@ use mathlib.Core.Path.{_≡_}
 use Rattle.model.specs.Steps.{Step}
 use Rattle.cluster.specs.declared.Cluster.{Cluster}
 use Rattle.cluster.specs.declared.Outcome.{Outcome}
-use Rattle.cluster.specs.declared.Told.{Told}
 use Rattle.refinement.specs.Refinement.{Places}
 use Rattle.steps.specs.Call.{valid}
+use Rattle.hub.specs.declared.Returned.{Returned}
 use Rattle.hub.specs.Whole.{putBack, Link}
 
--- The row with the controller that a call left, and the call's answer, with no one behind it.
-abbrev pub putTo : Cluster → Told → Outcome
-putTo row t = record { answer = t .answer; behind = 0; row = putBack row (t .controller) }
+-- The row with the controller that a call left, and the call's reply.
+abbrev pub putTo : Cluster → Returned → Outcome
+putTo row t = record { answer = t .reply .answer; behind = t .reply .behind; row = putBack row (t .controller) }
 
 -- The step is one link of a list that mixes calls by value and over the lent controller. Demand 3 holds for such lists
 -- (`hub::claim`).

@@ -9,8 +9,8 @@ ghost use Rattle.lent_trials.specs.Put.{putTo, IsLink};
 use crate::lend;
 use cluster::Cluster;
 use cluster::Outcome;
-use cluster::Told;
 use hub::Report;
+use hub::Returned;
 
 // What board b of the row tells.
 fn report(row: Cluster, b: u8) -> Report
@@ -27,17 +27,17 @@ fn report(row: Cluster, b: u8) -> Report
     }
 }
 
-// The row with the controller as a call left it, and the call's answer, with no one behind it. The row's type fixes the
-// lengths of its arrays.
-fn put_back(row: Cluster, t: Told) -> Outcome
+// The row with the controller as a call left it, and the call's reply. The row's type fixes the lengths of its arrays.
+fn put_back(row: Cluster, t: Returned) -> Outcome
     ensures { λ x. ⌜ (x ≡ putTo row t) × Shape row ⌝ }
 {
     let mut next = row;
     let c = t.controller;
     next.controller = c;
+    let r = t.reply;
     Outcome {
-        answer: t.answer,
-        behind: 0,
+        answer: r.answer,
+        behind: r.behind,
         row: next,
     }
 }

@@ -7,7 +7,8 @@ use native.Mathlib.Omega.{arith}
 use lib.ListN.{length, getD}
 use lib.Seq.{ext-getD}
 use Rattle.model.specs.State as M
-use Rattle.members.proofs.Laws.{replica, bits-injective}
+use Rattle.members.proofs.Laws.{replica}
+pub use Rattle.members.proofs.Laws.{bits-injective}
 use Rattle.cluster.specs.declared.View.{View}
 use Rattle.cluster.specs.declared.Status.{Status}
 use Rattle.cluster.specs.declared.Status.the-variants.{Normal, Waiting}

@@ -28,10 +28,10 @@ returns c =
     let a = c .before .before .before .before .before .before .args in
     let ok = c .before .before .before .before .before .report .ensures in
     let l = c .before .before .before .before .length .ensures in
-    lends (read (a .x .board)) (λ s. refl) (a .c) (ReadKnown (a .x .board) (a .x .joined) _) _ _
+    lends (read (a .x .board)) (λ s. refl) (λ m. refl) (a .c) (ReadKnown (a .x .board) (a .x .joined) _) _ _
     (c .before .before .before .read .ensures) refl (reportFits (a .c) (a .x)) (Reported (a .x))
     (read-told (a .c) (a .x) _ (l .1)) _ (c .before .check .ensures ∙ rw ok) _ (c .ended .ensures .0)
-    (c .ended .ensures .1)
+    (c .ended .ensures .1) (c .ended .ensures .2)
 
 pub read-spec : {M : Type 1} → statement M
 read-spec =

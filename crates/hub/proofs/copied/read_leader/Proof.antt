@@ -22,7 +22,7 @@ returns c =
     let a = d .before .args in
     let unfit = sym (d .leader .ensures) ∙ not-true _ (c .before .if1 .taken) in
     turned-away readLeader (a .c) (leaderFits (a .c) (a .x)) unfit (Reported (a .x)) _
-    (c .ended .ensures .0) (c .ended .ensures .1)
+    (c .ended .ensures .0) (c .ended .ensures .1) (c .ended .ensures .2)
 
 length-requires : tie.Need-length-requires
 length-requires c κs = search needs
@@ -44,10 +44,10 @@ returns-2 c =
     let d = c .before .before .before in
     let a = d .before .before .before .args in
     let ok = fitting (d .before) in
-    lends readLeader (λ s. refl) (a .c) (LeaderKnown (a .c) (a .x .epoch) (d .length .result)) _ _
+    lends readLeader (λ s. refl) (λ m. refl) (a .c) (LeaderKnown (a .c) (a .x .epoch) (d .length .result)) _ _
     (c .before .before .read-leader .ensures) refl
     (leaderFits (a .c) (a .x)) (Reported (a .x)) (leader-told (a .c) (a .x) _ (d .length .ensures .1)) _ (rw ok) _
-    (c .ended2 .ensures .0) (c .ended2 .ensures .1)
+    (c .ended2 .ensures .0) (c .ended2 .ensures .1) (c .ended2 .ensures .2)
 
 pub read-leader-spec : {M : Type 1} → statement M
 read-leader-spec =

@@ -25,10 +25,10 @@ returns : tie.Need-returns
 returns c =
     let a = c .before .before .before .before .before .args in
     let ok = c .before .before .before .before .news .ensures in
-    lends refreshController (λ s. refl) (a .c) (λ s. s .registry ≡ registryOf (a .g)) _ _
+    lends refreshController (λ s. refl) (λ m. refl) (a .c) (λ s. s .registry ≡ registryOf (a .g)) _ _
     (c .before .before .before .refresh-controller .ensures) refl (registryFits (a .g) && controllerFits (a .c))
     (λ s. s .registry ≡ registryOf (a .g))
-    (λ s t k. k) _ (c .before .check .ensures ∙ rw ok) _ (c .ended .ensures .0) (c .ended .ensures .1)
+    (λ s t k. k) _ (c .before .check .ensures ∙ rw ok) _ (c .ended .ensures .0) (c .ended .ensures .1) (c .ended .ensures .2)
 
 pub refresh-controller-spec : {M : Type 1} → statement M
 refresh-controller-spec =

@@ -21,7 +21,7 @@ returns c p v =
     let row = c .before .before .before .before .args .row in
     let t = c .before .hear .result in
     let told = c .before .before .report .ensures in
-    let l = subst (λ x. Hears (row .controller) x (t .answer) (t .controller)) told (c .before .hear .ensures) in
+    let l = subst (λ x. Hears (row .controller) x (t .reply) (t .controller)) told (c .before .hear .ensures) in
     linked row p (c .put-back .result) t (c .put-back .ensures .0) (Link.hear (c .put-back .ensures .1) l)
 
 pub hear-spec : {M : Type 1} → statement M

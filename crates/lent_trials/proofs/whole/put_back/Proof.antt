@@ -17,7 +17,7 @@ shape c =
     }
 
 returns : tie.Need-returns
-returns c = (refl, shape (c .before))
+returns c = (refl, shape (c .before .before))
 
 pub put-back-spec : {M : Type 1} → statement M
 put-back-spec = tie.close (tie.spec returns)

@@ -28,7 +28,7 @@ returns c p v =
     let shape = c .put-back .ensures .1 in
     let told = c .before .before .report .ensures in
     let l =
-    subst (λ x. ReadsLeader (row .controller) x (t .answer) (t .controller)) told (c .before .read-leader .ensures) in
+    subst (λ x. ReadsLeader (row .controller) x (t .reply) (t .controller)) told (c .before .read-leader .ensures) in
     linked row p (c .put-back .result) t (c .put-back .ensures .0)
     (Link.readLeader shape (tells-leader row p shape v b (k .0) (k .1) (k .2)) l)
 
