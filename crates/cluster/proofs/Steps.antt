@@ -1,6 +1,6 @@
 -- A step of the registry, of the controller or of both, by the checks that it made: if they answer as the model's do,
--- its answer, the set behind it, the part or parts that it leaves, and that refused it leaves them as they were. Assumes
--- nothing.
+-- its answer, the set behind it, the part or parts that it leaves, and that refused it leaves them as they were.
+-- Assumes nothing.
 use mathlib.Core.List.{List}
 use mathlib.Core.Logic.{_≢_}
 use mathlib.Core.Path.{_≡_, sym, ap, _∙_}
@@ -19,7 +19,7 @@ use Rattle.cluster.specs.declared.Ruled.{Ruled}
 use Rattle.cluster.specs.declared.Told.{Told}
 use Rattle.cluster.specs.declared.Settled.{Settled}
 use Rattle.cluster.specs.Layout.{registryOf, controllerOf}
-use Rattle.cluster.specs.Parts.{Rules, Tells, Settles}
+use Rattle.cluster.specs.Parts.{Rules, Tells, bothIn, Settles}
 
 -- The state s with these parts in it.
 abbrev pub registryIn : Registry → RowState → RowState
@@ -27,9 +27,6 @@ registryIn r s = withRegistry s (registryOf r)
 
 abbrev pub controllerIn : Controller → RowState → RowState
 controllerIn c s = withController s (controllerOf c)
-
-abbrev pub bothIn : Registry → Controller → RowState → RowState
-bothIn r c s = controllerIn c (registryIn r s)
 
 -- The step st made the checks cs, which answered n. Refused it leaves what it was given, accepted what the model
 -- leaves.

@@ -27,16 +27,15 @@ pub record Tells (Known : RowState → Type 0) (st : Step) (c : Controller) (x :
       → controllerOf (x .controller) ≡ step entries (withController s (controllerOf c)) st .controller
   pub refused : x .answer ≢ 0 → x .controller ≡ c
 
--- Both.
+-- The state s with both parts in it.
+abbrev pub bothIn : Registry → Controller → RowState → RowState
+bothIn r c s = withController (withRegistry s (registryOf r)) (controllerOf c)
+
+-- The registry r and the controller c, and what the step st of any state that has them answers and leaves, and who is
+-- behind it.
 pub record Settles (st : Step) (r : Registry) (c : Controller) (x : Settled) : Type 0 where
-  pub answer : (s : RowState)
-      → x .answer ≡ answerOf (outline (withController (withRegistry s (registryOf r)) (controllerOf c))) st
-  pub behind : (s : RowState)
-      → bits (x .behind) ≡ behind (outline (withController (withRegistry s (registryOf r)) (controllerOf c))) st
-  pub registry : (s : RowState)
-      → registryOf (x .registry)
-      ≡ step entries (withController (withRegistry s (registryOf r)) (controllerOf c)) st .registry
-  pub controller : (s : RowState)
-      → controllerOf (x .controller)
-      ≡ step entries (withController (withRegistry s (registryOf r)) (controllerOf c)) st .controller
+  pub answer : (s : RowState) → x .answer ≡ answerOf (outline (bothIn r c s)) st
+  pub behind : (s : RowState) → bits (x .behind) ≡ behind (outline (bothIn r c s)) st
+  pub registry : (s : RowState) → registryOf (x .registry) ≡ step entries (bothIn r c s) st .registry
+  pub controller : (s : RowState) → controllerOf (x .controller) ≡ step entries (bothIn r c s) st .controller
   pub refused : x .answer ≢ 0 → (x .registry ≡ r) × (x .controller ≡ c)

@@ -1,4 +1,5 @@
-// The text of a sheet, a line in words for each record: the call behind the entry for the hub's firmware (crate row) and the program `explainsheet`.
+// The text of a sheet, a line in words for each record: the call behind the entry for the hub's firmware (crate row)
+// and the program `explainsheet`.
 
 ghost use mathlib.Core.Bool.{true};
 ghost use mathlib.Core.Path.{_≡_};

@@ -42,7 +42,8 @@ fixed fits Known st c r q c′ d hr hq t u s k l l′ = (
 
 pub lent-fixed : LentFixed
 lent-fixed = record {
-  news = λ c g r q c′ d hr hq t u l l′. fixed _ _ _ c r q c′ d hr hq t u (withRegistry (opened (openingWith 1)) (registryOf g)) refl
+  news = λ c g r q c′ d hr hq t u l l′. fixed _ _ _ c r q c′ d hr hq t u
+      (withRegistry (opened (openingWith 1)) (registryOf g)) refl
       l l′;
   readLeader = λ c x r q c′ d hr hq t u l l′. fixed _ _ _ c r q c′ d hr hq t u (somewhere x .0) (somewhere x .1) l l′;
   read = λ c x r q c′ d hr hq t u l l′. fixed _ _ _ c r q c′ d hr hq t u (somewhere x .0) (somewhere x .1) l l′;

@@ -45,7 +45,8 @@ turned-away st c fits unfit Known t ea eb ec = record {
 -- The core's step of c, which is st and asks no majority, gave a; refusal 1 is checked before it, and what is refused
 -- leaves c.
 module _ (st : Step) (only : (s : RowState) → next entries s st ≡ withController s (next entries s st .controller))
-    (quiet : (m : Outline) → qualified m st ≡ none) (c : Controller) (Known′ : RowState → Type 0) (core : Step) (a : Told) (by-core : Tells Known′ core c a)
+    (quiet : (m : Outline) → qualified m st ≡ none) (c : Controller) (Known′ : RowState → Type 0)
+    (core : Step) (a : Told) (by-core : Tells Known′ core c a)
     (same-step : core ≡ st) where
   h : Tells Known′ st c a
   h = subst (λ st. Tells Known′ st c a) same-step by-core

@@ -135,7 +135,8 @@ module _ (row : Cluster) (p : Places) (shape : Shape row) (v : valid row p ≡ t
   -- Steps 12 and 14, of any number b: a board, or none, which both refuse with 1.
   told-whole : (st : Step) (b : ℕ)
       → ((m : Outline) → isReplica b ≡ false → (answerOf m st ≡ 1) × (accepted m st ≡ false)) → writes st ≡ nothing
-      → (r : Reply) (c′ : Controller) → Lends (reportFits (row .controller) (reportOf row b)) (Reported (reportOf row b)) st
+      → (r : Reply) (c′ : Controller) → Lends (reportFits (row .controller) (reportOf row b))
+      (Reported (reportOf row b)) st
       (row .controller) r c′ → AsWhole st row p r c′
   told-whole st b first w r c′ l = go (isReplica b) refl
     where

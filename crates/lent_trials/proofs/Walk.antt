@@ -182,7 +182,8 @@ module _ (G : Declared) (GL : LL.Laws G) (GP : Plains (fields G)) (GC : LL.Copya
 
           -- What the call gives back with the machine value w: the token, its reply r, last values, and Q of them.
           abbrev given-back : Val → Item 𝓤
-          given-back w = later (some (λ (r : Reply). ((‵ (flft (α ∷ []) fullShare) ⊛ ‵ ftrue) ⊛ ‵ (Rpl.the-row .own r (w ∷ [])))
+          given-back w = later (some (λ (r : Reply).
+              ((‵ (flft (α ∷ []) fullShare) ⊛ ‵ ftrue) ⊛ ‵ (Rpl.the-row .own r (w ∷ [])))
               ⊛ raw (ensured 𝓤 H A lent lent-clauses (α ∷ [], tt) arg tt r)))
 
           abbrev promised : Reply → Item 𝓤
@@ -252,7 +253,8 @@ module _ (G : Declared) (GL : LL.Laws G) (GP : Plains (fields G)) (GC : LL.Copya
               (init ! 4 refl (lawful 𝓤 H A W .typed (ws .0) _ y-is .0)) $
               assigns ! (agg ! (and-then ! (load ! (from ! (stop !)) (look ! 8 refl))
               (and-then ! (load ! (from ! (stop !)) (look ! 4 refl)) (no-more !)))) (from ! (stop !))
-              (init ! 15 refl (LL.lawful Ans.the-type Ans′.the-laws 𝓤 H A W .typed (told r (ws .0) (told-of r w is) y-is) _
+              (init ! 15 refl (LL.lawful Ans.the-type Ans′.the-laws 𝓤 H A W .typed
+              (told r (ws .0) (told-of r w is) y-is) _
               (told-is r (ws .0) (told-of r w is) y-is) .0)) $
               returns ! (look ! 15 refl) $ forget ! 0 refl $ forget ! 4 refl $ forget ! 6 refl $ forget ! 8 refl $
               forget ! 11 refl $ forget ! 13 refl $ forget ! 15 refl $ move ! (15 ∷ 16 ∷ []) $ free1 ! $

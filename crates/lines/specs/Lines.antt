@@ -1,6 +1,6 @@
 -- Single lines of a listing of document 01, byte for byte, with the fourth field of document 02, Paper 6; of a board's
--- mark only its two words, of the receipts' line a single receipt. Cited by the promises of the writers of lines and, through `listing`, of `run_sheet`; its words
--- also by seedline. Assumes nothing.
+-- mark only its two words, of the receipts' line a single receipt. Cited by the promises of the writers of lines and,
+-- through `listing`, of `run_sheet`; its words also by seedline. Assumes nothing.
 use mathlib.Core.Bool.{Bool, cond, _&&_, _||_}
 use mathlib.Core.List.{[], _∷_, _++_}
 use Prim.Native.Nat.{ℕ, _+_}

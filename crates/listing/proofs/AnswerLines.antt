@@ -110,8 +110,9 @@ lines-room s ns ms i n h l k =
 pub few : (n r : ℕ) → r ≡ length (digits n) → n < 2 ^ 32 → r ≤ 10
 few n r e h = omega (arith, e, digits-most-10 n h)
 
--- A line has at most 19 bytes: four digits of its number, three spaces, byte 10 and, with a fourth field, two digits of
--- its step, one of its answer, eight of the set; with none three of the step's byte and two of an answer.
+-- A line has at most four digits of its number and byte 10. With a fourth field: three spaces, two digits of its step,
+-- one of its answer, eight of the set, 19 bytes in all; with none: two spaces, three digits of the step's byte, two of
+-- an answer, 12.
 line-most : (k n a : ℕ) (q : Members) → k ≤ 4095 → n < 256 → a < 100 → length (answerLine k n a q) ≤ 19
 line-most k n a q hk hn ha = go (hasFourth n a) refl
   where

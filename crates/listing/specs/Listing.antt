@@ -23,10 +23,10 @@ answerLines k (r ∷ rs) [] qs = []
 answerLines k (r ∷ rs) (n ∷ ns) [] = []
 answerLines k (r ∷ rs) (n ∷ ns) (q ∷ qs) = answerLine k (r .step) n q ++ answerLines (suc k) rs ns qs
 
--- The lines of the first n records of s, with the answers ns and the sets of the masks ms.
+-- The lines of the first n records of s, with the answers ns and the sets of the masks qs.
 unfoldable pub lines : Text → List ℕ → List ℕ → ℕ → Text
 unfolding records answerLines
-lines s ns ms n = answerLines 1 (records n s) (take n ns) (map bits (take n ms))
+lines s ns qs n = answerLines 1 (records n s) (take n ns) (map bits (take n qs))
 
 -- The ending
 

@@ -10,7 +10,7 @@ use lib.Dec.{eqb, leb, ltb}
 use mir.Val.{boolByte}
 use borrow.Author.Tests.{eqb-true, eqb-false, leb-true, ltb-true, ltb-false, le-leb, lt-ltb, le-ltb, ne-eqb}
 use Rattle.model.specs.Prelude.{upd}
-use Rattle.model.specs.Members.{Members, isReplica, none, only, _∩_, bit, size, hasQuorum, lowest}
+use Rattle.model.specs.Members.{Members, isReplica, none, only, _∩_, bit, size, lowest}
 use Rattle.members.specs.Mask.{bits, under}
 use Rattle.members.proofs.Finite.{all, below, each, at-replica, at-replicas, beq-true}
 
@@ -189,10 +189,6 @@ module _ (p : Members) where
   pub gathered : (b q q′ : ℕ) (t : Bool) → 1 ≤ b → b ≤ 8 → bits q ≡ under b p → bits q′ ≡ upd (bits q) b t → t ≡ p b
       → bits q′ ≡ under (b + 1) p
   gathered b q q′ t h k eq eq′ et = eq′ ∙ ap₂ (λ m u. upd m b u) eq et ∙ under-more b h k
-
-  -- A majority among those gathered is a majority among those that pass.
-  pub under-quorum : (m : Members) → hasQuorum m (under 9 p) ≡ hasQuorum m p
-  under-quorum m = refl
 
   -- The members among those gathered are the members that pass.
   pub under-meet : (m : ℕ) → bits m ∩ under 9 p ≡ bits m ∩ p

@@ -92,11 +92,11 @@ pub fn both(m: u8, q: u8) -> u8
     m & q
 }
 
-// Whether some majority of m lies in q.
-pub fn has_quorum(m: u8, q: u8) -> bool
-    ensures { λ r. ⌜ r ≡ Q.hasQuorum (bits m) (bits q) ⌝ }
+// Whether q, a set of members of m, has as many as a majority of m.
+pub fn is_quorum(m: u8, q: u8) -> bool
+    ensures { λ r. ⌜ r ≡ Q.isQuorum (bits m) (bits q) ⌝ }
 {
-    majority(m) <= size(both(m, q))
+    majority(m) <= size(q)
 }
 
 // The lowest replica of the set, 0 for the empty set.

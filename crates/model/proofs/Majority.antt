@@ -1,5 +1,5 @@
--- The count of those that qualify as a set that is a majority, and the three majority questions in document 01's words.
--- Assumes nothing.
+-- The count of those that qualify as a set that is a majority, the three majority questions in document 01's words, and
+-- who is behind an accepted step. Assumes nothing.
 use mathlib.Core.Bool.{Bool, true, false, not, cond, _&&_, _||_}
 use mathlib.Core.Logic.{_⊎_, inl, inr, ⊎-elim, _↔_, _≢_, Iff·rfl}
 use mathlib.Core.Path.{_≡_, refl, sym, ap, subst, _∙_}

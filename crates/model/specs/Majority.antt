@@ -76,5 +76,5 @@ pub record Majorities : Type 0 where
   pub counted : (m q : Members) → T (hasQuorum m q) ↔ SomeMajority m (λ x. T (q x))
   -- The checks with refusal 14 are the questions of document 01.
   pub questions : (m : Outline) → Questions m
-  -- Who qualified is behind the step.
+  -- Those that qualify are behind the step where it is accepted, no one where it is refused.
   pub sets : (m : Outline) → Sets m

@@ -35,7 +35,7 @@ size m = bit (m 1) + bit (m 2) + bit (m 3) + bit (m 4) + bit (m 5) + bit (m 6) +
 abbrev pub quorum : ℕ → ℕ
 quorum n = n / 2 + 1
 
--- As many as a majority of the members m are in q, a set of them.
+-- q, a set of members of m, has as many as a majority of m.
 abbrev pub isQuorum : Members → Members → Bool
 isQuorum m q = leb (quorum (size m)) (size q)
 

@@ -1,5 +1,5 @@
 -- The fifteen steps of document 01, each under its number and the paper's words: the checks in the order written,
--- each with its refusal, and the state after acceptance.
+-- each with its refusal, the set behind an accepted one (document 02, Paper 6), and the state after acceptance.
 -- Cited by Records, Runs and every step's contract. Assumes nothing.
 use mathlib.Core.Bool.{Bool, true, false, cond, not, _&&_, _||_}
 use mathlib.Core.List.{List, [], _∷_, _++_}
@@ -61,7 +61,7 @@ writes malformed = nothing
 abbrev pub raise : Registry → Check
 raise r = ltb (r .view .epoch) 4000 else 7
 
--- The three majority questions, each as the set of those that qualify, members or not.
+-- The three majority questions, each by its test: the set of those that pass it, members or not.
 
 -- Step 2: counts above the receipts' length n.
 abbrev pub countedAbove : (ℕ → ℕ) → ℕ → Members
@@ -314,7 +314,8 @@ accepted m st = passes (checks m st)
 abbrev pub answerOf : Outline → Step → ℕ
 answerOf m st = firstFailed (checks m st)
 
--- The set behind a step, on acceptance: what a call hands back beside the answer (document 02, Paper 6).
+-- The set behind a step: those that qualify, where it is accepted; no one, where it is refused. The calls hand it back
+-- beside the answer.
 abbrev pub behind : Outline → Step → Members
 behind m st = cond (accepted m st) (qualified m st) none
 

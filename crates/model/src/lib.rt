@@ -13,6 +13,7 @@ pub fn claim()
 {}
 
 // Steps 2, 13 and 15 ask for "some majority" as document 01 says it: none answers "no majority" where one exists.
+// Accepted, each has behind it all members that qualify, in the words of document 02, Paper 6; refused, no one.
 pub fn majorities()
     ensures { λ r. ⌜ Majorities ⌝ }
 {}

@@ -16,7 +16,7 @@ use Rattle.cluster.specs.declared.Stage.{Stage}
 use Rattle.cluster.specs.declared.Stage.the-variants.{Idle, Leader, Boards}
 use Rattle.cluster.specs.declared.Controller.{Controller}
 use Rattle.cluster.specs.Layout.{statusOf, stageOf, viewOf, controllerOf, at, atPair, noView}
-use Rattle.refinement.specs.Rows.{TypedController, RowsFixed}
+use Rattle.refinement.specs.Rows.{TypedController, RowsFixed, MasksFixed}
 
 -- Lists as long as each other are equal if they are by replica.
 pub at-equal : {A : Type 0} (d : A) (xs ys : List A) → length xs ≡ length ys → ((b : ℕ) → at d xs b ≡ at d ys b) → xs
@@ -105,3 +105,7 @@ rows-equal row row′ t t′ e =
       len = ls i;
       issued = e i .issued;
     }
+
+pub masks-fixed : MasksFixed
+unfolding MasksFixed
+masks-fixed = bits-injective

@@ -1,11 +1,11 @@
--- What a row's type fixes, and that an outline fixes its row. Cited by the promises of `steps::claim` and `hub::claim`.
--- Assumes nothing.
+-- What a row's type fixes, that an outline fixes its row and a set its mask. Cited by the promises of `steps::claim`
+-- and `hub::claim`. Assumes nothing.
 use mathlib.Core.Path.{_≡_}
 use Prim.Native.Nat.{ℕ, _<_}
 use lib.ListN.{length}
 use Rattle.cluster.specs.declared.Controller.{Controller}
 use Rattle.cluster.specs.declared.Cluster.{Cluster}
-use Rattle.cluster.specs.Layout.{at, noView, outlineOf}
+use Rattle.cluster.specs.Layout.{bits, at, noView, outlineOf}
 use Rattle.refinement.specs.Refinement.{Shape}
 
 -- What a controller's type fixes: the lengths of its arrays, and that its members are a mask.
@@ -24,3 +24,7 @@ pub record Typed (row : Cluster) : Type 0 where
 -- Two rows with one outline are the same row: a promise that gives a row's outline gives the whole row.
 unfoldable pub RowsFixed : Type 0
 RowsFixed = (row row′ : Cluster) → Typed row → Typed row′ → outlineOf row ≡ outlineOf row′ → row ≡ row′
+
+-- Two masks of one set are the same mask: a promise that gives a set gives the mask.
+unfoldable pub MasksFixed : Type 0
+MasksFixed = (q r : ℕ) → q < 256 → r < 256 → bits q ≡ bits r → q ≡ r

@@ -105,7 +105,8 @@ module _ (s : Text) (e : isSheet s ≡ true) (row : Cluster) (p : Places) (ns ms
   pub whole : lines s ns ms (length s / 8) ++ ending (outlineOf row) (take (row .issued) (listed p)) ≡ listing s
   unfolding listing listingOf
   whole =
-      ap₂ (λ x y. x ++ y) (ap (lines s ns ms) (sym some) ∙ lines-are s k row p ns ms e h) (ap₂ ending (h .outlined) kept)
+      ap₂ (λ x y. x ++ y) (ap (lines s ns ms) (sym some) ∙ lines-are s k row p ns ms e h)
+      (ap₂ ending (h .outlined) kept)
       ∙ append-assoc (answerLine 1 0 0 none)
       (answerLines 2 (following s k) (answers entries (opened opening) past) (setsBehind entries (opened opening) past))
       (ending (outline (stateAt s k)) (receipts entries opening past))
@@ -114,7 +115,8 @@ module _ (s : Text) (e : isSheet s ≡ true) (row : Cluster) (p : Places) (ns ms
       → Delivered (lines s ns ms (length s / 8) ++ text) out out′ r → (r ≡ result s out) × (out′ ≡ left s out)
   unfolding result left
   delivered {text} {out} {out′} {r} t d =
-      let l : lines s ns ms (length s / 8) ++ text ≡ listing s = ap (λ x. lines s ns ms (length s / 8) ++ x) t ∙ whole in (
+      let l : lines s ns ms (length s / 8) ++ text ≡ listing s =
+      ap (λ x. lines s ns ms (length s / 8) ++ x) t ∙ whole in (
         d .answer ∙ ap (λ x. cond (leb (length x) (length out)) (length x) 3) l
             ∙ ap (λ t. cond t (cond (leb (length (listing s)) (length out)) (length (listing s)) 3) 2) (sym e),
         d .left ∙ ap (λ x. cond (leb (length x) (length out)) (over out 0 x) out) l

@@ -91,7 +91,8 @@ answers-suc s [] st = refl
 answers-suc s (q ∷ sts) st = ap (λ ns. answerOf (outline s) q ∷ ns) (answers-suc (step entries s q) sts st)
 
 sets-suc : (s : RowState) (sts : List Step) (st : Step)
-    → setsBehind entries s (sts ++ (st ∷ [])) ≡ setsBehind entries s sts ++ (behind (outline (run entries s sts)) st ∷ [])
+    → setsBehind entries s (sts ++ (st ∷ [])) ≡ setsBehind entries s sts
+    ++ (behind (outline (run entries s sts)) st ∷ [])
 unfolding setsBehind run
 sets-suc s [] st = refl
 sets-suc s (q ∷ sts) st = ap (λ qs. behind (outline s) q ∷ qs) (sets-suc (step entries s q) sts st)
@@ -179,7 +180,7 @@ module _ (s : Text) (sheet : isSheet s ≡ true) (k : ℕ) (row : Cluster) (p : 
           ∙ ap (setsBehind entries (opened opening)) (sym more));
       full = did-full (stepOf r) row p did (h .full);
       room = length-set ns (suc k) (x .answer) ∙ h .room;
-      sets = length-set ms (suc k) (x .behind) ∙ h .sets;
+      setRoom = length-set ms (suc k) (x .behind) ∙ h .setRoom;
     }
 
 -- Nothing but the opening.
@@ -193,5 +194,5 @@ ran-none s row o p full ns ms room sets = record {
   behind = ap (map bits) (take-suc-set ms 0 0 (omega arith)) ∙ ap (λ q. q ∷ []) bits-none;
   full = full;
   room = length-set ns 0 0 ∙ room;
-  sets = length-set ms 0 0 ∙ sets;
+  setRoom = length-set ms 0 0 ∙ sets;
 }

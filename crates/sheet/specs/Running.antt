@@ -23,13 +23,13 @@ abbrev pub stateAt : Text → ℕ → RowState
 stateAt s k = after entries (openingOf (recordAt s)) (stepsOf (following s k))
 
 -- The sheet s was run up to there: the row and the lent places stand for the model's state, and from their first places
--- on ns has the answers and ms the masks of the sets behind them. (The opening asks no majority.)
-pub record Ran (s : Text) (k : ℕ) (row : Cluster) (p : Places) (ns ms : List ℕ) : Type 0 where
+-- on ns has the answers and qs the masks of the sets behind them. (The opening asks no majority.)
+pub record Ran (s : Text) (k : ℕ) (row : Cluster) (p : Places) (ns qs : List ℕ) : Type 0 where
   pub state : abs row p ≡ stateAt s k
   pub outlined : outlineOf row ≡ outline (stateAt s k)
   pub answered : take (suc k) ns ≡ 0 ∷ answers entries (opened (openingOf (recordAt s))) (stepsOf (following s k))
-  pub behind : map bits (take (suc k) ms)
+  pub behind : map bits (take (suc k) qs)
       ≡ none ∷ setsBehind entries (opened (openingOf (recordAt s))) (stepsOf (following s k))
   pub full : Full p
   pub room : length ns ≡ 4096
-  pub sets : length ms ≡ 4096
+  pub setRoom : length qs ≡ 4096

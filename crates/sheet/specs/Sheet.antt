@@ -9,11 +9,11 @@ use lib.Dec.{leb}
 use lib.ListN.{length, drop, replicate}
 use Rattle.model.specs.Members.{none}
 use Rattle.model.specs.State.{entries, outline, Opening, opened}
-use Rattle.model.specs.Records.{openingOf, Record}
+use Rattle.model.specs.Records.{openingOf, Record, bare, of, ofBoth, ofValue}
 use Rattle.model.specs.Runs.{stepsOf, answers, setsBehind}
 use Rattle.model.specs.Claim.{after, receipts}
 use Rattle.text.specs.Text.{Text, over}
-use Rattle.records.specs.Bytes.{recordAt, records, isSheet}
+use Rattle.records.specs.Bytes.{recordAt, records, sheetBytes, isSheet}
 use Rattle.lines.specs.Lines.{word, answerLine}
 use Rattle.listing.specs.Listing.{answerLines, ending}
 
@@ -69,6 +69,34 @@ sampleListing =
 
 unfoldable pub SampleHolds : Type 0
 SampleHolds = (isSheet sampleSheet ≡ true) × (listing sampleSheet ≡ sampleListing) × (length sampleListing ≡ 289)
+
+-- Document 02, Paper 6: a receipt, set normal and installing, each with more members behind it than a majority needs.
+-- Board 6 is counted for the receipt, and is a member in the registry but not in board 1's view; board 5 is heard below
+-- the leader, board 3 above it and, for installing, ranked above board 2. One of each step is refused, with no field.
+unfoldable pub setsSheet : Text
+unfolding sheetBytes
+setsSheet = sheetBytes
+    (of 0 1 ∷ of 3 2 ∷ of 3 3 ∷ of 3 4 ∷ of 3 5 ∷ of 3 6 ∷ of 6 1 ∷ of 6 2 ∷ of 6 3 ∷ of 6 4 ∷ of 6 6
+    ∷ ofValue 1 1 41 ∷ of 8 2 ∷ of 8 3 ∷ of 8 4 ∷ of 8 6 ∷ ofBoth 9 1 2 ∷ ofBoth 9 1 3 ∷ ofBoth 9 1 4 ∷ ofBoth 9 1 6
+    ∷ of 4 6 ∷ of 6 1 ∷ of 3 6 ∷ of 2 1 ∷ of 2 1
+    ∷ bare 10 ∷ of 6 1 ∷ bare 11 ∷ bare 13 ∷ ofValue 1 1 42 ∷ of 8 3
+    ∷ of 12 2 ∷ of 12 3 ∷ of 12 4 ∷ of 12 5 ∷ of 12 6 ∷ bare 13
+    ∷ bare 5 ∷ of 6 2 ∷ of 6 3 ∷ of 6 4 ∷ of 6 5 ∷ of 6 6 ∷ bare 10
+    ∷ of 14 2 ∷ of 14 3 ∷ of 14 4 ∷ of 14 5 ∷ of 14 6 ∷ of 15 5 ∷ of 15 2 ∷ [])
+
+abbrev pub setsListing : Text
+setsListing =
+    word "1 0 0\n2 3 0\n3 3 0\n4 3 0\n5 3 0\n6 3 0\n7 6 0\n8 6 0\n9 6 0\n10 6 0\n11 6 0\n12 1 0\n13 8 0\n14 8 0\n"
+    ++ word "15 8 0\n16 8 0\n17 9 0\n18 9 0\n19 9 0\n20 9 0\n21 4 0\n22 6 0\n23 3 0\n24 2 0 1234\n25 2 12\n26 10 0\n27 6 0\n"
+    ++ word "28 11 0\n29 13 14\n30 1 0\n31 8 0\n32 12 0\n33 12 0\n34 12 0\n35 12 0\n36 12 0\n37 13 0 12346\n38 5 0\n"
+    ++ word "39 6 0\n40 6 0\n41 6 0\n42 6 0\n43 6 0\n44 10 0\n45 14 0\n46 14 0\n47 14 0\n48 14 0\n49 14 0\n50 15 14\n"
+    ++ word "51 15 0 2456\nregistry 11 11 2 23456 waiting\ncontrol 11 11 2 23456 leader\n"
+    ++ word "board 1 8 1 1 123456 1 2 late\nboard 2 10 1 0 23456 1 1 late\nboard 3 10 1 0 23456 1 2 late\n"
+    ++ word "board 4 10 1 0 23456 1 1 late\nboard 5 10 1 0 23456 1 0 late\nboard 6 10 1 0 23456 1 1 late\n"
+    ++ word "board 7 1 1 1 1 1 0 late\nboard 8 1 1 1 1 1 0 late\nreceipts 1 41@1\n"
+
+unfoldable pub SetsHold : Type 0
+SetsHold = listing setsSheet ≡ setsListing
 
 -- A slice of n bytes.
 abbrev pub slice : ℕ → Text

@@ -6,14 +6,15 @@ ghost use Prim.Native.Nat.{_/_};
 ghost use lib.ListN.{length, take};
 ghost use Rattle.model.specs.Trials.{TrialsHold};
 ghost use Rattle.records.specs.Bytes.{isSheet};
-ghost use Rattle.sheet.specs.Sheet.{answersOf, SampleHolds, RoomHolds, RefusedHolds, LengthsTell, result, left};
+ghost use Rattle.sheet.specs.Sheet.{answersOf, SampleHolds, SetsHold, RoomHolds, RefusedHolds, LengthsTell, result, left};
 
 mod running;
 
-// The papers' sample sheet has the papers' listing, byte for byte; short slices and bad openings are refused; no
-// listing is so short that its length could be a refusal. By the definitions: nothing to run.
+// The papers' sample sheet has the papers' listing, byte for byte, and a sheet with large sets its own; short slices
+// and bad openings are refused; no listing is so short that its length could be a refusal. By the definitions: nothing
+// to run.
 pub fn sample()
-    ensures { λ r. ⌜ SampleHolds × RoomHolds × RefusedHolds × LengthsTell × TrialsHold ⌝ }
+    ensures { λ r. ⌜ SampleHolds × SetsHold × RoomHolds × RefusedHolds × LengthsTell × TrialsHold ⌝ }
 {}
 
 // The answers of a sheet's records, in an array whose further bytes are free. Inner layer: callers see to it that

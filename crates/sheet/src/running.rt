@@ -103,8 +103,8 @@ fn walk(
     }
 }
 
-// The whole sheet: its answers, and the sets behind them as masks. Inner layer: callers see to it that refusal 2 lets the
-// sheet through, and that the lent places have their lengths.
+// The whole sheet: its answers, and the sets behind them as masks. Inner layer: callers see to it that refusal 2 lets
+// the sheet through, and that the lent places have their lengths.
 pub fn play(
     sheet: &[u8],
     store: &mut [u32],

@@ -43,7 +43,8 @@ kept-full t st row p e f = subst Full (sym e) (by-cond Full t (λ _. written-ful
 
 module _ (st : Step) (row : Cluster) (p : Places) where
   -- Refusal 1.
-  pub did-refused : valid row p ≡ false → (x : Outcome) → x .answer ≡ 1 → x .behind ≡ 0 → x .row ≡ row → Did st row p x p
+  pub did-refused : valid row p ≡ false → (x : Outcome) → x .answer ≡ 1 → x .behind ≡ 0
+      → x .row ≡ row → Did st row p x p
   did-refused v x ea eb er = record {
     answer = ea ∙ ap (λ t. cond t (answerOf (outlineOf row) st) 1) (sym v);
     behind = ap bits eb ∙ bits-none ∙ ap (λ t. cond t (behind (outlineOf row) st) none) (sym v);

@@ -57,7 +57,8 @@ goes {s} {st} {h} {h′} k m d =
     record {
       answered = d .answer ∙ ap (λ t. cond t (answerOf (outlineOf (h .row)) st) 1) v
           ∙ ap (λ x. answerOf x st) (m .outlined);
-      behind = d .behind ∙ ap (λ t. cond t (behind (outlineOf (h .row)) st) none) v ∙ ap (λ x. behind x st) (m .outlined);
+      behind = d .behind ∙ ap (λ t. cond t (behind (outlineOf (h .row)) st) none) v
+          ∙ ap (λ x. behind x st) (m .outlined);
       reached = record {
         history = i .history;
         inv = i .inv;

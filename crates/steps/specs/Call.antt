@@ -16,7 +16,7 @@ pub use Rattle.shown.specs.Shown.{valid}
 pub record Did (st : Step) (row : Cluster) (p : Places) (x : Outcome) (p′ : Places) : Type 0 where
   -- Refusal 1 first, then the model's answer.
   pub answer : x .answer ≡ cond (valid row p) (answerOf (outlineOf row) st) 1
-  -- "The set of all members that qualify", on acceptance; else the empty one.
+  -- "The set of all members that qualify", on acceptance; else the empty one. It fixes the mask (`MasksFixed`).
   pub behind : bits (x .behind) ≡ cond (valid row p) (behind (outlineOf row) st) none
   -- The state then is the model's step of the state before.
   pub state : abs (x .row) p′ ≡ cond (valid row p) (step entries (abs row p) st) (abs row p)

@@ -6,7 +6,7 @@ ghost use Rattle.model.specs.State as M;
 ghost use Rattle.model.specs.Steps as S;
 ghost use Rattle.model.specs.Records as R;
 ghost use Rattle.refinement.specs.Refinement.{lent, Full, Ready, Turns};
-ghost use Rattle.refinement.specs.Rows.{RowsFixed};
+ghost use Rattle.refinement.specs.Rows.{RowsFixed, MasksFixed};
 ghost use Rattle.steps_central.specs.Opening.{Opens};
 ghost use Rattle.steps.specs.Calls.{CallsSafe, NamesHold};
 ghost use Rattle.records.specs.Record.{recordOf};
@@ -546,5 +546,5 @@ pub fn install(
 // Demand 3 about the calls: for every opening and every list of calls, by record or by name, whatever the lent places
 // held before. Nothing to run: the promise is the statement.
 pub fn claim()
-    ensures { λ r. ⌜ CallsSafe × NamesHold × RowsFixed ⌝ }
+    ensures { λ r. ⌜ CallsSafe × NamesHold × RowsFixed × MasksFixed ⌝ }
 {}

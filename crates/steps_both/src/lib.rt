@@ -1,6 +1,6 @@
 // The steps of registry and controller: set normal (13), install (15). A step is answered by its `may_` function,
-// which makes the checks of specs/Checks.antt; refused it gives both back. Tests are joined by `&` and `|`, which
-// make no branch: the result is then the contract's term by computation.
+// which makes the checks of specs/Checks.antt; refused it gives both back, with no one behind it. Tests are joined by
+// `&` and `|`, which make no branch: the result is then the contract's term by computation.
 
 ghost use mathlib.Core.Path.{_≡_};
 ghost use mathlib.Core.Bool.{not, _&&_, _||_};
@@ -82,14 +82,14 @@ fn ranked_not_above(heard: [u16; 8], joined: [u16; 8], l: u16, k: u16) -> u8
     q
 }
 
-// Step 13: what is answered: the registry r, the controller's view v and stage g, those heard at a length not below the
-// leader's heard one, q.
+// Step 13: what is answered: the registry r, the controller's view v and stage g, its members heard at a length not
+// below the leader's heard one, q.
 fn may_set_normal(r: Registry, v: View, g: Stage, q: u8) -> u8
     ensures { λ x. ⌜ x ≡ firstFailed (setNormalChecks r v g q) ⌝ }
 {
     let w = r.view;
     let n7 = check(w.epoch < 4000, 0, 7);
-    let n14 = check(members::has_quorum(v.members, q), n7, 14);
+    let n14 = check(members::is_quorum(v.members, q), n7, 14);
     let n16 = check(v.epoch == w.epoch, n14, 16); // Lengths heard in an earlier epoch do not count.
     check(number(g) == 2, n16, 15)
 }
@@ -104,7 +104,8 @@ pub fn set_normal(r: Registry, c: Controller) -> Settled
     let heard = c.heard;
     let low = heard_at(heard, v.leader);
     let q = heard_enough(heard, low);
-    let n = may_set_normal(r, v, g, q);
+    let s = members::both(v.members, q);
+    let n = may_set_normal(r, v, g, s);
     if n != 0 {
         return Settled {
             answer: n,
@@ -113,7 +114,6 @@ pub fn set_normal(r: Registry, c: Controller) -> Settled
             controller: c,
         };
     }
-    let s = members::both(v.members, q);
     let e = raised(w.epoch);
     let ruled = View {
         epoch: e,
@@ -144,14 +144,14 @@ pub fn set_normal(r: Registry, c: Controller) -> Settled
 }
 
 // Step 15: what is answered about b, whose seat is k: the registry r, the controller's view v and stage g, the length
-// l heard of b, 0 for none, those heard and not ranked above b, q.
+// l heard of b, 0 for none, the members heard and not ranked above b, q.
 fn may_install(r: Registry, v: View, g: Stage, l: u16, q: u8, k: u8, b: u8) -> u8
     requires { ⌜ (1 ≤ k) × (k ≤ 8) ⌝ }
     ensures { λ x. ⌜ x ≡ firstFailed (installChecks r v g l q k b) ⌝ }
 {
     let w = r.view;
     let n7 = check(w.epoch < 4000, 0, 7);
-    let n14 = check((1 <= l) & members::has_quorum(v.members, q), n7, 14);
+    let n14 = check((1 <= l) & members::is_quorum(v.members, q), n7, 14);
     let n16 = check(v.epoch == w.epoch, n14, 16);
     let n5 = check(members::has(v.members, k), n16, 5);
     let n15 = check(number(g) == 3, n5, 15);
@@ -171,7 +171,8 @@ pub fn install(r: Registry, c: Controller, b: u8) -> Settled
     let i = (k - 1) as usize;
     let l = heard[i];
     let q = ranked_not_above(heard, joined, l, joined[i]);
-    let n = may_install(r, v, g, l, q, k, b);
+    let t = members::both(v.members, q);
+    let n = may_install(r, v, g, l, t, k, b);
     if n != 0 {
         return Settled {
             answer: n,
@@ -180,7 +181,6 @@ pub fn install(r: Registry, c: Controller, b: u8) -> Settled
             controller: c,
         };
     }
-    let s = members::both(v.members, q);
     let e = raised(w.epoch);
     let ruled = View {
         epoch: e,
@@ -196,7 +196,7 @@ pub fn install(r: Registry, c: Controller, b: u8) -> Settled
     };
     Settled {
         answer: 0,
-        behind: s,
+        behind: t,
         registry: Registry {
             view: ruled,
             status: Status::Waiting,

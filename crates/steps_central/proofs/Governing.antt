@@ -81,7 +81,8 @@ module _ (st : Step) (g : Registry) (c : Controller) (views : List View) (joined
 
   -- A step of the registry alone.
   pub rules-govern : Only takeRegistry st → ((m : Outline) → qualified m st ≡ none) → (a : Ruled) → Rules st g a
-      → Governs st g c views joined len (record { answer = a .answer; behind = 0; registry = a .registry; controller = c })
+      → Governs st g c views joined len
+      (record { answer = a .answer; behind = 0; registry = a .registry; controller = c })
   rules-govern o quiet a h =
       governs takeRegistry (λ s. refl) o
       (record { answer = a .answer; behind = 0; registry = a .registry; controller = c })
@@ -93,7 +94,8 @@ module _ (st : Step) (g : Registry) (c : Controller) (views : List View) (joined
   pub tells-govern : {Known : RowState → Type 0} → Only takeController st → ((m : Outline) → qualified m st ≡ none)
       → (a : Told) → Tells Known st c a
       → ((acked : List ℕ) (issued : ℕ) (p : Places) → Full p → Known (abs (row acked issued) p))
-      → Governs st g c views joined len (record { answer = a .answer; behind = 0; registry = g; controller = a .controller })
+      → Governs st g c views joined len
+      (record { answer = a .answer; behind = 0; registry = g; controller = a .controller })
   tells-govern o quiet a h k =
       governs takeController (λ s. refl) o
       (record { answer = a .answer; behind = 0; registry = g; controller = a .controller })

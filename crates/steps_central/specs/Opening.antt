@@ -1,5 +1,5 @@
--- What the opening call answers, and the row it leaves. Cited by the contracts of steps_central, steps and sheet.
--- Assumes nothing.
+-- What the opening call answers, that no one is behind it, and the row it leaves. Cited by the contracts of
+-- steps_central, steps and sheet. Assumes nothing.
 use mathlib.Core.Bool.{cond}
 use mathlib.Core.Path.{_≡_}
 use Rattle.model.specs.Members.{none}
@@ -16,7 +16,8 @@ pub record OpenedWith (o : Opening) (row : Cluster) : Type 0 where
   pub state : (p : Places) → abs row p ≡ opened o
   pub outline : outlineOf row ≡ M.outline {E = Entry} (opened o)
 
--- The opening call o. It asks no majority. Where it is refused the row is free in the papers: it is the one opened with 1.
+-- The opening call o. It asks no majority. Where it is refused the row is free in the papers: it is the one opened with
+-- 1.
 pub record Opens (o : Opening) (x : Outcome) : Type 0 where
   pub answer : x .answer ≡ openAnswer o
   pub behind : bits (x .behind) ≡ none

@@ -11,7 +11,7 @@ use Rattle.model.specs.Steps.{append, commit, acknowledge, countedAbove, checks
 use Rattle.model.proofs.Tests.{split-and, is-true, of-true, facts}
 use Rattle.model.proofs.Answer.{zero-holds}
 use Rattle.members.specs.Mask.{bits, under}
-use Rattle.members.proofs.Laws.{under-quorum, under-meet}
+use Rattle.members.proofs.Laws.{under-meet}
 use Rattle.cluster.specs.declared.View.{View}
 use Rattle.cluster.specs.declared.Cluster.{Cluster}
 use Rattle.cluster.specs.Layout.{at, atPair, noView, outlineOf}
@@ -36,30 +36,24 @@ module _ (row : Cluster) where
     append-answer value ev = rw ev (guarded (isReplica b) _ _ 1 (λ t.
         let r = of-true t in rw (at-seat noView (row .views) b k hk r, at-seat 0 (row .len) b k hk r)))
 
-    -- Step 2.
-    pub commit-answer : (q : ℕ) {v : View} {n : ℕ} → v ≡ getD (row .views) (k - 1) noView → n
-        ≡ getD (row .len) (k - 1) 0 → bits q ≡ under 9 (countedAbove (atPair (row .acked) k) (row .issued))
-        → firstFailed (commitChecks v n (row .issued) q b) ≡ answerOf (outlineOf row) (commit b)
-    commit-answer q ev en e =
-        rw (
-          ev,
-          en,
-          e,
-          under-quorum (countedAbove (atPair (row .acked) k) (row .issued))
-              (bits (getD (row .views) (k - 1) noView .members)),
-        ) (guarded (isReplica b) _ _ 1 (λ t.
-        let r = of-true t in rw (at-seat noView (row .views) b k hk r, at-seat 0 (row .len) b k hk r, hk t)))
+    -- Step 2: q are those counted, s the members among them.
+    module _ (q s : ℕ) {v : View} (ev : v ≡ getD (row .views) (k - 1) noView)
+        (eq : bits q ≡ under 9 (countedAbove (atPair (row .acked) k) (row .issued)))
+        (es : bits s ≡ bits (v .members) ∩ bits q) where
+      those : bits s ≡ bits (v .members) ∩ countedAbove (atPair (row .acked) k) (row .issued)
+      those = rw (es, eq) (under-meet (countedAbove (atPair (row .acked) k) (row .issued)) (v .members))
 
-    -- Who qualifies among b's members, s.
-    pub commit-set : (q s : ℕ) {v : View} → v ≡ getD (row .views) (k - 1) noView
-        → bits q ≡ under 9 (countedAbove (atPair (row .acked) k) (row .issued)) → bits s ≡ bits (v .members) ∩ bits q
-        → accepted (outlineOf row) (commit b) ≡ true → bits s ≡ qualified (outlineOf row) (commit b)
-    commit-set q s ev e es t =
-        let r = facts (checks (outlineOf row) (commit b)) (of-true t) 1 in
-        rw (es, ev, e, at-seat noView (row .views) b k hk r)
-        (under-meet (countedAbove (atPair (row .acked) k) (row .issued)) (at noView (row .views) b .members)
-        ∙ ap (λ x. bits (at noView (row .views) b .members) ∩ countedAbove (atPair (row .acked) x) (row .issued))
-        (hk (is-true (isReplica b) r)))
+      pub commit-answer : {n : ℕ} → n ≡ getD (row .len) (k - 1) 0
+          → firstFailed (commitChecks v n (row .issued) s b) ≡ answerOf (outlineOf row) (commit b)
+      commit-answer en = rw (those, ev, en) (guarded (isReplica b) _ _ 1 (λ t.
+          let r = of-true t in rw (at-seat noView (row .views) b k hk r, at-seat 0 (row .len) b k hk r, hk t)))
+
+      pub commit-set : accepted (outlineOf row) (commit b) ≡ true → bits s ≡ qualified (outlineOf row) (commit b)
+      commit-set t =
+          let r = facts (checks (outlineOf row) (commit b)) (of-true t) 1 in
+          rw (those, ev, at-seat noView (row .views) b k hk r)
+          (ap (λ x. bits (at noView (row .views) b .members) ∩ countedAbove (atPair (row .acked) x) (row .issued))
+          (hk (is-true (isReplica b) r)))
 
   -- Step 9.
   pub acknowledge-answer : (a b i k : ℕ) → (isReplica a ≡ true → i ≡ a) → (isReplica b ≡ true → k ≡ b)

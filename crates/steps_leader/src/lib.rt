@@ -102,11 +102,11 @@ fn counted(acked: &[u16], b: u8, n: u16) -> u8
     q
 }
 
-// Step 2: what b is answered: its view v, the length n of its log, the replicas q that it has counted above `issued`.
+// Step 2: what b is answered: its view v, the length n of its log, the members q that it has counted above `issued`.
 fn may_commit(v: View, n: u16, issued: u16, q: u8, b: u8) -> u8
     ensures { λ x. ⌜ x ≡ firstFailed (commitChecks v n issued q b) ⌝ }
 {
-    let n14 = check(members::has_quorum(v.members, q), 0, 14);
+    let n14 = check(members::is_quorum(v.members, q), 0, 14);
     let n12 = check(issued < n, n14, 12);
     let n8 = check(v.leader == b, n12, 8);
     check(replica(b), n8, 1)
@@ -140,8 +140,8 @@ pub fn commit(
     let k = seat(b);
     let v = view(views, k);
     let n = lookup(len, k);
-    let q = counted(acked, k, issued);
-    let r = may_commit(v, n, issued, q, b);
+    let s = members::both(v.members, counted(acked, k, issued));
+    let r = may_commit(v, n, issued, s, b);
     if r != 0 {
         return Given {
             answer: r,
@@ -149,7 +149,6 @@ pub fn commit(
             issued: issued,
         };
     }
-    let s = members::both(v.members, q);
     let e = logstore::value(store, k, issued);
     let t = logstore::term(store2, k, issued);
     logstore::commit(&mut *list, &mut *list2, issued, e, t);

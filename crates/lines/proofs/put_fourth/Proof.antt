@@ -28,12 +28,14 @@ returns c =
 abbrev start : tie.Else1 → tie.Start
 start c = c .before .before .before
 
-field : (c : tie.Else1) → let a = start c .args in fourthField (a .step) (a .answer) (bits (a .q)) ≡ space ++ membersText (bits (a .q))
+field : (c : tie.Else1) → let a = start c .args in
+    fourthField (a .step) (a .answer) (bits (a .q)) ≡ space ++ membersText (bits (a .q))
 field c =
     let a = start c .args in
     fourth-some (a .step) (a .answer) (bits (a .q)) (sym (c .before .has-fourth .ensures) ∙ not-false _ (c .if1 .left))
 
-room : (c : tie.Else1) → let a = start c .args in a .at + length (space ++ membersText (bits (a .q))) ≤ length (now (a .out))
+room : (c : tie.Else1) → let a = start c .args in
+    a .at + length (space ++ membersText (bits (a .q))) ≤ length (now (a .out))
 room c = let a = start c .args in subst (λ t. a .at + length t ≤ length (now (a .out))) (field c) (start c .pre)
 
 put-byte-requires : tie.Need-put-byte-requires

@@ -114,7 +114,7 @@ deliver-requires c κs =
     let most = sheet-most s (passed d) in (
       most,
       omega (arith, most, h .room),
-      omega (arith, most, h .sets),
+      omega (arith, most, h .setRoom),
       omega (arith, w .put-ending .ensures .1, length-take (w .put-ending .result) (w .put-ending .last .0)),
       λ i q. omega (arith, ran-most s (passed d) (length s / 8 - 1) _ _ _ _ h i (omega (arith, q))),
     )

@@ -19,21 +19,20 @@ use Rattle.steps_both.proofs.install.Tie as tie
 
 -- the entry, where b is found, and those who do not rank above it
 abbrev entry : tie.After-may-install → tie.Start
-entry c = c .before .before .before .before .before .before .before
+entry c = c .before .before .before .before .before .before .before .before
 
 abbrev own : tie.After-may-install → tie.After-seat
-own c = c .before .before
+own c = c .before .before .before
 
 abbrev those : tie.After-may-install → tie.After-ranked-not-above
-those c = c .before
+those c = c .before .before
 
 -- the checks made
 abbrev made : tie.After-may-install → List Check
 made c =
     let a = entry c .args in
     let k = own c .seat .result in
-    let q = those c .ranked-not-above .result in
-    installChecks (a .r) (a .c .view) (a .c .stage) (getD (a .c .heard) (k - 1) 0) q k (a .b)
+    installChecks (a .r) (a .c .view) (a .c .stage) (getD (a .c .heard) (k - 1) 0) (c .before .both .result) k (a .b)
 
 seat-requires : tie.Need-seat-requires
 seat-requires c κs = search needs
@@ -59,6 +58,9 @@ array-read-ranked-not-above c = search needs
 ranked-not-above-requires : tie.Need-ranked-not-above-requires
 ranked-not-above-requires c κs = search needs
 
+both-requires : tie.Need-both-requires
+both-requires c κs = search needs
+
 may-install-requires : tie.Need-may-install-requires
 may-install-requires c κs = search needs
 
@@ -68,26 +70,23 @@ returns c =
     let a = entry d .args in
     let seat = own d .seat .ensures .2 in
     settles (install (a .b)) (made d) tt (a .r) (a .c)
-    (install-answer (a .r) (a .c) (a .b) _ _ seat (those d .ranked-not-above .ensures)) _
+    (install-answer (a .r) (a .c) (a .b) _ _ _ seat (those d .ranked-not-above .ensures) (d .before .both .ensures)) _
     (d .may-install .ensures) refl (λ _. refl) (λ z. absurd (c .if1 .taken z)) (λ _. (refl, refl))
     (λ z. absurd (c .if1 .taken z))
-
-both-requires : tie.Need-both-requires
-both-requires c κs = search needs
 
 raised-requires : tie.Need-raised-requires
 raised-requires c κs = search needs
 
 returns-2 : tie.Need-returns-2
 returns-2 c =
-    let d = c .before .before .before in
+    let d = c .before .before in
     let a = entry d .args in
     let seat = own d .seat .ensures .2 in
     settles (install (a .b)) (made d) tt (a .r) (a .c)
-    (install-answer (a .r) (a .c) (a .b) _ _ seat (those d .ranked-not-above .ensures)) _
-    (d .may-install .ensures) (sym (c .before .before .if1 .left)) (λ h. absurd (h refl))
-    (λ _ h s. install-set (a .r) (a .c) (a .b) _ _ seat (those d .ranked-not-above .ensures) _
-    (c .before .both .ensures) (is-true (isReplica (a .b)) (h 1)))
+    (install-answer (a .r) (a .c) (a .b) _ _ _ seat (those d .ranked-not-above .ensures) (d .before .both .ensures)) _
+    (d .may-install .ensures) (sym (c .before .if1 .left)) (λ h. absurd (h refl))
+    (λ _ h s. install-set (a .r) (a .c) (a .b) _ _ _ seat (those d .ranked-not-above .ensures)
+    (d .before .both .ensures) (is-true (isReplica (a .b)) (h 1)))
     (λ h. absurd (h refl))
     (λ _ h s. both-after (a .r) (a .c) _ (c .raised .ensures) (installedView (a .b)) Waiting Leader (h 7))
 
@@ -103,8 +102,8 @@ install-spec =
     mul-ranked-not-above
     array-read-ranked-not-above
     ranked-not-above-requires
+    both-requires
     may-install-requires
     returns
-    both-requires
     raised-requires
     returns-2)

@@ -7,8 +7,8 @@ use Rattle.steps_both.proofs.may_set_normal.Tie as tie
 check-requires : tie.Need-check-requires
 check-requires c κs = search needs
 
-has-quorum-requires : tie.Need-has-quorum-requires
-has-quorum-requires c κs = search needs
+is-quorum-requires : tie.Need-is-quorum-requires
+is-quorum-requires c κs = search needs
 
 check-requires-2 : tie.Need-check-requires-2
 check-requires-2 c κs = search needs
@@ -29,7 +29,7 @@ returns c =
       c .before .number .ensures,
       c .before .before .check3 .ensures,
       c .before .before .before .before .before .check2 .ensures,
-      c .before .before .before .before .before .before .has-quorum .ensures,
+      c .before .before .before .before .before .before .is-quorum .ensures,
       c .before .before .before .before .before .before .before .check .ensures,
     )
 
@@ -38,7 +38,7 @@ may-set-normal-spec =
     tie.close
     (tie.spec
     check-requires
-    has-quorum-requires
+    is-quorum-requires
     check-requires-2
     check-requires-3
     number-requires

@@ -13,7 +13,8 @@ returns : tie.Need-returns
 returns c =
     let a = c .before .before .args in
     λ views joined len s. tells-govern refreshController (a .g) (a .c) views joined len s
-    (record { state = λ _. refl; places = refl }) (λ _. refl) _ (c .before .refresh-controller .ensures) (λ _ _ _ _. refl)
+    (record { state = λ _. refl; places = refl }) (λ _. refl) _
+    (c .before .refresh-controller .ensures) (λ _ _ _ _. refl)
 
 pub refresh-controller-spec : {M : Type 1} → statement M
 refresh-controller-spec = tie.close (tie.spec refresh-controller-requires returns)

@@ -21,10 +21,10 @@ use Rattle.steps_leader.proofs.commit.Tie as tie
 
 -- the entry, and where b is found
 abbrev entry : tie.After-may-commit → tie.Start
-entry c = c .before .before .before .before .before .before .before .before .before .before .before
+entry c = c .before .before .before .before .before .before .before .before .before .before .before .before
 
 abbrev own : tie.After-may-commit → tie.After-seat
-own c = c .before .before .before .before
+own c = c .before .before .before .before .before
 
 abbrev row : tie.After-may-commit → Registry → Controller → List ℕ → Cluster
 row c g k joined =
@@ -35,17 +35,18 @@ row c g k joined =
 answers : (c : tie.After-may-commit) (g : Registry) (k : Controller) (joined : List ℕ) → c .may-commit .result
     ≡ answerOf (outlineOf (row c g k joined)) (commit (entry c .args .b))
 answers c g k joined =
-    c .may-commit .ensures ∙ commit-answer (row c g k joined) (entry c .args .b) _ (own c .seat .ensures .2) _
-    (c .before .before .before .view .ensures) (c .before .before .lookup .ensures) (c .before .counted .ensures)
+    c .may-commit .ensures ∙ commit-answer (row c g k joined) (entry c .args .b) _ (own c .seat .ensures .2) _ _
+    (c .before .before .before .before .view .ensures) (c .before .before .counted .ensures) (c .before .both .ensures)
+    (c .before .before .before .lookup .ensures)
 
 room : (c : tie.After-may-commit) → c .may-commit .result ≡ 0 → entry c .args .issued < 512
 room c e =
     let a = entry c .args in
-    let n = c .before .before .lookup in
+    let n = c .before .before .before .lookup in
     omega (
       arith,
-      commit-room (c .before .before .before .view .result) (n .result) (a .issued) (c .before .counted .result) (a .b)
-          (c .may-commit .ensures) e,
+      commit-room (c .before .before .before .before .view .result) (n .result) (a .issued) (c .before .both .result)
+          (a .b) (c .may-commit .ensures) e,
       n .ensures,
       short-at (now (a .len)) (own c .seat .result) (entry c .pre .2) (own c .seat .ensures .0),
     )
@@ -62,6 +63,9 @@ lookup-requires c κs = search needs
 counted-requires : tie.Need-counted-requires
 counted-requires c κs = search needs
 
+both-requires : tie.Need-both-requires
+both-requires c κs = search needs
+
 may-commit-requires : tie.Need-may-commit-requires
 may-commit-requires c κs = search needs
 
@@ -71,24 +75,20 @@ returns c g k joined =
     turns-refused (row (c .before) g k joined) (p .2) (p .0) _ (p .3) _ _ (answers (c .before) g k joined)
     (c .if1 .taken)
 
-both-requires : tie.Need-both-requires
-both-requires c κs = search needs
-
 value-requires : tie.Need-value-requires
 value-requires c κs =
-    let d = c .before in
-    let h = own (d .before) .seat .ensures in
-    (entry (d .before) .pre .3 .store, h .0, h .1, room (d .before) (d .if1 .left))
+    let h = own (c .before) .seat .ensures in
+    (entry (c .before) .pre .3 .store, h .0, h .1, room (c .before) (c .if1 .left))
 
 term-requires : tie.Need-term-requires
 term-requires c κs =
-    let d = c .before .before in
+    let d = c .before in
     let h = own (d .before) .seat .ensures in
     (entry (d .before) .pre .3 .store2, h .0, h .1, room (d .before) (d .if1 .left))
 
 commit-requires : tie.Need-commit-requires
 commit-requires c κs =
-    let d = c .before .before .before .before .before in
+    let d = c .before .before .before .before in
     let s = entry (d .before) in
     let r = room (d .before) (d .if1 .left) in
     let n = s .args .issued in
@@ -107,7 +107,7 @@ returns-2 : tie.Need-returns-2
 returns-2 c g k joined =
     let m = c .before .before .before .before in
     let v = m .before .before .before .before in
-    let f = v .before .before in
+    let f = v .before in
     let d = f .before in
     let z = f .if1 .left in
     let a = entry d .args in
@@ -121,8 +121,9 @@ returns-2 c g k joined =
     ∙ commit-places r q (a .b) _ (own d .seat .ensures .2) (zero-accepted (outlineOf r) (commit (a .b)) (sym e ∙ z)) in
     let n = room d z in
     turns-accepted r (p .2) (p .0) q (p .3) _ _ _ _ _ e z
-    (commit-set r (a .b) _ (own d .seat .ensures .2) _ _ (d .before .before .before .view .ensures)
-    (d .before .counted .ensures) (v .before .both .ensures) (zero-accepted (outlineOf r) (commit (a .b)) (sym e ∙ z)))
+    (commit-set r (a .b) _ (own d .seat .ensures .2) _ _ (d .before .before .before .before .view .ensures)
+    (d .before .before .counted .ensures) (d .before .both .ensures)
+    (zero-accepted (outlineOf r) (commit (a .b)) (sym e ∙ z)))
     (commit-after r (p .2) q (p .3) (a .b) _ w n) (p .2) (omega (arith, n)) w
 
 pub commit-spec : {M : Type 1} → statement M
@@ -133,9 +134,9 @@ commit-spec =
     view-requires
     lookup-requires
     counted-requires
+    both-requires
     may-commit-requires
     returns
-    both-requires
     value-requires
     term-requires
     commit-requires

@@ -4,8 +4,8 @@ use borrow.Author.Needs.{needs}
 use Rattle.steps_leader.proofs.may_commit.Statement.{statement}
 use Rattle.steps_leader.proofs.may_commit.Tie as tie
 
-has-quorum-requires : tie.Need-has-quorum-requires
-has-quorum-requires c κs = search needs
+is-quorum-requires : tie.Need-is-quorum-requires
+is-quorum-requires c κs = search needs
 
 check-requires : tie.Need-check-requires
 check-requires c κs = search needs
@@ -29,14 +29,14 @@ returns c =
       c .before .before .check3 .ensures,
       c .before .before .before .before .check2 .ensures,
       c .before .before .before .before .before .check .ensures,
-      c .before .before .before .before .before .before .has-quorum .ensures,
+      c .before .before .before .before .before .before .is-quorum .ensures,
     )
 
 pub may-commit-spec : {M : Type 1} → statement M
 may-commit-spec =
     tie.close
     (tie.spec
-    has-quorum-requires
+    is-quorum-requires
     check-requires
     check-requires-2
     check-requires-3

@@ -28,7 +28,8 @@ returns c =
     let a = c .before .before .before .before .before .before .args in
     let ok = c .before .before .before .before .before .report .ensures in
     let l = c .before .before .before .before .length .ensures in
-    lends (hear (a .x .board)) (λ s. refl) (λ m. refl) (a .c) (HearKnown (a .x .board) (a .x .epoch) (a .x .joined) _) _ _
+    lends (hear (a .x .board)) (λ s. refl) (λ m. refl) (a .c)
+    (HearKnown (a .x .board) (a .x .epoch) (a .x .joined) _) _ _
     (c .before .before .before .hear .ensures) refl (reportFits (a .c) (a .x)) (Reported (a .x))
     (hear-told (a .c) (a .x) _ (l .1)) _ (c .before .check .ensures ∙ rw ok) _ (c .ended .ensures .0)
     (c .ended .ensures .1) (c .ended .ensures .2)

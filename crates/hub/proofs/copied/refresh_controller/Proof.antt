@@ -28,7 +28,8 @@ returns c =
     lends refreshController (λ s. refl) (λ m. refl) (a .c) (λ s. s .registry ≡ registryOf (a .g)) _ _
     (c .before .before .before .refresh-controller .ensures) refl (registryFits (a .g) && controllerFits (a .c))
     (λ s. s .registry ≡ registryOf (a .g))
-    (λ s t k. k) _ (c .before .check .ensures ∙ rw ok) _ (c .ended .ensures .0) (c .ended .ensures .1) (c .ended .ensures .2)
+    (λ s t k. k) _ (c .before .check .ensures ∙ rw ok) _ (c .ended .ensures .0)
+    (c .ended .ensures .1) (c .ended .ensures .2)
 
 pub refresh-controller-spec : {M : Type 1} → statement M
 refresh-controller-spec =

@@ -39,7 +39,8 @@ fourth-length-requires c κs = search needs
 
 -- So the four parts have at most 39 bytes.
 sum : (c : tie.After-fourth-length) → let d3 = c .before in let d2 = d3 .before in
-    d2 .before .number-length .result + d2 .number-length2 .result + d3 .number-length3 .result + c .fourth-length .result ≤ 39
+    d2 .before .number-length .result + d2 .number-length2 .result + d3 .number-length3 .result
+    + c .fourth-length .result ≤ 39
 sum c =
     let d3 = c .before in
     omega (arith, few1 (d3 .before .before), few2 (d3 .before), few3 d3, c .fourth-length .ensures .1)

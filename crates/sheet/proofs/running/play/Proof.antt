@@ -17,7 +17,8 @@ begun c = c .before .before .before .before .before .before .before .before .bef
 
 abbrev walked : tie.After-next → tie.After-walk
 walked c =
-    let s = c .before .before .before .before .before .before .before .before .before .before .before .before in s .before .before .before .before .before .before
+    let s = c .before .before .before .before .before .before .before .before .before .before .before .before in
+    s .before .before .before .before .before .before
 
 -- The lengths that the opening's type fixes.
 shape : (c : tie.After-begin) → Shape (c .begin .result)

@@ -41,7 +41,8 @@ turn c = decoded c .before
 
 abbrev sent : tie.After-s Inv-loop μ-loop → tie.After-send Inv-loop μ-loop
 sent c =
-    let s = c .before .before .before .before .before .before .before .before .before in s .before .before .before .before .before .before
+    let s = c .before .before .before .before .before .before .before .before .before in
+    s .before .before .before .before .before .before
 
 -- The row and the places at a turn.
 abbrev row : tie.At-loop Inv-loop μ-loop → Cluster
@@ -77,7 +78,8 @@ send-requires c κs =
     let d = t .before in
     let e = start d in
     let h = d .loop .inv .2 in (
-      ran-ready (now (e .args .sheet)) (e .pre .0) (d .loop .k) _ (places d) (d .loop .answers) (d .loop .sets) h (d .loop .inv .1),
+      ran-ready (now (e .args .sheet)) (e .pre .0) (d .loop .k) _ (places d) (d .loop .answers) (d .loop .sets)
+          h (d .loop .inv .1),
       h .full,
     )
 
@@ -91,7 +93,7 @@ add-sets : tie.Need-add-sets Inv-loop μ-loop
 add-sets c = omega (arith, small (turn (sent c)))
 
 slice-write-sets : tie.Need-slice-write-sets Inv-loop μ-loop
-slice-write-sets c = let t = turn (sent c) in omega (arith, small t, t .before .loop .inv .2 .sets)
+slice-write-sets c = let t = turn (sent c) in omega (arith, small t, t .before .loop .inv .2 .setRoom)
 
 mul-views : tie.Need-mul-views Inv-loop μ-loop
 mul-views c = search needs
@@ -125,7 +127,7 @@ loop-again c =
       },
       ran-more (now (e .args .sheet)) (e .pre .0) (l .k) (row d) (places d) (l .answers) (l .sets) h _
           (decoded x .decode .ensures) (x .send .ensures .leaves) (omega (arith, small t, h .room))
-          (omega (arith, small t, h .sets)),
+          (omega (arith, small t, h .setRoom)),
     )
 
 same-length : tie.Need-same-length Inv-loop μ-loop
