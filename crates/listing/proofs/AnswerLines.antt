@@ -7,10 +7,11 @@ use native.Mathlib.Nat.{add-zero, add-suc}
 use native.Mathlib.Numerals.{add-one}
 use native.Mathlib.Omega.{arith}
 use lib.ListN.{length, take, drop, getD, length-append, length-map}
-use lib.Seq.{take-suc, length-take-le, getD-drop, drop-drop}
+use lib.Seq.{take-suc, length-take-le, getD-drop, getD-take, drop-drop}
 use Rattle.model.specs.Members.{Members}
 use Rattle.model.specs.Records.{Record}
 use Rattle.cluster.specs.Layout.{bits}
+use Rattle.model.proofs.Made.{All}
 use Rattle.text.specs.Text.{Text, digits}
 use Rattle.text.proofs.Laws.{digits-most, digits-most-4, digits-most-10}
 use Rattle.records.specs.Bytes.{recordAt, records}
@@ -47,7 +48,7 @@ answerLines-suc k [] (m ∷ ns) qs e f r n q = absurd (omega (arith, e))
 answerLines-suc k (t ∷ rs) [] qs e f r n q = absurd (omega (arith, e))
 answerLines-suc k (t ∷ rs) (m ∷ ns) [] e f r n q = absurd (omega (arith, f))
 
-records-length : (n : ℕ) (s : Text) → length (records n s) ≡ n
+pub records-length : (n : ℕ) (s : Text) → length (records n s) ≡ n
 unfolding records
 records-length zero s = refl
 records-length (suc n) s = ap suc (records-length n (drop 8 s))
@@ -113,7 +114,7 @@ few n r e h = omega (arith, e, digits-most-10 n h)
 -- A line has at most four digits of its number and byte 10. With a fourth field: three spaces, two digits of its step,
 -- one of its answer, eight of the set, 19 bytes in all; with none: two spaces, three digits of the step's byte, two of
 -- an answer, 12.
-line-most : (k n a : ℕ) (q : Members) → k ≤ 4095 → n < 256 → a < 100 → length (answerLine k n a q) ≤ 19
+pub line-most : (k n a : ℕ) (q : Members) → k ≤ 4095 → n < 256 → a < 100 → length (answerLine k n a q) ≤ 19
 line-most k n a q hk hn ha = go (hasFourth n a) refl
   where
     go : (t : Bool) → hasFourth n a ≡ t → length (answerLine k n a q) ≤ 19
@@ -137,16 +138,35 @@ line-most k n a q hk hn ha = go (hasFourth n a) refl
       digits-most 1 a (omega (arith, ha)),
     )
 
+-- So have the lines of records whose step is a byte, with answers of two digits.
+pub each-most : (k : ℕ) (rs : List Record) (ns : List ℕ) (qs : List Members) → All (λ r. r .step < 256) rs
+    → ((i : ℕ) → i < length rs → getD ns i 0 < 100) → k + length rs ≤ 4096
+    → length (answerLines k rs ns qs) ≤ 19 * length rs
+unfolding answerLines
+each-most k [] ns qs a h l = omega arith
+each-most k (r ∷ rs) [] qs a h l = omega arith
+each-most k (r ∷ rs) (n ∷ ns) [] a h l = omega arith
+each-most k (r ∷ rs) (n ∷ ns) (q ∷ qs) a h l = omega (
+  arith,
+  length-append (answerLine k (r .step) n q) (answerLines (suc k) rs ns qs),
+  line-most k (r .step) n q (omega (arith, l)) (a .0) (h 0 (omega arith)),
+  each-most (suc k) rs ns qs (a .1) (λ i g. h (suc i) (omega (arith, g))) (omega (arith, l)),
+)
+
+-- The records of bytes: a step is a byte, and a value has 32 bits.
+pub records-small : (n : ℕ) (s : Text) → ((i : ℕ) → getD s i 0 < 256)
+    → All (λ r. r .step < 256) (records n s) × All (λ r. r .value < 2 ^ 32) (records n s)
+unfolding records
+records-small zero s h = (tt, tt)
+records-small (suc n) s h =
+    let z = records-small n (drop 8 s) (λ i. subst (λ b. b < 256) (sym (getD-drop 8 s i 0)) (h (8 + i))) in
+    ((h 0, z .0), (omega (arith, h 4, h 5, h 6, h 7), z .1))
+
 pub lines-most : (s : Text) (ns ms : List ℕ) → ((i : ℕ) → getD s i 0 < 256) → (n : ℕ)
-    → ((i : ℕ) → i < n → getD ns i 0 < 100) → n ≤ 4095 → n ≤ length ns → n ≤ length ms
-    → length (lines s ns ms n) ≤ 19 * n
-lines-most s ns ms hs zero hn h l k = omega (arith, ap length (lines-none s ns ms))
-lines-most s ns ms hs (suc n) hn h l k =
-    rw (← (add-one n)) (omega (
-      arith,
-      lines-most s ns ms hs n (λ i q. hn i (omega (arith, q))) (omega (arith, h)) (omega (arith, l)) (omega (arith, k)),
-      ap length (one-more s ns ms n (omega (arith, l)) (omega (arith, k))),
-      length-append (lines s ns ms n) (lineAt s ns ms n),
-      line-most (n + 1) (getD s (8 * n) 0) (getD ns n 0) (bits (getD ms n 0)) (omega (arith, h)) (hs (8 * n))
-          (hn n (omega arith)),
-    ))
+    → ((i : ℕ) → i < n → getD ns i 0 < 100) → n ≤ 4095 → length (lines s ns ms n) ≤ 19 * n
+unfolding lines
+lines-most s ns ms hs n hn h =
+    let l = records-length n s in
+    omega (arith, l, each-most 1 (records n s) (take n ns) (map bits (take n ms)) (records-small n s hs .0)
+    (λ i g. subst (λ a. a < 100) (sym (getD-take n ns i 0 (omega (arith, g, l)))) (hn i (omega (arith, g, l))))
+    (omega (arith, l, h)))

@@ -14,6 +14,7 @@ use Rattle.model.specs.State.{Entry, entry}
 use Rattle.model.specs.Ranges.{every, isEpoch, inRange, termsInRange}
 use Rattle.model.proofs.Tests.{of-true, split-and}
 use Rattle.model.proofs.Quorum.{replica-range}
+use Rattle.model.proofs.Made.{All, Word}
 use Rattle.model.proofs.Range.{InRange, epoch-of, to-ranges}
 use Rattle.logstore.specs.Log.{pairs}
 use Rattle.cluster.specs.declared.View.{View}
@@ -88,31 +89,24 @@ receipts-is s n h = rw (length-take-le n s h)
 -- How long it is at most
 
 -- A receipt has at most sixteen bytes: a space, ten digits, `@`, four digits.
-receipts-most : (vs ts : List ℕ) (n : ℕ) → ((i : ℕ) → getD vs i 0 < 2 ^ 32)
-    → T (termsInRange (take n (pairs vs ts))) → length (receiptsText (take n (pairs vs ts))) ≤ 16 * n
+receipts-most : (xs : List Entry) → All Word xs → T (termsInRange xs) → length (receiptsText xs) ≤ 16 * length xs
 unfolding receiptsText receiptText
-receipts-most vs ts zero h k = omega arith
-receipts-most [] ts (suc n) h k = omega arith
-receipts-most (v ∷ vs) [] (suc n) h k = omega arith
-receipts-most (v ∷ vs) (t ∷ ts) (suc n) h k =
-    let z = split-and (isEpoch t) (termsInRange (take n (pairs vs ts))) k in
+receipts-most [] h k = omega arith
+receipts-most (x ∷ xs) h k =
+    let z = split-and (isEpoch (x .term)) (termsInRange xs) k in
     simp length-append (omega (
       arith,
-      digits-most-10 v (h 0),
-      digits-most-4 t (omega (arith, epoch-of t (z .0))),
-      receipts-most vs ts n (λ i. h (suc i)) (z .1),
+      digits-most-10 (x .value) (h .0),
+      digits-most-4 (x .term) (omega (arith, epoch-of (x .term) (z .0))),
+      receipts-most xs (h .1) (z .1),
     ))
 
-line-of-receipts : (s : List Entry) (n : ℕ) → n ≤ 512 → length (receiptsLine (take n s))
-    ≤ 13 + length (receiptsText (take n s))
+line-of-receipts : (xs : List Entry) → length xs ≤ 512 → length (receiptsLine xs) ≤ 13 + length (receiptsText xs)
 unfolding receiptsLine
-line-of-receipts s n k =
-    let c : length (take n s) ≤ 512 = omega (arith, length-take n s) in
-    simp length-append (omega (arith, three-digits (length (take n s)) c))
+line-of-receipts xs h = simp length-append (omega (arith, three-digits (length xs) h))
 
-module _ (m : M.Outline) (list list2 : List ℕ) (ranges : inRange m ≡ true)
-    (words : (i : ℕ) → getD list i 0 < 2 ^ 32)
-    (kept : termsInRange (take (m .issued) (pairs list list2)) ≡ true) where
+module _ (m : M.Outline) (xs : List Entry) (ranges : inRange m ≡ true) (few : length xs ≤ 512) (words : All Word xs)
+    (kept : termsInRange xs ≡ true) where
   all : InRange m
   all = to-ranges m (of-true ranges)
 
@@ -128,7 +122,7 @@ module _ (m : M.Outline) (list list2 : List ℕ) (ranges : inRange m ≡ true)
       eight-most 46 (boardLine m) (line-most 1 tt) (line-most 2 tt) (line-most 3 tt) (line-most 4 tt) (line-most 5 tt)
       (line-most 6 tt) (line-most 7 tt) (line-most 8 tt)
 
-  pub ending-most : length (ending m (take (m .issued) (pairs list list2))) ≤ 8704
+  pub ending-most : length (ending m xs) ≤ 8650
   unfolding ending
   ending-most =
       simp length-append (omega (
@@ -136,7 +130,14 @@ module _ (m : M.Outline) (list list2 : List ℕ) (ranges : inRange m ≡ true)
         registry-most (m .registry) (all .registry),
         control-most (m .controller) (all .controller),
         boards-most,
-        line-of-receipts (pairs list list2) (m .issued) (all .committed),
-        receipts-most list list2 (m .issued) words (of-true kept),
-        all .committed,
+        line-of-receipts xs few,
+        receipts-most xs words (of-true kept),
+        few,
       ))
+
+-- Numbers of 32 bits make such receipts.
+pub words-taken : (vs ts : List ℕ) (n : ℕ) → ((i : ℕ) → getD vs i 0 < 2 ^ 32) → All Word (take n (pairs vs ts))
+words-taken vs ts zero h = tt
+words-taken [] ts (suc n) h = tt
+words-taken (v ∷ vs) [] (suc n) h = tt
+words-taken (v ∷ vs) (t ∷ ts) (suc n) h = (h 0, words-taken vs ts n (λ i. h (suc i)))

@@ -1,16 +1,18 @@
--- Every entry of a run was made at a leader epoch in range: what holds of all entries so made holds of every entry in a
--- log or among the receipts. For every kind of entry; none is looked into. Assumes nothing.
+-- Every entry of a run was made at a leader epoch in range, of a value that some step appends: what holds of all entries
+-- so made holds of every entry in a log or among the receipts. For every kind of entry; none is looked into. Assumes
+-- nothing.
 use mathlib.Core.Bool.{Bool, true, false, cond}
 use mathlib.Core.List.{List, [], _∷_, _++_}
 use mathlib.Core.Path.{_≡_}
-use Prim.Native.Nat.{ℕ, zero, suc, _<_}
+use Prim.Native.Nat.{ℕ, zero, suc, _^_, _<_}
 use native.Mathlib.Omega.{arith}
 use lib.Dec.{T, eqb, ltb→lt}
 use lib.ListN.{length, getD}
 use Rattle.model.specs.Prelude.{upd}
 use Rattle.model.specs.State.{outline, Entries, Entry, entries, State, RowState, Opening, canOpen, opened}
-use Rattle.model.specs.Steps.{Step, append, commit, add, remove, changeLeader, refresh, join, receive, acknowledge, refreshController, readLeader, read, setNormal, hear, install, malformed, checks, accepted, next, step, shared}
-use Rattle.model.specs.Runs.{run}
+use Rattle.model.specs.Steps.{Step, Writes, appends, commits, receives, nothing, writes, append, commit, add, remove, changeLeader, refresh, join, receive, acknowledge, refreshController, readLeader, read, setNormal, hear, install, malformed, checks, accepted, next, step, shared}
+use Rattle.model.specs.Records.{Record, unused, rules, stepOf}
+use Rattle.model.specs.Runs.{stepsOf, run}
 use Rattle.model.specs.Claim.{after}
 use Rattle.model.specs.Ranges.{every, eight, isEpoch, termsInRange, keptInRange}
 use Rattle.model.proofs.Tests.{Holds, facts, by-cond, join-and}
@@ -48,28 +50,36 @@ pub record Kept {E : Type 0} (P : E → Type 0) (s : State E) : Type 0 where
   pub logs : (b : ℕ) → All P (s .log b)
   pub committed : All P (s .committed)
 
-module _ (𝓔 : Entries) (P : 𝓔 .Entry → Type 0) (made : (v t : ℕ) → IsEpoch t → P (𝓔 .make v t)) where
+-- What a step brings into the logs is a value with Q.
+abbrev pub Brings : (ℕ → Type 0) → Writes → Type 0
+Brings Q (appends b v) = Q v
+Brings Q (commits b) = Unit {0}
+Brings Q (receives b) = Unit {0}
+Brings Q nothing = Unit {0}
+
+module _ (𝓔 : Entries) (P : 𝓔 .Entry → Type 0) (Q : ℕ → Type 0)
+    (made : (v t : ℕ) → Q v → IsEpoch t → P (𝓔 .make v t)) where
   open Entries 𝓔 using (Entry, make, same)
 
   module _ {L : ℕ → ℕ} {s : State Entry} (i : Inv L s) (k : Bounds s) (m : Kept P s) where
     open State s using (view, log, committed)
 
-    keeps : (st : Step) → Holds (checks (outline s) st) → Kept P (next 𝓔 s st)
-    keeps (append b v) h = record {
+    keeps : (st : Step) → Brings Q (writes st) → Holds (checks (outline s) st) → Kept P (next 𝓔 s st)
+    keeps (append b v) w h = record {
       logs = all-upd P log b _ (m .logs)
-          (all-snoc P (log b) _ (m .logs b) (made v (view b .term) (view-in i k b (h 1) .term)));
+          (all-snoc P (log b) _ (m .logs b) (made v (view b .term) w (view-in i k b (h 1) .term)));
       committed = m .committed;
     }
-    keeps (commit b) h = record {
+    keeps (commit b) w h = record {
       logs = m .logs;
       committed = all-snoc P committed _ (m .committed) (all-at P (log b) (length committed) (make 0 0)
           (ltb→lt (length committed) (length (log b)) (h 12)) (m .logs b));
     }
-    keeps (join b) h = record {
+    keeps (join b) w h = record {
       logs = all-upd P log b _ (m .logs) (all-shared P same (log b) (log (view b .leader)) (m .logs b));
       committed = m .committed;
     }
-    keeps (receive b) h =
+    keeps (receive b) w h =
         let o = view b .leader in
         record {
           logs = all-upd P log b _ (m .logs) (all-snoc P (log b) _ (m .logs b)
@@ -77,33 +87,36 @@ module _ (𝓔 : Entries) (P : 𝓔 .Entry → Type 0) (made : (v t : ℕ) → I
               (ltb→lt (length (log b)) (length (log o)) (h 12)) (m .logs o)));
           committed = m .committed;
         }
-    keeps (add b) h = record { logs = m .logs; committed = m .committed }
-    keeps (remove b) h = record { logs = m .logs; committed = m .committed }
-    keeps changeLeader h = record { logs = m .logs; committed = m .committed }
-    keeps (refresh b) h = record { logs = m .logs; committed = m .committed }
-    keeps (acknowledge a b) h = record { logs = m .logs; committed = m .committed }
-    keeps refreshController h = record { logs = m .logs; committed = m .committed }
-    keeps readLeader h = record { logs = m .logs; committed = m .committed }
-    keeps (read b) h = record { logs = m .logs; committed = m .committed }
-    keeps setNormal h = record { logs = m .logs; committed = m .committed }
-    keeps (hear b) h = record { logs = m .logs; committed = m .committed }
-    keeps (install b) h = record { logs = m .logs; committed = m .committed }
-    keeps malformed h = absurd (h 1)
+    keeps (add b) w h = record { logs = m .logs; committed = m .committed }
+    keeps (remove b) w h = record { logs = m .logs; committed = m .committed }
+    keeps changeLeader w h = record { logs = m .logs; committed = m .committed }
+    keeps (refresh b) w h = record { logs = m .logs; committed = m .committed }
+    keeps (acknowledge a b) w h = record { logs = m .logs; committed = m .committed }
+    keeps refreshController w h = record { logs = m .logs; committed = m .committed }
+    keeps readLeader w h = record { logs = m .logs; committed = m .committed }
+    keeps (read b) w h = record { logs = m .logs; committed = m .committed }
+    keeps setNormal w h = record { logs = m .logs; committed = m .committed }
+    keeps (hear b) w h = record { logs = m .logs; committed = m .committed }
+    keeps (install b) w h = record { logs = m .logs; committed = m .committed }
+    keeps malformed w h = absurd (h 1)
 
-    pub step-made : (st : Step) → Kept P (step 𝓔 s st)
-    step-made st = by-cond (Kept P) (accepted (outline s) st) (λ t. keeps st (facts (checks (outline s) st) t)) (λ _. m)
+    step-made : (st : Step) → Brings Q (writes st) → Kept P (step 𝓔 s st)
+    step-made st w =
+        by-cond (Kept P) (accepted (outline s) st) (λ t. keeps st w (facts (checks (outline s) st) t)) (λ _. m)
 
   pub opened-made : (o : Opening) → Kept P (opened o)
   opened-made o = record { logs = λ _. tt; committed = tt }
 
-  run-made : {L : ℕ → ℕ} {s : State Entry} → Inv L s → Bounds s → Kept P s → (sts : List Step) → Kept P (run 𝓔 s sts)
+  run-made : {L : ℕ → ℕ} {s : State Entry} → Inv L s → Bounds s → Kept P s
+      → (sts : List Step) → All (λ st. Brings Q (writes st)) sts → Kept P (run 𝓔 s sts)
   unfolding run
-  run-made i k m [] = m
-  run-made i k m (st ∷ sts) =
-      run-made (step-keeps 𝓔 i st .inv) (step-bounds 𝓔 i k st) (step-made i k m st) sts
+  run-made i k m [] w = m
+  run-made i k m (st ∷ sts) w =
+      run-made (step-keeps 𝓔 i st .inv) (step-bounds 𝓔 i k st) (step-made i k m st (w .0)) sts (w .1)
 
-  pub all-made : (o : Opening) → T (canOpen o) → (sts : List Step) → Kept P (after 𝓔 o sts)
-  all-made o real sts = run-made (opened-inv o real) (opened-bounds o real) (opened-made o) sts
+  pub all-made : (o : Opening) → T (canOpen o) → (sts : List Step) → All (λ st. Brings Q (writes st)) sts
+      → Kept P (after 𝓔 o sts)
+  all-made o real sts w = run-made (opened-inv o real) (opened-bounds o real) (opened-made o) sts w
 
 -- For the calls' entries: their kept terms are in range.
 abbrev pub TermIn : Entry → Type 0
@@ -119,5 +132,83 @@ kept-in {s} m =
     (terms-in (s .committed) (m .committed))
     (to-eight (λ b. termsInRange (s .log b)) (λ b _. terms-in (s .log b) (m .logs b)))
 
-pub terms-made : (v t : ℕ) → IsEpoch t → TermIn (entries .make v t)
-terms-made v t h = h
+-- Any value will do.
+abbrev Any : ℕ → Type 0
+Any v = Unit {0}
+
+any : (w : Writes) → Brings Any w
+any (appends b v) = tt
+any (commits b) = tt
+any (receives b) = tt
+any nothing = tt
+
+anys : (sts : List Step) → All (λ st. Brings Any (writes st)) sts
+anys [] = tt
+anys (st ∷ sts) = (any (writes st), anys sts)
+
+pub terms-opened : (o : Opening) → Kept TermIn (opened o)
+terms-opened o = opened-made entries TermIn Any (λ v t _ h. h) o
+
+pub terms-step : {L : ℕ → ℕ} {s : RowState} → Inv L s → Bounds s → Kept TermIn s → (st : Step)
+    → Kept TermIn (step entries s st)
+terms-step i k m st = step-made entries TermIn Any (λ v t _ h. h) i k m st (any (writes st))
+
+pub terms-run : (o : Opening) → T (canOpen o) → (sts : List Step) → Kept TermIn (after entries o sts)
+terms-run o real sts = all-made entries TermIn Any (λ v t _ h. h) o real sts (anys sts)
+
+-- Their values have 32 bits, if those of the records do.
+abbrev pub Word : Entry → Type 0
+Word x = x .value < 2 ^ 32
+
+abbrev Small : ℕ → Type 0
+Small v = v < 2 ^ 32
+
+brings : Step → Type 0
+brings st = Brings Small (writes st)
+
+unused-brings : (ns : List ℕ) (st : Step) → brings st → brings (unused ns st)
+unfolding brings
+unused-brings [] st w = w
+unused-brings (n ∷ ns) st w = by-cond brings (eqb n 0) (λ _. unused-brings ns st w) (λ _. tt)
+
+record-brings : (r : Record) → r .value < 2 ^ 32 → brings (stepOf r)
+unfolding brings
+record-brings r h = found (rules r) (r .step) (
+  tt,
+  (unused-brings (r .other ∷ r .spare ∷ []) (append (r .board) (r .value)) h,
+  (one (commit (r .board)) tt,
+  (one (add (r .board)) tt,
+  (one (remove (r .board)) tt,
+  (bare changeLeader tt,
+  (one (refresh (r .board)) tt,
+  (one (join (r .board)) tt,
+  (one (receive (r .board)) tt,
+  (unused-brings (r .spare ∷ r .value ∷ []) (acknowledge (r .board) (r .other)) tt,
+  (bare refreshController tt,
+  (bare readLeader tt,
+  (one (read (r .board)) tt,
+  (bare setNormal tt,
+  (one (hear (r .board)) tt,
+  (one (install (r .board)) tt,
+  tt))))))))))))))),
+)
+  where
+    one : (st : Step) → brings st → brings (unused (r .other ∷ r .spare ∷ r .value ∷ []) st)
+    one = unused-brings (r .other ∷ r .spare ∷ r .value ∷ [])
+
+    bare : (st : Step) → brings st → brings (unused (r .board ∷ r .other ∷ r .spare ∷ r .value ∷ []) st)
+    bare = unused-brings (r .board ∷ r .other ∷ r .spare ∷ r .value ∷ [])
+
+    found : (sts : List Step) (n : ℕ) → All brings sts → brings (getD sts n malformed)
+    found [] n w = tt
+    found (st ∷ sts) zero w = w .0
+    found (st ∷ sts) (suc n) w = found sts n (w .1)
+
+records-bring : (rs : List Record) → All (λ r. r .value < 2 ^ 32) rs → All brings (stepsOf rs)
+records-bring [] w = tt
+records-bring (r ∷ rs) w = (record-brings r (w .0), records-bring rs (w .1))
+
+pub words-run : (o : Opening) → T (canOpen o) → (rs : List Record) → All (λ r. r .value < 2 ^ 32) rs
+    → Kept Word (after entries o (stepsOf rs))
+unfolding brings
+words-run o real rs w = all-made entries Word Small (λ v t h _. h) o real (stepsOf rs) (records-bring rs w)

@@ -1,18 +1,24 @@
 -- A sheet that was run, and its listing: what was written is what the definition says. Assumes nothing.
 use mathlib.Core.Bool.{Bool, true, false, cond, _&&_}
 use mathlib.Core.List.{List, [], _∷_, _++_, append-assoc}
-use mathlib.Core.Path.{_≡_, refl, sym, ap, ap₂, _∙_}
-use Prim.Native.Nat.{ℕ, suc, _-_, _/_, _<_, _≤_}
+use mathlib.Core.Path.{_≡_, refl, sym, subst, ap, ap₂, _∙_}
+use Prim.Native.Nat.{ℕ, suc, _+_, _-_, _*_, _/_, _^_, _<_, _≤_}
 use native.Mathlib.Omega.{arith}
 use lib.Dec.{leb}
 use lib.ListN.{length, take, drop, getD, length-append}
+use lib.Seq.{getD-drop}
 use borrow.Author.Tests.{leb-true}
 use Rattle.model.specs.Members.{none}
 use Rattle.model.specs.State.{entries, outline, Opening, opened}
-use Rattle.model.specs.Records.{openingOf}
+use Rattle.model.specs.Records.{openingOf, Record}
 use Rattle.model.specs.Runs.{stepsOf, answers, setsBehind}
 use Rattle.model.specs.Steps.{Step}
-use Rattle.model.specs.Claim.{receipts}
+use Rattle.model.specs.Claim.{after, receipts}
+use Rattle.model.specs.Ranges.{every, eight, inRange, termsInRange}
+use Rattle.model.proofs.Tests.{of-true, is-true, split-and}
+use Rattle.model.proofs.Range.{to-ranges}
+use Rattle.model.proofs.Bounds.{in-range}
+use Rattle.model.proofs.Made.{All, kept-in, terms-run, words-run}
 use Rattle.model.proofs.Theorem.{safe}
 use Rattle.cluster.specs.declared.Cluster.{Cluster}
 use Rattle.cluster.specs.Layout.{outlineOf}
@@ -23,10 +29,12 @@ use Rattle.records.specs.Bytes.{recordAt, records, wholeRecords, isSheet}
 use Rattle.lines.specs.Lines.{answerLine}
 use Rattle.listing.specs.Listing.{answerLines, lines, ending}
 use Rattle.lines.proofs.Lengths.{line-length}
+use Rattle.listing.proofs.AnswerLines.{records-length, line-most, each-most, records-small}
+use Rattle.listing.proofs.Endings.{ending-most}
 use Rattle.sheet.specs.Sheet.{listingOf, listing, answersOf, result, left, openingBytes, Refused, RefusedHolds, LengthsTell}
 use Rattle.sheet.specs.Running.{following, stateAt, Ran}
 use Rattle.records.proofs.Decoding.{room}
-use Rattle.sheet.proofs.Playing.{sheet-whole, sheet-step, sheet-real, all-most}
+use Rattle.sheet.proofs.Playing.{sheet-whole, sheet-most, sheet-step, sheet-real, all-most}
 
 -- The first lines of the listing.
 pub lines-are : (s : Text) (k : ℕ) (row : Cluster) (p : Places) (ns ms : List ℕ) → isSheet s ≡ true
@@ -47,15 +55,66 @@ longer : (n : ℕ) (xs ys : Text) → n ≤ length xs → n ≤ length (xs ++ ys
 longer n xs ys h = omega (arith, length-append xs ys)
 
 -- The opening's line alone has six bytes.
-pub lengths-tell : LengthsTell
-unfolding LengthsTell listing listingOf
-lengths-tell s =
+long-enough : (s : Text) → 4 ≤ length (listing s)
+unfolding listing listingOf
+long-enough s =
     longer 4 (answerLine 1 0 0 none) _ (omega (
       arith,
       line-length 1 0 0 none,
       digits-one-length 1 (omega arith),
       digits-one-length 0 (omega arith),
     ))
+
+-- 19 bytes for each record's line, and those of the longest ending.
+module _ (s : Text) (bytes : (i : ℕ) → getD s i 0 < 256) (e : isSheet s ≡ true) where
+  abbrev rs : List Record
+  rs = records (length s / 8 - 1) (drop 8 s)
+
+  abbrev first : Opening
+  first = openingOf (recordAt s)
+
+  small : All (λ r. r .step < 256) rs × All (λ r. r .value < 2 ^ 32) rs
+  small = records-small (length s / 8 - 1) (drop 8 s)
+      (λ i. subst (λ b. b < 256) (sym (getD-drop 8 s i 0)) (bytes (8 + i)))
+
+  end : length (ending (outline (after entries first (stepsOf rs))) (receipts entries first (stepsOf rs))) ≤ 8650
+  end =
+      let real = sheet-real s e in
+      let m = outline (after entries first (stepsOf rs)) in
+      let ok = is-true (inRange m) (in-range entries first real (stepsOf rs)) in
+      let given = safe entries first real (stepsOf rs) .kept in
+      let kept = split-and (termsInRange (after entries first (stepsOf rs) .committed))
+      (every (eight (λ b. termsInRange (after entries first (stepsOf rs) .log b))))
+      (kept-in (terms-run first real (stepsOf rs))) .0 in
+      subst (λ xs. length (ending m xs) ≤ 8650) given
+      (ending-most m (after entries first (stepsOf rs) .committed) ok (to-ranges m (of-true ok) .committed)
+      (words-run first real rs (small .1) .committed) (is-true _ kept))
+
+  short-enough : length (listing s) ≤ 19 * (length s / 8) + 8650
+  unfolding listing listingOf
+  short-enough =
+      let k = length s / 8 - 1 in
+      let ns = answers entries (opened first) (stepsOf rs) in
+      let qs = setsBehind entries (opened first) (stepsOf rs) in
+      let n = records-length k (drop 8 s) in
+      let one = room (length s) (sheet-whole s e) in
+      omega (
+        arith,
+        one,
+        n,
+        length-append (answerLine 1 0 0 none) (answerLines 2 rs ns qs
+            ++ ending (outline (after entries first (stepsOf rs))) (receipts entries first (stepsOf rs))),
+        length-append (answerLines 2 rs ns qs)
+            (ending (outline (after entries first (stepsOf rs))) (receipts entries first (stepsOf rs))),
+        line-most 1 0 0 none (omega arith) (omega arith) (omega arith),
+        each-most 2 rs ns qs (small .0) (λ i _. omega (arith, all-most (opened first) (stepsOf rs) (suc i)))
+            (omega (arith, n, one, sheet-most s e)),
+        end,
+      )
+
+pub lengths-tell : LengthsTell
+unfolding LengthsTell
+lengths-tell s = (long-enough s, λ h e. short-enough s (λ i. omega (arith, h i)) e)
 
 -- Refusal 2.
 pub no-sheet : (s out : Text) → isSheet s ≡ false → (2 ≡ result s out) × (out ≡ left s out)

@@ -19,7 +19,7 @@ use Rattle.model.proofs.Tests.{split-and, is-true, of-true}
 use Rattle.model.proofs.Answer.{answer-most}
 use Rattle.model.proofs.Range.{to-ranges}
 use Rattle.model.proofs.Bounds.{in-range}
-use Rattle.model.proofs.Made.{TermIn, terms-made, all-made, kept-in}
+use Rattle.model.proofs.Made.{kept-in, terms-run}
 use Rattle.model.proofs.Theorem.{run-append}
 use Rattle.cluster.specs.declared.Cluster.{Cluster}
 use Rattle.cluster.specs.declared.Outcome.{Outcome}
@@ -123,7 +123,7 @@ module _ (s : Text) (sheet : isSheet s ≡ true) (k : ℕ) (row : Cluster) (p : 
 
   -- The kept epochs are in range too.
   kept-fits : T (keptInRange (stateAt s k))
-  kept-fits = kept-in (all-made entries TermIn terms-made opening (sheet-real s sheet) past)
+  kept-fits = kept-in (terms-run opening (sheet-real s sheet) past)
 
   pub ran-terms : termsInRange (abs row p .committed) ≡ true
   ran-terms =

@@ -4,9 +4,9 @@
 use mathlib.Core.Bool.{true, cond, _&&_}
 use mathlib.Core.List.{List, [], _∷_, _++_}
 use mathlib.Core.Path.{_≡_}
-use Prim.Native.Nat.{ℕ, _-_, _/_, _≤_}
+use Prim.Native.Nat.{ℕ, _+_, _-_, _*_, _/_, _≤_}
 use lib.Dec.{leb}
-use lib.ListN.{length, drop, replicate}
+use lib.ListN.{length, getD, drop, replicate}
 use Rattle.model.specs.Members.{none}
 use Rattle.model.specs.State.{entries, outline, Opening, opened}
 use Rattle.model.specs.Records.{openingOf, Record, bare, of, ofBoth, ofValue}
@@ -125,7 +125,9 @@ RefusedHolds = (rest out : Text)
     → Refused (openingBytes 0 ++ rest) out × Refused (openingBytes 9 ++ rest) out
     × Refused [] out × Refused (0 ∷ 1 ∷ 0 ∷ 0 ∷ []) out
 
--- No listing is so short that its length could be taken for a refusal.
+-- No listing is so short that its length could be taken for a refusal, and none of n records has more than
+-- 19 n + 8,650 bytes.
 unfoldable pub LengthsTell : Type 0
 unfolding listing
-LengthsTell = (s : Text) → 4 ≤ length (listing s)
+LengthsTell = (s : Text) → (4 ≤ length (listing s))
+    × (((i : ℕ) → getD s i 0 ≤ 255) → isSheet s ≡ true → length (listing s) ≤ 19 * (length s / 8) + 8650)

@@ -15,7 +15,7 @@ use Rattle.model.proofs.Invariant.{Inv}
 use Rattle.model.proofs.Range.{from-ranges}
 use Rattle.model.proofs.Theorem.{opened-inv, step-keeps, run-append, safe}
 use Rattle.model.proofs.Bounds.{Bounds, opened-bounds, step-bounds, all-in}
-use Rattle.model.proofs.Made.{Kept, TermIn, terms-made, opened-made, step-made, kept-in}
+use Rattle.model.proofs.Made.{Kept, TermIn, kept-in, terms-opened, terms-step}
 use Rattle.cluster.specs.Layout.{bits, outlineOf}
 use Rattle.refinement.specs.Refinement.{Full}
 use Rattle.steps.specs.Call.{valid}
@@ -63,7 +63,7 @@ goes {s} {st} {h} {h′} k m d =
         history = i .history;
         inv = i .inv;
         bounds = step-bounds entries (k .inv) (k .bounds) st;
-        kept = step-made entries TermIn terms-made (k .inv) (k .bounds) (k .kept) st;
+        kept = terms-step (k .inv) (k .bounds) (k .kept) st;
       };
       holds = record {
         state = d .state ∙ ap (λ t. cond t (step entries (stateOf h) st) (stateOf h)) v
@@ -110,7 +110,7 @@ module _ (o : Opening) (h : Held) (start : Begins o h) where
     history = λ _. o .board;
     inv = opened-inv o (start .real);
     bounds = opened-bounds o (start .real);
-    kept = opened-made entries TermIn terms-made o;
+    kept = terms-opened o;
   }
 
   module _ (sts : List Step) (h′ : Held) (ns qs : List ℕ) (calls : Calls h sts h′ ns qs) where

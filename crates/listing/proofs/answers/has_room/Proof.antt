@@ -27,7 +27,7 @@ returns c =
     let ms = now (e .args .sets) in
     let bytes = c .before .before .before .shared-slice-known .given in
     let n = length s / 8 in
-    let most = lines-most s ns ms (λ i. omega (arith, bytes i)) n (e .pre .4) (e .pre .0) (e .pre .1) (e .pre .2) in
+    let most = lines-most s ns ms (λ i. omega (arith, bytes i)) n (e .pre .4) (e .pre .0) in
     sym (le-leb (length (lines s ns ms n) + e .args .end) (e .args .room) (omega (arith, most, c .if1 .taken)))
 
 answers-length-requires : tie.Need-answers-length-requires

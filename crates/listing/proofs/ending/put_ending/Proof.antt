@@ -2,16 +2,18 @@
 use mathlib.Core.List.{List, _++_}
 use Prim.Native.Nat.{_+_, _≤_}
 use native.Mathlib.Omega.{arith}
-use lib.ListN.{length, take}
+use lib.ListN.{length, take, length-take}
 use denote.Ref.{now}
 use Rattle.model.specs.State.{Entry}
+use Rattle.model.proofs.Tests.{of-true}
+use Rattle.model.proofs.Range.{to-ranges}
 use Rattle.logstore.specs.Log.{pairs}
 use Rattle.cluster.specs.Layout.{registryOf, controllerOf, outlineOf}
 use Rattle.text.specs.Text.{Text}
 use Rattle.text.proofs.Laws.{fits, rest, then}
 use Rattle.lines.specs.Lines.{registryLine, controlLine}
 use Rattle.listing.specs.Listing.{boardLines, receiptsLine, ending}
-use Rattle.listing.proofs.Endings.{ending-most}
+use Rattle.listing.proofs.Endings.{ending-most, words-taken}
 use borrow.Author.Needs.{needs}
 use Rattle.listing.proofs.ending.put_ending.Statement.{statement}
 use Rattle.listing.proofs.ending.put_ending.Tie as tie
@@ -26,8 +28,12 @@ text0 e = ending (outlineOf (e .args .row)) (take (e .args .row .issued) (all e)
 most : (k : tie.After-shared-slice-known) → length (text0 (k .before .before)) ≤ 8704
 most k =
     let e = k .before .before in
-    ending-most (outlineOf (e .args .row)) (now (e .args .list)) (now (e .args .list2)) (e .pre .0)
-    (λ i. omega (arith, k .shared-slice-known .given i)) (e .pre .1)
+    let n = e .args .row .issued in
+    let few = to-ranges (outlineOf (e .args .row)) (of-true (e .pre .0)) .committed in
+    omega (arith, ending-most (outlineOf (e .args .row)) (take n (all e)) (e .pre .0)
+    (omega (arith, few, length-take n (all e)))
+    (words-taken (now (e .args .list)) (now (e .args .list2)) n (λ i. omega (arith, k .shared-slice-known .given i)))
+    (e .pre .1))
 
 -- What is still to be written after the call j.
 abbrev text3 : tie.Start → Text
