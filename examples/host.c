@@ -46,15 +46,18 @@ static int run(const uint8_t *sheet, size_t sheet_len,
     }
 }
 
-/* The answer of record n, counted from 0, in a listing: the last number of line n. */
+/* The answer of record n, counted from 0, in a listing: the third number of line n. */
 static enum row_answer answer(const uint8_t *listing, size_t n)
 {
-    int number = 0;
+    int before = 2, number = 0;
 
     while (n > 0)
         n -= *listing++ == '\n';
-    for (; *listing != '\n'; listing++)
-        number = *listing == ' ' ? 0 : 10 * number + (*listing - '0');
+    while (before > 0)
+        before -= *listing++ == ' ';
+    /* A fourth, where there is one, has the boards behind the record. */
+    for (; *listing != ' ' && *listing != '\n'; listing++)
+        number = 10 * number + (*listing - '0');
     return (enum row_answer)number;
 }
 

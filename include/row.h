@@ -138,7 +138,7 @@ enum row_answer {
  * holds it for every n up to ROW_RECORDS_MAX. There is no cast, so that it
  * stands in #if too.
  */
-#define ROW_LISTING_LEN(n) (12 * (n) + 8650)
+#define ROW_LISTING_LEN(n) (19 * (n) + 8650)
 
 /*
  * Runs a sheet from its opening and writes the listing.

@@ -6,7 +6,7 @@
 
 #include <string.h>
 
-#if ROW_LISTING_LEN(100) > 6000 && ROW_LISTING_LEN(ROW_RECORDS_MAX) == 57790
+#if ROW_LISTING_LEN(100) > 6000 && ROW_LISTING_LEN(ROW_RECORDS_MAX) == 86455
 enum { LISTING_LEN = ROW_LISTING_LEN(4) };
 #endif
 #if ROW_RECORD_LEN * ROW_RECORDS_MAX != 32760 || ROW_SHEET_LEN(ROW_RECORDS_MAX) != 32760
@@ -67,8 +67,11 @@ SAME(ROW_REFUSED_NO_MAJORITY, 14);
 SAME(ROW_REFUSED_STAGE, 15);
 SAME(ROW_REFUSED_EPOCHS_DIFFER, 16);
 
-/* The sample's listing has so many bytes: document 01's 285, and @1 after the receipt's value. */
-enum { SAMPLE_LISTING = 287 };
+/*
+ * The sample's listing has so many bytes: document 01's 285, @1 after the receipt's value,
+ * and a space and 1, the board behind the receipt, after its answer.
+ */
+enum { SAMPLE_LISTING = 289 };
 
 /* Returns 0, or the number of the call that is wrong. */
 static int run_sample(void)
@@ -79,6 +82,8 @@ static int run_sample(void)
         ROW_STEP_RECEIPT, 1, 0, 0, 0, 0, 0, 0,
         ROW_STEP_ADD, 2, 0, 0, 0, 0, 0, 0,
     };
+    /* Document 02, Paper 6: board 1 alone stands behind its receipt. */
+    static const char records[] = "1 0 0\n2 1 0\n3 2 0 1\n4 3 0\nregistry ";
     /* Document 02, Paper 4. */
     static const char receipts[] = "\nreceipts 1 41@1\n";
     static uint8_t listing[LISTING_LEN];
@@ -95,7 +100,9 @@ static int run_sample(void)
         return 4;
     if (run_sheet(sheet, sizeof sheet, listing, SAMPLE_LISTING) != SAMPLE_LISTING)
         return 5;
-    return memcmp(listing + SAMPLE_LISTING - receipts_len, receipts, receipts_len) == 0 ? 0 : 6;
+    if (memcmp(listing, records, sizeof records - 1) != 0)
+        return 6;
+    return memcmp(listing + SAMPLE_LISTING - receipts_len, receipts, receipts_len) == 0 ? 0 : 7;
 }
 
 /* The first three records of seed 0 are made and run. Returns as above. */

@@ -8,33 +8,53 @@ VIEW = ["epoch", "leader epoch", "leader", "members"]
 REGISTRY = [*VIEW, "status"]
 CONTROL = [*VIEW, "stage"]
 BOARD = ["board", *VIEW, "joined", "length", "mark"]
+# Columns of sets.
+SETS = ["members", "behind"]
+# The steps that ask for a majority. The line of one that is accepted has the boards behind it.
+MAJORITIES = ["2", "13", "15"]
 
 
 class Listing(NamedTuple):
-    """The answers, as numbers and as told, and the other lines as fields by name; a receipt as value@epoch."""
+    """The answers, as numbers and as told, for each record the boards behind it or nothing, and the other lines as
+    fields by name; a receipt as value@epoch."""
 
     answers: list
     told: list
+    behind: list
     registry: dict
     control: dict
     boards: list
     receipts: list
 
 
+def apart(boards):
+    """A set of boards, its digits apart from each other."""
+    return " ".join(boards)
+
+
 def fields(columns, values):
-    """The fields of a line by name; members apart from each other."""
+    """The fields of a line by name."""
     named = dict(zip(columns, values, strict=True))
-    return named | {"members": " ".join(named["members"])}
+    return named | {"members": apart(named["members"])}
+
+
+def answered(line):
+    """The answer of a record, and the boards behind it, if its line has them."""
+    _, step, answer, *behind = line
+    if len(behind) != (answer == "0" and step in MAJORITIES):
+        raise ValueError(" ".join(line))
+    return int(answer), apart("".join(behind))
 
 
 def parse(text):
     """The listing that the program printed. Its answers are not told yet."""
     lines = [line.split(" ") for line in text.split("\n")[:-1]]
-    answers = list(takewhile(lambda line: line[0] != "registry", lines))
-    registry, control, *boards, receipts = lines[len(answers) :]
+    records = [answered(line) for line in takewhile(lambda line: line[0] != "registry", lines)]
+    registry, control, *boards, receipts = lines[len(records) :]
     return Listing(
-        [int(answer) for _, _, answer in answers],
+        [answer for answer, _ in records],
         [],
+        [behind for _, behind in records],
         fields(REGISTRY, registry[1:]),
         fields(CONTROL, control[1:]),
         [fields(BOARD, board[1:]) for board in boards],
@@ -60,20 +80,24 @@ def table(rows):
     """Rows of equal columns under their names: numbers to the right, words and sets to the left."""
     columns = list(zip(*rows))
     widths = [max(map(len, column)) for column in columns]
-    right = [name != "members" and "".join(cells).isdigit() for name, *cells in columns]
+    right = [name not in SETS and "".join(cells).isdigit() for name, *cells in columns]
     for row in rows:
         cells = zip(row, widths, right)
         yield "  ".join(cell.rjust(width) if far else cell.ljust(width) for cell, width, far in cells).rstrip()
 
 
+def records(steps, listing):
+    """The rows of the records, under the names of their columns."""
+    rows = [["record", "line", "step", "behind", "answer"]]
+    for n, (step, behind, told) in enumerate(zip(steps, listing.behind, listing.told, strict=True), 1):
+        rows.append([str(n), str(step.line or ""), step.words, behind, told])
+    # Records have no lines, nor has what is typed; and it may be that no majority was asked for.
+    columns = [column for column in zip(*rows) if any(column[1:])]
+    return list(zip(*columns))
+
+
 def in_words(steps, listing):
     """The listing for people."""
-    rows = [["record", "line", "step", "answer"]]
-    for n, (step, told) in enumerate(zip(steps, listing.told, strict=True), 1):
-        rows.append([str(n), str(step.line or ""), step.words, told])
-    # Records have no lines, nor has what is typed.
-    if not any(step.line for step in steps):
-        rows = [[row[0], *row[2:]] for row in rows]
     views = [["", *VIEW, "status or stage"]]
     views.append(["registry", *listing.registry.values()])
     views.append(["controller", *listing.control.values()])
@@ -81,7 +105,7 @@ def in_words(steps, listing):
     receipts = f"receipts: {len(listing.receipts)}"
     if listing.receipts:
         receipts += ", as value@epoch: " + " ".join(listing.receipts)
-    parts = [*table(rows), "", *table(views), "", *table(boards), "", receipts]
+    parts = [*table(records(steps, listing)), "", *table(views), "", *table(boards), "", receipts]
     return "".join(part + "\n" for part in parts)
 
 
@@ -90,11 +114,21 @@ def moved(before, after):
     return ", ".join(f"{name} {before[name]} -> {after[name]}" for name in after if before[name] != after[name])
 
 
+def moved_behind(before, after):
+    """The records with other boards behind them than before, a line each; a new record had none."""
+    lines = []
+    then = before.behind + [""] * len(after.behind)
+    for n, (old, new) in enumerate(zip(then, after.behind), 1):
+        if old != new:
+            lines.append(f"record {n}: behind " + (f"{old} -> " if old else "") + (new or "none"))
+    return lines
+
+
 def changes(before, after):
-    """What of the state differs between two listings, a line each. None before an opening."""
+    """What differs between two listings, a line each, but for the answers. None before an opening."""
     if before is None:
         return ["registry: " + ", ".join(f"{name} {value}" for name, value in after.registry.items())]
-    lines = []
+    lines = moved_behind(before, after)
     for name, old, new in [
         ("registry", before.registry, after.registry),
         ("controller", before.control, after.control),

@@ -23,7 +23,7 @@ use std::{env, fs};
 const SEED: u64 = 1;
 const ROUNDS: usize = 301;
 /// Room for any listing, and for any sheet.
-const ROOM: usize = 57_790;
+const ROOM: usize = 86_455;
 /// Room for any text in words.
 const TEXT_ROOM: usize = 96 * peer::RECORDS_MAX;
 

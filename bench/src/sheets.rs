@@ -95,8 +95,8 @@ impl Story {
 
     fn record(&mut self, record: [u8; 8]) {
         if !self.full() {
-            let answer = self.row.step(&record);
-            assert_eq!(answer, 0, "{record:?}");
+            let outcome = self.row.step(&record);
+            assert_eq!(outcome.answer, 0, "{record:?}");
             self.sheet.extend(record);
         }
     }

@@ -2,8 +2,8 @@
 """Tests of tools/run-sheet, with the programs that RUNSHEET, SEEDSHEET and EXPLAINSHEET name.
 
 What a row answers is taken from document 01, its sample, its trials, its rules,
-a board's mark, the records of a seed and the epochs of entries from document 02;
-the words of an answer from docs/PHRASES.md.
+a board's mark, the records of a seed, the epochs of entries and the boards behind
+a record from document 02; the words of an answer from docs/PHRASES.md.
 """
 
 import os
@@ -24,16 +24,18 @@ EXPLAINER = os.environ.get("EXPLAINSHEET") or str(ROOT / "target" / "bin" / "exp
 sys.dont_write_bytecode = True
 sys.path.insert(0, str(TOOL.parent))
 
-import sheet  # noqa: E402  (from tools/)
+import listing  # noqa: E402  (from tools/)
+import sheet  # noqa: E402
 
 LISTED, REFUSED, NOT_RUN, FAILED = range(4)
 WORDS = b"open 1\nappend 1 41\nreceipt 1\nadd 2\n"
 RECORDS = bytes([0, 1, 0, 0, 0, 0, 0, 0, 1, 1, 0, 0, 41, 0, 0, 0, 2, 1, 0, 0, 0, 0, 0, 0, 3, 2, 0, 0, 0, 0, 0, 0])
-# The sample's listing in document 01, its receipt with the epoch of document 02, Paper 4.
+# The sample's listing in document 01, its receipt with the epoch of document 02, Paper 4, and
+# with the one board behind it, Paper 6.
 LISTING = b"""\
 1 0 0
 2 1 0
-3 2 0
+3 2 0 1
 4 3 0
 registry 2 1 1 12 waiting
 control 1 1 1 1 idle
@@ -366,9 +368,10 @@ class InWords(InFolder):
         self.assertEqual((done.returncode, done.stderr), (LISTED, ""))
         parts = [part.splitlines() for part in done.stdout.decode().split("\n\n")]
         steps, views, boards, receipts = [[re.split(r"  +", line.strip()) for line in part] for part in parts]
-        self.assertEqual(steps[0], ["record", "line", "step", "answer"])
-        words = WORDS.decode().splitlines()
-        self.assertEqual(steps[1:], [[str(n), str(n + 1), line, "accepted"] for n, line in enumerate(words, 1)])
+        self.assertEqual(steps[0], ["record", "line", "step", "behind", "answer"])
+        rows = [[str(n), str(n + 1), line, "accepted"] for n, line in enumerate(WORDS.decode().splitlines(), 1)]
+        rows[2].insert(3, "1")
+        self.assertEqual(steps[1:], rows)
         view = ["epoch", "leader epoch", "leader", "members"]
         self.assertEqual(views[0], [*view, "status or stage"])
         self.assertEqual(views[1], ["registry", "2", "1", "1", "1 2", "waiting"])
@@ -383,8 +386,31 @@ class InWords(InFolder):
         done = run("--words", ROOT / "examples" / "two-sales.txt")
         self.assertEqual(done.stdout.decode().splitlines()[-1], "receipts: 2, as value@epoch: 40@1 41@6")
 
+    def test_boards_behind(self):
+        """The sets that the story's comments tell of. Other records have none."""
+        done = run("--words", ROOT / "examples" / "who-stood-behind.txt")
+        names, *lines = done.stdout.decode().split("\n\n")[0].splitlines()
+        column = slice(names.index("behind"), names.index("answer"))
+        sets = {n: line[column].strip() for n, line in enumerate(lines, 1)}
+        self.assertEqual(len(sets), 52)
+        behind = {24: "1 2 3 4 5", 29: "1 2 3 4 5", 37: "1 2 3 4", 52: "2 4 5 6"}
+        self.assertEqual({n: boards for n, boards in sets.items() if boards}, behind)
+
+    def test_no_column_where_nobody_stands_behind(self):
+        """A receipt that is refused has no boards behind it."""
+        for story, names in [
+            (b"open 1\nreceipt 1\n", ["record", "line", "step", "answer"]),
+            (b"open 1\nappend 1 41\nreceipt 1\n", ["record", "line", "step", "behind", "answer"]),
+        ]:
+            lines = run("--words", "-", given=story).stdout.decode().splitlines()
+            self.assertEqual(lines[0].split(), names)
+
     def test_columns_stand_below_their_names(self):
         lines = run("--words").stdout.decode().splitlines()
+        receipt = lines[3]
+        self.assertEqual(receipt[lines[0].index("behind") :].split(), ["1", "accepted"])
+        self.assertEqual(receipt[lines[0].index("behind")], "1")
+        self.assertEqual(receipt[lines[0].index("answer") :], "accepted")
         names = next(line for line in lines if line.startswith("board"))
         board = lines[lines.index(names) + 1]
         end = names.index("leader epoch") + len("leader epoch")
@@ -394,7 +420,7 @@ class InWords(InFolder):
 
     def test_records_have_no_lines(self):
         lines = run("--words", "-", given=RECORDS + bytes([200, 1, 2, 3, 4, 5, 6, 7])).stdout.decode().splitlines()
-        self.assertEqual(lines[0].split(), ["record", "step", "answer"])
+        self.assertEqual(lines[0].split(), ["record", "step", "behind", "answer"])
         self.assertEqual(lines[2].split(), ["2", "append", "1", "41", "accepted"])
         raw = ["5", "raw", "200", "1", "2", "3", "4", "5", "6", "7"]
         self.assertEqual(lines[5].split(), [*raw, *"refused 1: these eight bytes are no step".split()])
@@ -405,7 +431,7 @@ class InWords(InFolder):
         for sample in (ROOT / "examples").glob("*.txt"):
             shown = {}
             for line in run("--words", sample).stdout.decode().split("\n\n")[0].splitlines()[1:]:
-                _, number, _, answer = re.split(r"  +", line.strip())
+                _, number, *_, answer = re.split(r"  +", line.strip())
                 shown[int(number)] = answer
             for number, line in enumerate(sample.read_text().splitlines(), 1):
                 if sheet.line_words(line):
@@ -478,6 +504,45 @@ opening with board 1: refused, an opening stands first and nowhere else
                 self.assertNotIn("Traceback", done.stderr)
 
 
+class Compared(unittest.TestCase):
+    """The comparison of two listings, the sample's and an edited one."""
+
+    def edited(self, old, new, text=LISTING):
+        self.assertEqual(text.count(old), 1)
+        return text.replace(old, new)
+
+    def changes(self, before, after, expected):
+        before, after = (listing.parse(text.decode()) for text in (before, after))
+        self.assertEqual(listing.changes(before, after), expected)
+
+    def test_nothing(self):
+        self.changes(LISTING, LISTING, [])
+
+    def test_a_set(self):
+        other = self.edited(b"3 2 0 1\n", b"3 2 0 13\n")
+        self.changes(LISTING, other, ["record 3: behind 1 -> 1 3"])
+        self.changes(other, LISTING, ["record 3: behind 1 3 -> 1"])
+
+    def test_a_set_on_one_side(self):
+        other = self.edited(b"3 2 0 1\n", b"3 2 14\n")
+        self.changes(LISTING, other, ["record 3: behind 1 -> none"])
+        self.changes(other, LISTING, ["record 3: behind 1"])
+
+    def test_sets_of_set_normal_and_install(self):
+        before = self.edited(b"2 1 0\n", b"2 15 0 2\n", self.edited(b"4 3 0\n", b"4 13 0 23\n"))
+        after = self.edited(b"2 15 0 2\n", b"2 15 0 28\n", self.edited(b"4 13 0 23\n", b"4 13 0 234\n", before))
+        self.changes(before, after, ["record 2: behind 2 -> 2 8", "record 4: behind 2 3 -> 2 3 4"])
+
+    def test_records_more_and_fewer(self):
+        two = self.edited(b"3 2 0 1\n4 3 0\n", b"")
+        self.changes(two, LISTING, ["record 3: behind 1"])
+        self.changes(LISTING, two, [])
+
+    def test_a_set_beside_the_state(self):
+        other = self.edited(b"3 2 0 1\n4 3 0\nregistry 2 ", b"3 2 0 8\n4 3 0\nregistry 3 ")
+        self.changes(LISTING, other, ["record 3: behind 1 -> 8", "registry: epoch 2 -> 3"])
+
+
 class Formats(unittest.TestCase):
     """docs/FORMATS.md, the header and the tools say the same."""
 
@@ -546,7 +611,9 @@ class Asking(InFolder):
         expected += ["accepted", "accepted", "refused 14", "accepted", "accepted", "accepted"]
         self.assertEqual(answers, expected)
         self.assertIn("  registry: epoch 1 -> 2, members 1 -> 1 2, status normal -> waiting", said)
-        self.assertIn("  registry: epoch 2 -> 3, status waiting -> normal", said)
+        normal = "  registry: epoch 2 -> 3, status waiting -> normal"
+        # P8: both members are heard at length 0.
+        self.assertEqual(said[said.index(normal) - 2 : said.index(normal)], ["accepted", "  record 12: behind 1 2"])
         change = "  registry: epoch 3 -> 4, leader epoch 1 -> 4, leader 1 -> 2, members 1 2 -> 2"
         self.assertEqual(said[said.index(change) - 1], "accepted")
         self.assertIn("  nothing that a listing shows has changed", said)
@@ -562,6 +629,7 @@ class Asking(InFolder):
                 "accepted",
                 "  board 1: length 0 -> 1",
                 "accepted",
+                "  record 4: behind 1",
                 "  receipts: 0 -> 1, 41@1",
                 "accepted",
                 "  registry: epoch 1 -> 2, members 1 -> 1 2, status normal -> waiting",
@@ -602,6 +670,24 @@ class Asking(InFolder):
                 "refused 12: its log is not shorter than its leader's",
             ],
         )
+
+    def test_who_stood_behind(self):
+        """Document 02, Paper 6. No member is ranked above board 3, which has the longest log of those heard."""
+        said = self.ask(["undo", "install 3"], str(ROOT / "examples" / "who-stood-behind.txt"))
+        accepted = said.index("accepted")
+        self.assertEqual(said[accepted + 1], "  record 52: behind 2 3 4 5 6")
+        # Of the record that is taken back no set is told.
+        self.assertEqual(said[0], "taken back: install 2")
+        self.assertNotIn("behind", "".join(said[:accepted]))
+
+    def test_listings_that_differ_in_a_set_alone(self):
+        """Such a change is told, by a program that has second thoughts about a receipt."""
+        other = LISTING.replace(b"\n3 2 0 1\n", b"\n3 2 0 12\n")
+        three, four = self.file("three", LISTING.replace(b"4 3 0\n", b"")), self.file("four", other)
+        program = self.script("other", f"[ $(wc -c) = 24 ] && cat '{three}' || cat '{four}'")
+        story = self.file("story", RECORDS[:24])
+        done = run("--ask", story, given=b"add 2\n", program=program)
+        self.assertEqual(done.stdout.decode().splitlines()[1:], ["accepted", "  record 3: behind 1 -> 1 2"])
 
     def test_undo(self):
         said = self.ask(["undo", "open 1", "add 2", "undo", "add 2", "undo", "undo", "show"])
@@ -828,6 +914,23 @@ class Building(InFolder):
         self.failed(run(program=name), f"{name} does not run: No such file")
         self.failed(run(program=self.script("ends", "exit 7")), "ended with status 7")
         self.failed(run("--words", program=self.script("other", "echo hello")), "printed is no listing")
+
+    def test_lines_of_records_that_are_none(self):
+        """The boards behind a record stand in the lines of accepted steps 2, 13 and 15, and in no other."""
+        lines = LISTING.decode()
+        for line, wrong in [
+            ("3 2 0 1", "3 2 0"),
+            ("3 2 0 1", "3 2 0 1 1"),
+            ("3 2 0 1", "3 2 14 1"),
+            ("2 1 0", "2 1 0 1"),
+            ("2 1 0", "2 1"),
+            ("2 1 0", "2 13 0"),
+            ("2 1 0", "2 15 0"),
+        ]:
+            given = self.file("text", lines.replace(f"\n{line}\n", f"\n{wrong}\n").encode())
+            self.assertNotEqual(given.read_bytes(), LISTING)
+            for words in [["--words"], ["--ask", self.file("story", WORDS)]]:
+                self.failed(run(*words, program=self.script("other", f"cat '{given}'")), "printed is no listing")
 
 
 if __name__ == "__main__":

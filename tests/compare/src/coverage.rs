@@ -1,7 +1,8 @@
 //! Which answers each step can give in a run, what lines a listing can have, and how
 //! often they were met.
 
-use peer::row::{Row, EPOCH_MAX, LOG_MAX};
+use peer::behind::{behind, Behind};
+use peer::row::{Row, View, EPOCH_MAX, LOG_MAX};
 use peer::tally::{tally, Tally};
 use std::fmt;
 
@@ -9,6 +10,8 @@ use std::fmt;
 const STEPS: usize = 17;
 /// Answers 0 to 16.
 const ANSWERS: usize = 17;
+/// How often all but the pairs should be met: more often than by the edge sheets.
+const ENOUGH: u64 = 5;
 
 /// The answers that a run can meet, step by step. Besides 0 and 1 a step has the
 /// refusals in its own text and no others; 2 and 3 are of whole sheets. One pair
@@ -65,7 +68,8 @@ struct Seen<'a> {
     after: &'a Row,
     step: u8,
     b: u8,
-    answer: u8,
+    /// Its answer, and the boards behind it.
+    behind: Behind,
     /// Changes of leader, this one included.
     changes: u32,
     /// Boards that were members before.
@@ -74,7 +78,7 @@ struct Seen<'a> {
 
 impl Seen<'_> {
     fn gives(&self, step: u8, answer: u8) -> bool {
-        self.step == step && self.answer == answer
+        self.step == step && self.behind.outcome.answer == answer
     }
 
     fn lengths(&self) -> (usize, usize) {
@@ -84,16 +88,64 @@ impl Seen<'_> {
 
     /// Has another board a longer log heard than b?
     fn longer_heard(&self) -> bool {
-        let heard = &self.before.control.heard;
-        let own = heard[usize::from(self.b) - 1].length;
-        heard.iter().any(|other| other.length > own)
+        (1..=8).any(|m| self.heard(m) > self.heard(self.b))
+    }
+
+    fn count(&self, m: u8) -> usize {
+        self.before.board(self.b).counts[usize::from(m) - 1]
+    }
+
+    fn heard(&self, m: u8) -> Option<usize> {
+        self.before.control.heard[usize::from(m) - 1].length
+    }
+
+    fn rank(&self, m: u8) -> (u16, Option<usize>) {
+        let joined = self.before.control.heard[usize::from(m) - 1].joined;
+        (joined, self.heard(m))
+    }
+
+    /// The view whose members step 2, 13 or 15 asks.
+    fn asked(&self) -> &View {
+        match self.step {
+            2 => &self.before.board(self.b).view,
+            _ => &self.before.control.view,
+        }
+    }
+
+    /// Would board m stand behind step 2, 13 or 15, were it a member?
+    fn qualifies(&self, m: u8) -> bool {
+        match self.step {
+            2 => self.count(m) > self.before.receipts.len(),
+            13 => self.heard(m).is_some() && self.heard(m) >= self.heard(self.asked().leader),
+            _ => self.heard(m).is_some() && self.rank(m) <= self.rank(self.b),
+        }
+    }
+
+    /// Is there such a member among those asked?
+    fn some_member(&self, is_such: impl Fn(u8) -> bool) -> bool {
+        (1..=8).any(|m| self.asked().has(m) && is_such(m))
+    }
+
+    /// Does a board qualify that is no member?
+    fn some_other(&self) -> bool {
+        (1..=8).any(|m| !self.asked().has(m) && self.qualifies(m))
+    }
+
+    /// Is it this step, accepted with more boards behind it than the smallest majority?
+    fn has_more(&self, step: u8) -> bool {
+        self.gives(step, 0) && self.behind.is_larger()
+    }
+
+    /// Is it this step, refused 14 though some members qualify?
+    fn has_too_few(&self, step: u8) -> bool {
+        self.gives(step, 14) && self.some_member(|m| self.qualifies(m))
     }
 }
 
 type Event = (&'static str, fn(&Seen) -> bool);
 
 /// What the sheets should bring about besides the pairs.
-const EVENTS: [Event; 17] = [
+const EVENTS: [Event; 28] = [
     ("change of leader that leaves one member", |s| {
         s.gives(5, 0) && s.after.registry.leader != 0
     }),
@@ -146,7 +198,51 @@ const EVENTS: [Event; 17] = [
     ("install over a longer log heard", |s| {
         s.gives(15, 0) && s.longer_heard()
     }),
+    // Which boards stand behind (document 02, Paper 6): more than need be, and not those
+    // that are no members, counted too low, heard too low, or ranked above.
+    ("receipt with more than a majority behind it", |s| {
+        s.has_more(2)
+    }),
+    ("set normal with more than a majority behind it", |s| {
+        s.has_more(13)
+    }),
+    ("install with more than a majority behind it", |s| {
+        s.has_more(15)
+    }),
+    ("receipt with a board counted that is no member", |s| {
+        s.gives(2, 0) && s.some_other()
+    }),
+    ("receipt with a member counted just below it", |s| {
+        let given = s.before.receipts.len();
+        s.gives(2, 0) && given > 0 && s.some_member(|m| s.count(m) == given)
+    }),
+    ("set normal with a member heard below the leader", |s| {
+        s.gives(13, 0) && s.some_member(|m| s.heard(m).is_some() && !s.qualifies(m))
+    }),
+    ("install with a member ranked above", |s| {
+        s.gives(15, 0) && s.some_member(|m| s.rank(m) > s.rank(s.b))
+    }),
+    ("install with a longer log behind it", |s| {
+        s.gives(15, 0) && s.some_member(|m| s.qualifies(m) && s.heard(m) > s.heard(s.b))
+    }),
+    ("receipt refused 14 with too few behind it", |s| {
+        s.has_too_few(2)
+    }),
+    ("set normal refused 14 with too few behind it", |s| {
+        s.has_too_few(13)
+    }),
+    ("install refused 14 with too few behind it", |s| {
+        s.has_too_few(15)
+    }),
 ];
+
+/// What no run brings about: for a receipt a board may be counted that is no member, but
+/// the controller hears its members alone (its leader is one), and forgets what it heard
+/// when it takes news of others.
+const NEVER: Event = (
+    "set normal or install with a board heard that is no member",
+    |s| (s.gives(13, 0) || s.gives(15, 0)) && s.some_other(),
+);
 
 type Tallied = (&'static str, fn(&Tally) -> usize);
 
@@ -219,6 +315,7 @@ pub struct Coverage {
     /// In texts in words.
     told: Pairs,
     events: [u64; EVENTS.len()],
+    never: u64,
     tallied: [u64; TALLIED.len()],
     lines: [u64; LINES.len()],
 }
@@ -227,15 +324,15 @@ impl Coverage {
     /// Plays a sheet that has a valid opening, and notes what it meets.
     pub fn play(&mut self, sheet: &[u8]) {
         let records = sheet.as_chunks::<8>().0;
-        let Ok(mut row) = Row::open(records[0][1]) else {
+        let (Ok(mut row), Ok(behind)) = (Row::open(records[0][1]), behind(sheet)) else {
             return;
         };
         self.met[0][0] += 1;
         let (mut changes, mut past) = (0, 0);
-        for record in &records[1..] {
+        for (record, behind) in records.iter().zip(behind).skip(1) {
             let before = row.clone();
             let [step, b, ..] = *record;
-            let answer = row.step(record);
+            let answer = row.step(record).answer;
             self.met[usize::from(step).min(STEPS - 1)][usize::from(answer)] += 1;
             if (step, answer) == (5, 0) {
                 changes += 1;
@@ -246,13 +343,14 @@ impl Coverage {
                 after: &row,
                 step,
                 b,
-                answer,
+                behind,
                 changes,
                 past,
             };
             for (number, (_, came_about)) in self.events.iter_mut().zip(EVENTS) {
                 *number += u64::from(came_about(&seen));
             }
+            self.never += u64::from(NEVER.1(&seen));
         }
         if let Ok(tally) = tally(sheet) {
             for (number, (_, how_often)) in self.tallied.iter_mut().zip(TALLIED) {
@@ -288,8 +386,11 @@ impl Coverage {
     pub fn faults(&self) -> Vec<String> {
         let mut faults = pair_faults("met", &self.met, can_meet);
         faults.extend(pair_faults("told", &self.told, can_tell));
-        let absent = self.counts().filter(|&(_, number)| number == 0);
-        faults.extend(absent.map(|(name, _)| format!("not met: {name}")));
+        let rare = self.counts().filter(|&(_, number)| number < ENOUGH);
+        faults.extend(rare.map(|(name, _)| format!("not met {ENOUGH} times: {name}")));
+        if self.never > 0 {
+            faults.push(format!("met: {}", NEVER.0));
+        }
         faults
     }
 }

@@ -78,16 +78,17 @@ pub fn random(mut rng: Rng) -> (Kind, Vec<u8>) {
         20..=39 => {
             let records = some(&mut rng);
             let guide = Guide::new(rng, records).maybe_few_values();
-            (Kind::Malformed, guide.finish(Some(6)))
+            (Kind::Malformed, guide.maybe_crowd().finish(Some(6)))
         }
         40..=59 => {
             let records = some_or_most(&mut rng);
-            (Kind::Guided, guided(rng, records))
+            let guide = Guide::new(rng, records);
+            (Kind::Guided, guide.maybe_crowd().finish(None))
         }
         60..=74 => {
             let records = some_or_most(&mut rng);
             let guide = Guide::new(rng, records).few_values().more_changes();
-            (Kind::Sales, guide.finish(None))
+            (Kind::Sales, guide.maybe_crowd().finish(None))
         }
         75..=82 => {
             let records = 1000 + rng.below(RECORDS_MAX - 999);
@@ -197,7 +198,40 @@ pub fn edges() -> Vec<Vec<u8>> {
     let steps = turns(998).chain(change);
     let steps = steps.chain(full(1, 2, u32::MAX)).chain(full(2, 2, 0));
     sheets.push(iter::once(opening).chain(steps).flatten().collect());
+    sheets.push(longest_lines().concat());
     sheets
+}
+
+/// The longest lines of records: their numbers have four digits, and all members stand
+/// behind set normal, a receipt and an install (document 02, Paper 6).
+fn longest_lines() -> Vec<[u8; 8]> {
+    let steps = [
+        (3, 2..=8),
+        (6, 1..=8),
+        (10, 0..=0),
+        (11, 0..=0),
+        (12, 2..=8),
+        (13, 0..=0),
+        (1, 1..=1),
+        (8, 2..=8),
+        (9, 2..=8),
+        (2, 1..=1),
+        (5, 0..=0),
+        (10, 0..=0),
+        (6, 2..=8),
+        (14, 2..=8),
+        (15, 8..=8),
+    ];
+    let mut sheet = vec![record(0, 1, 0, 0)];
+    // Refused: there is no news.
+    sheet.resize(1000, record(10, 0, 0, 0));
+    for (step, boards) in steps {
+        sheet.extend(boards.map(|b| match step {
+            9 => record(9, 1, b, 0),
+            _ => record(step, b, 0, 0),
+        }));
+    }
+    sheet
 }
 
 /// A well-formed record of this step on boards 1 to `most`, with a value as below.
@@ -284,6 +318,8 @@ struct Guide {
     few: Vec<u32>,
     /// How often each step is tried.
     weights: [usize; 16],
+    /// Does the controller often hear more members than it needs?
+    hears_more: bool,
 }
 
 impl Guide {
@@ -303,6 +339,7 @@ impl Guide {
             most,
             few: Vec::new(),
             weights,
+            hears_more: false,
         }
     }
 
@@ -312,17 +349,20 @@ impl Guide {
 
     /// Takes a record if it is accepted; a refused one leaves the row as it was.
     fn take(&mut self, r: [u8; 8]) -> bool {
-        let accepted = !self.full() && self.row.step(&r) == 0;
+        let accepted = !self.full() && self.row.step(&r).answer == 0;
         if accepted {
             self.sheet.extend(r);
         }
         accepted
     }
 
-    /// Takes a record whatever its answer.
-    fn keep(&mut self, r: [u8; 8]) {
-        self.row.step(&r);
+    /// Takes a record whatever its answer, if there is room. Says whether it is accepted.
+    fn keep(&mut self, r: [u8; 8]) -> bool {
+        if self.full() {
+            return false;
+        }
         self.sheet.extend(r);
+        self.row.step(&r).answer == 0
     }
 
     fn well_formed(&mut self, step: u8) -> [u8; 8] {
@@ -391,9 +431,23 @@ impl Guide {
             {
                 r = self.append(b);
             }
+            // The controller does not always decide as soon as it can.
+            13 | 15 if self.hears_more && self.rng.one_in(2) => {
+                if let Some(m) = self.unheard() {
+                    r = record(step - 1, m, 0, 0);
+                }
+            }
             _ => {}
         }
         r
+    }
+
+    /// A member that the controller has not heard.
+    fn unheard(&mut self) -> Option<u8> {
+        let control = &self.row.control;
+        let from = self.rng.below(8) as u8;
+        let mut turn = (0..8).map(|i| (from + i) % 8 + 1);
+        turn.find(|&b| control.view.has(b) && control.heard[usize::from(b) - 1].length.is_none())
     }
 
     /// Fills the sheet: one record in eight is kept whatever its answer, the
@@ -451,6 +505,88 @@ impl Guide {
         self
     }
 
+    /// In some sheets five to eight boards go through changes of leader first: more than a
+    /// majority stands behind receipts, set normal and installs.
+    fn maybe_crowd(mut self) -> Guide {
+        if !self.rng.one_in(4) {
+            return self;
+        }
+        self.most = 5 + self.rng.below(4);
+        self.hears_more = true;
+        for _ in 0..1 + self.rng.below(4) {
+            // Half of the boards miss a step, or some, or hardly one.
+            let miss = self.rng.one_of(&[2, 4, 8, 1000]);
+            self.add_all();
+            self.settle(miss);
+            self.sell(miss);
+            self.choose(miss);
+        }
+        self
+    }
+
+    /// Boards follow their leader, and the controller sets normal.
+    fn settle(&mut self, miss: usize) {
+        let leader = self.row.registry.leader;
+        self.take(record(6, leader, 0, 0));
+        self.each(miss, &[6, 7, 8, 8]);
+        self.take(record(10, 0, 0, 0));
+        self.take(record(11, 0, 0, 0));
+        self.each(miss, &[12]);
+        self.keep(record(13, 0, 0, 0));
+    }
+
+    /// The leader appends, counts its members and gives receipts.
+    fn sell(&mut self, miss: usize) {
+        let leader = self.row.registry.leader;
+        for _ in 0..2 {
+            let r = self.append(leader);
+            self.take(r);
+            self.each(miss, &[6, 8]);
+            for b in self.members() {
+                self.take(record(9, leader, b, 0));
+            }
+        }
+        self.take(record(2, leader, 0, 0));
+        self.take(record(2, leader, 0, 0));
+    }
+
+    /// The leader is changed, and the controller chooses among those that it hears.
+    fn choose(&mut self, miss: usize) {
+        self.take(record(5, 0, 0, 0));
+        self.take(record(10, 0, 0, 0));
+        self.each(miss, &[6]);
+        self.each(miss, &[14]);
+        let members = self.members();
+        members.into_iter().any(|b| self.keep(record(15, b, 0, 0)));
+    }
+
+    /// Takes these steps of every member, in any order; one in `miss` misses them.
+    fn each(&mut self, miss: usize, steps: &[u8]) {
+        for b in self.members() {
+            if !self.rng.one_in(miss) {
+                for &step in steps {
+                    self.take(record(step, b, 0, 0));
+                }
+            }
+        }
+    }
+
+    /// The registry's members, in any order.
+    fn members(&mut self) -> Vec<u8> {
+        let mut boards: Vec<u8> = (1..=8).filter(|&b| self.row.registry.has(b)).collect();
+        for n in (1..boards.len()).rev() {
+            boards.swap(n, self.rng.below(n + 1));
+        }
+        boards
+    }
+
+    /// As many members as there may be.
+    fn add_all(&mut self) {
+        for b in 1..=self.most as u8 {
+            self.take(record(3, b, 0, 0));
+        }
+    }
+
     /// Some boards are added, then the leader's log nears 512.
     fn fill_log(mut self) -> Guide {
         for _ in 0..self.rng.below(120) {
@@ -481,9 +617,7 @@ impl Guide {
         }
         // Then as many members as there may be, and mostly what brings a change
         // of leader.
-        for b in 1..=self.most as u8 {
-            self.take(record(3, b, 0, 0));
-        }
+        self.add_all();
         self.weights[1..=4].fill(1);
         self
     }

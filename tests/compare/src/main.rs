@@ -21,7 +21,7 @@
 //!
 //! Exit status: 0 all agree; 1 a sheet, a line, a set or a pair differs; 2 bad
 //! usage, or a program does not run; 3 all agree, but something that a run can meet
-//! was not met (as may be with fewer than 1,000 sheets).
+//! was not met, or too rarely (as may be with fewer than 1,000 sheets).
 
 mod both;
 mod coverage;

@@ -2,6 +2,7 @@
 //! `seedsheet`, beside the second program.
 
 use crate::both::{about, differs, in_slices, whole, writes, Fault};
+use crate::sheets::answers;
 use generate::Rng;
 use peer::RECORDS_MAX;
 use std::path::Path;
@@ -161,9 +162,9 @@ pub fn well_formed(sheet: &[u8]) -> Result<(), Fault> {
     let Ok(listing) = peer::list(sheet) else {
         return differs("the second program refuses what it made");
     };
-    let mut answers = listing.lines().take(sheet.len() / 8);
-    match answers.find(|line| line.ends_with(" 1")) {
-        Some(line) => differs(format!("the second program answers 1: {line}")),
+    let malformed = answers(&listing).position(|answer| answer == 1);
+    match malformed {
+        Some(n) => differs(format!("the second program answers 1 to record {}", n + 1)),
         None => Ok(()),
     }
 }

@@ -2,6 +2,7 @@
 
 use crate::both::{about, differs, in_slices, whole, writes, Fault};
 use generate::Rng;
+use peer::listing::LENGTH_MAX;
 use std::iter;
 use std::path::Path;
 
@@ -56,16 +57,18 @@ fn run(sheet: &[u8], listing: &mut [u8]) -> usize {
 
 /// The first lines that differ where there is room for all, if both list the sheet.
 fn differing(sheet: &[u8]) -> String {
-    match (whole(60_000, |slice| run(sheet, slice)), peer::list(sheet)) {
+    let ours = whole(LENGTH_MAX, |slice| run(sheet, slice));
+    match (ours, peer::list(sheet)) {
         (Some(ours), Ok(theirs)) => lines(&ours, theirs.as_bytes()),
         _ => String::new(),
     }
 }
 
-/// The answers in a listing, record by record.
+/// The answers in a listing, record by record: the third field of their lines.
 pub fn answers(listing: &str) -> impl Iterator<Item = usize> + '_ {
-    let lines = listing.lines().map(|line| line.rsplit_once(' '));
-    lines.map_while(|line| line?.1.parse().ok())
+    let lines = listing.lines();
+    let records = lines.take_while(|line| !line.starts_with("registry"));
+    records.map_while(|line| line.split(' ').nth(2)?.parse().ok())
 }
 
 /// The first lines that differ.

@@ -257,7 +257,7 @@ fn explain(sheet: &[u8], text: &mut [u8]) -> usize {
 fn told_by_step(record: &[u8; 8]) -> Result<(), Fault> {
     let opening = matches!(record, [0, 1..=8, 0, 0, 0, 0, 0, 0]);
     let mut row = Row::open(1).expect("board 1 opens");
-    let malformed = row.step(record) == 1 && !opening;
+    let malformed = row.step(record).answer == 1 && !opening;
     let line = whole(LINE_MAX, |slice| describe(record, 0, slice)).unwrap_or_default();
     if line.starts_with(b"record ") != malformed {
         let words = line.escape_ascii();

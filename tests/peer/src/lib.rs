@@ -1,4 +1,4 @@
-//! A second program for document 01 and Papers 1 to 5 of document 02: it turns a
+//! A second program for document 01 and Papers 1 to 6 of document 02: it turns a
 //! sheet into its listing or its lines in words, or into the number of the refusal,
 //! and a seed and a count of records into a bench sheet.
 //!
@@ -6,13 +6,14 @@
 //! alone, apart from the proved program, so that a misreading in one shows in the
 //! other. Numbers in brackets are the paper's refusals.
 
+pub mod behind;
 pub mod listing;
 pub mod row;
 pub mod seed;
 pub mod tally;
 pub mod words;
 
-use row::Row;
+use row::{Outcome, Row};
 
 /// A sheet has 1 to 4,095 records of 8 bytes.
 pub const RECORDS_MAX: usize = 4095;
@@ -24,13 +25,13 @@ pub fn run(sheet: &[u8], slice: &mut [u8]) -> usize {
     let Some((records, mut row)) = opened(sheet) else {
         return 2;
     };
-    let answers = &answers(records, &mut row)[..records.len()];
+    let outcomes = &outcomes(records, &mut row)[..records.len()];
     // [3] a listing slice shorter than the listing
-    let length = listing::length(records, answers, &row);
+    let length = listing::length(records, outcomes, &row);
     if slice.len() < length {
         return 3;
     }
-    listing::write(&mut slice[..length], records, answers, &row);
+    listing::write(&mut slice[..length], records, outcomes, &row);
     length
 }
 
@@ -50,14 +51,14 @@ fn opened(sheet: &[u8]) -> Option<(&[[u8; 8]], Row)> {
     Some((records, row))
 }
 
-/// The answers of a sheet's records on the row that the first of them opened; its own
-/// is 0. What stands past the last record's answer means nothing.
-fn answers(records: &[[u8; 8]], row: &mut Row) -> [u8; RECORDS_MAX] {
-    let mut answers = [0; RECORDS_MAX];
-    for (answer, record) in answers.iter_mut().zip(records).skip(1) {
-        *answer = row.step(record);
+/// The outcomes of a sheet's records on the row that the first of them opened; it is
+/// accepted itself. What stands past the last record's outcome means nothing.
+fn outcomes(records: &[[u8; 8]], row: &mut Row) -> [Outcome; RECORDS_MAX] {
+    let mut outcomes = [Outcome::ACCEPTED; RECORDS_MAX];
+    for (outcome, record) in outcomes.iter_mut().zip(records).skip(1) {
+        *outcome = row.step(record);
     }
-    answers
+    outcomes
 }
 
 /// The listing of a sheet, or refusal 2.

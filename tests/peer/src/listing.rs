@@ -1,22 +1,27 @@
 //! The text of a listing. What lists serves twice: to count the bytes, and to
 //! write them.
 
-use crate::row::{Row, Stage, Status, View};
+use crate::row::{has, Outcome, Row, Stage, Status, View};
 
-/// No listing is longer: 4,095 lines of at most 12 bytes, two of at most 39,
-/// eight of at most 46, and the receipts' of at most 13 + 512 * 16.
-pub const LENGTH_MAX: usize = 4095 * 12 + 2 * 39 + 8 * 46 + 13 + 512 * 16;
+/// No line of a record is longer: 4 digits of the record's number, 2 of step 13 or 15, 1 of
+/// answer 0, 8 of the boards behind it, the three spaces between them, and byte 10. A line
+/// of three fields has at most 4, 3 and 2 digits, two spaces and byte 10, which is 12.
+pub const RECORD_LINE_MAX: usize = 4 + 1 + 2 + 1 + 1 + 1 + 8 + 1;
+
+/// No listing is longer: 4,095 lines of records, two of at most 39 bytes, eight of at
+/// most 46, and the receipts' of at most 13 + 512 * 16.
+pub const LENGTH_MAX: usize = 4095 * RECORD_LINE_MAX + 2 * 39 + 8 * 46 + 13 + 512 * 16;
 
 /// The length of a listing in bytes.
-pub fn length(records: &[[u8; 8]], answers: &[u8], row: &Row) -> usize {
+pub fn length(records: &[[u8; 8]], outcomes: &[Outcome], row: &Row) -> usize {
     let mut count = Count(0);
-    list(&mut count, records, answers, row);
+    list(&mut count, records, outcomes, row);
     count.0
 }
 
 /// Writes a listing from the start of a slice that is long enough.
-pub fn write(slice: &mut [u8], records: &[[u8; 8]], answers: &[u8], row: &Row) {
-    list(&mut Place { slice, end: 0 }, records, answers, row);
+pub fn write(slice: &mut [u8], records: &[[u8; 8]], outcomes: &[Outcome], row: &Row) {
+    list(&mut Place { slice, end: 0 }, records, outcomes, row);
 }
 
 /// Where a text goes: it is counted or written.
@@ -83,14 +88,20 @@ impl Out for Place<'_> {
     }
 }
 
-fn list(out: &mut impl Out, records: &[[u8; 8]], answers: &[u8], row: &Row) {
+fn list(out: &mut impl Out, records: &[[u8; 8]], outcomes: &[Outcome], row: &Row) {
     // record, step (byte 0 as it is), answer
-    for (number, (record, &answer)) in (1..).zip(records.iter().zip(answers)) {
+    for (number, (record, outcome)) in (1..).zip(records.iter().zip(outcomes)) {
+        let (step, answer) = (record[0], outcome.answer);
         out.number(number);
         out.byte(b' ');
-        out.number(record[0].into());
+        out.number(step.into());
         out.byte(b' ');
         out.number(answer.into());
+        // on acceptance of steps 2, 13 and 15 the boards behind it: document 02, Paper 6
+        if let (2 | 13 | 15, 0) = (step, answer) {
+            out.byte(b' ');
+            boards(out, outcome.behind);
+        }
         out.byte(b'\n');
     }
     out.text(b"registry ");
@@ -142,8 +153,13 @@ fn view(out: &mut impl Out, view: &View) {
         out.number(n.into());
         out.byte(b' ');
     }
-    for b in (1..=8).filter(|&b| view.has(b)) {
+    boards(out, view.members);
+    out.byte(b' ');
+}
+
+/// A set of boards as digits.
+fn boards(out: &mut impl Out, set: u8) {
+    for b in (1..=8).filter(|&b| has(set, b)) {
         out.number(b.into());
     }
-    out.byte(b' ');
 }

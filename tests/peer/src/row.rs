@@ -86,6 +86,16 @@ pub struct Row {
     pub receipts: Log,
 }
 
+/// What a step hands back.
+#[derive(Clone, Copy, PartialEq, Eq, Debug)]
+pub struct Outcome {
+    /// 0 if accepted, else the refusal.
+    pub answer: u8,
+    /// The boards that stood behind it, bits as in `View::members`: document 02, Paper 6.
+    /// Empty for a refused step, and for one that asks for no majority.
+    pub behind: u8,
+}
+
 /// A majority of n boards is n/2 rounded down, plus 1.
 pub const fn majority(n: u32) -> u32 {
     n / 2 + 1
@@ -116,6 +126,11 @@ fn at(b: u8) -> usize {
     usize::from(b) - 1
 }
 
+/// Is board b in a set, bits as in `View::members`?
+pub fn has(set: u8, b: u8) -> bool {
+    set & (1 << at(b)) != 0
+}
+
 const UNHEARD: [Heard; 8] = [Heard {
     length: None,
     joined: 0,
@@ -125,9 +140,26 @@ const UNHEARD: [Heard; 8] = [Heard {
 macro_rules! check {
     ($holds:expr, $n:literal) => {
         if !$holds {
-            return $n;
+            return Outcome::refused($n);
         }
     };
+}
+
+impl Outcome {
+    /// Accepted, and no majority was asked for.
+    pub const ACCEPTED: Outcome = Outcome {
+        answer: 0,
+        behind: 0,
+    };
+
+    fn refused(answer: u8) -> Outcome {
+        Outcome { answer, behind: 0 }
+    }
+
+    /// Accepted by a majority: `behind` is the set that the majority question gave.
+    fn carried(behind: u8) -> Outcome {
+        Outcome { answer: 0, behind }
+    }
 }
 
 impl Log {
@@ -192,17 +224,23 @@ impl Deref for Log {
 
 impl View {
     pub fn has(&self, b: u8) -> bool {
-        self.members & (1 << at(b)) != 0
+        has(self.members, b)
     }
 
     pub fn size(&self) -> u32 {
         self.members.count_ones()
     }
 
-    /// Does `holds` hold for a majority of the members?
-    fn majority_of(&self, holds: impl Fn(u8) -> bool) -> bool {
-        let number = (1..=8).filter(|&b| self.has(b) && holds(b)).count();
-        number >= usize::from(majority_size(self.members))
+    /// The majority question: the set of all members that qualify. It does not stop at
+    /// the smallest majority: document 02, Paper 6.
+    fn members_that(&self, qualify: impl Fn(u8) -> bool) -> u8 {
+        let all = (1..=8).filter(|&b| self.has(b) && qualify(b));
+        all.fold(0, |set, b| set | 1 << at(b))
+    }
+
+    /// Is a set of members a majority of them?
+    fn is_majority(&self, set: u8) -> bool {
+        set.count_ones() >= u32::from(majority_size(self.members))
     }
 }
 
@@ -244,9 +282,10 @@ impl Row {
         &mut self.boards[at(b)]
     }
 
-    /// One record after the opening: the answer, 0 if accepted. A refused step
-    /// leaves the row as it was. [1] comes before a step's own checks.
-    pub fn step(&mut self, record: &[u8; 8]) -> u8 {
+    /// One record after the opening: the answer, 0 if accepted, and which boards stood
+    /// behind it. A refused step leaves the row as it was. [1] comes before a step's own
+    /// checks.
+    pub fn step(&mut self, record: &[u8; 8]) -> Outcome {
         match *record {
             [1, b @ 1..=8, 0, 0, value @ ..] => self.append(b, u32::from_le_bytes(value)),
             [2, b @ 1..=8, 0, 0, 0, 0, 0, 0] => self.receipt(b),
@@ -264,12 +303,12 @@ impl Row {
             [14, b @ 1..=8, 0, 0, 0, 0, 0, 0] => self.hear(b),
             [15, b @ 1..=8, 0, 0, 0, 0, 0, 0] => self.install(b),
             // a field outside its values, a equal to b, step 0 in mid-sheet
-            _ => 1,
+            _ => Outcome::refused(1),
         }
     }
 
     /// Step 1: append b, value.
-    fn append(&mut self, b: u8, value: u32) -> u8 {
+    fn append(&mut self, b: u8, value: u32) -> Outcome {
         let board = self.board_mut(b);
         check!(board.view.leader == b, 8);
         check!(board.log.len() < LOG_MAX, 13);
@@ -277,33 +316,36 @@ impl Row {
         let epoch = board.view.leader_epoch;
         board.log.push(Entry { value, epoch });
         board.counts[at(b)] = board.log.len();
-        0
+        Outcome::ACCEPTED
     }
 
     /// Step 2: receipt by b.
-    fn receipt(&mut self, b: u8) -> u8 {
+    fn receipt(&mut self, b: u8) -> Outcome {
         let given = self.receipts.len();
         let board = self.board(b);
         check!(board.view.leader == b, 8);
         check!(board.log.len() > given, 12);
-        check!(board.view.majority_of(|m| board.counts[at(m)] > given), 14);
+        // Counted above the receipt: a count at the receipts' length does not have it.
+        let counted_above = |m| board.counts[at(m)] > given;
+        let behind = board.view.members_that(counted_above);
+        check!(board.view.is_majority(behind), 14);
         self.receipts.push(board.log.entry(given));
-        0
+        Outcome::carried(behind)
     }
 
     /// Step 3: add b.
-    fn add(&mut self, b: u8) -> u8 {
+    fn add(&mut self, b: u8) -> Outcome {
         check!(self.status != Status::Choosing, 4);
         check!(!self.registry.has(b), 5);
         check!(self.registry.epoch < EPOCH_MAX, 7);
         self.registry.epoch += 1;
         self.registry.members |= 1 << at(b);
         self.status = Status::Waiting;
-        0
+        Outcome::ACCEPTED
     }
 
     /// Step 4: remove b.
-    fn remove(&mut self, b: u8) -> u8 {
+    fn remove(&mut self, b: u8) -> Outcome {
         check!(self.status != Status::Choosing, 4);
         check!(self.registry.has(b), 5);
         check!(self.registry.leader != b, 6);
@@ -315,11 +357,11 @@ impl Row {
             1 => Status::Normal,
             _ => Status::Waiting,
         };
-        0
+        Outcome::ACCEPTED
     }
 
     /// Step 5: change leader.
-    fn change_leader(&mut self) -> u8 {
+    fn change_leader(&mut self) -> Outcome {
         check!(self.status == Status::Normal, 4);
         check!(self.registry.size() >= 2, 6);
         check!(self.registry.epoch < EPOCH_MAX, 7);
@@ -333,11 +375,11 @@ impl Row {
             registry.leader = 0;
             self.status = Status::Choosing;
         }
-        0
+        Outcome::ACCEPTED
     }
 
     /// Step 6: board b takes news.
-    fn board_news(&mut self, b: u8) -> u8 {
+    fn board_news(&mut self, b: u8) -> Outcome {
         let news = self.registry;
         let board = self.board_mut(b);
         check!(board.view.epoch < news.epoch, 12);
@@ -350,11 +392,11 @@ impl Row {
                 board.joined = news.leader_epoch;
             }
         }
-        0
+        Outcome::ACCEPTED
     }
 
     /// Step 7: join b.
-    fn join(&mut self, b: u8) -> u8 {
+    fn join(&mut self, b: u8) -> Outcome {
         let board = self.board(b);
         let l = board.view.leader;
         check!(l != 0 && l != b, 9);
@@ -366,7 +408,7 @@ impl Row {
         let board = self.board_mut(b);
         board.log.truncate(shared);
         board.joined = board.view.leader_epoch;
-        0
+        Outcome::ACCEPTED
     }
 
     /// Would a join of b, if it is accepted, cut at an entry that has the value of
@@ -386,7 +428,7 @@ impl Row {
     }
 
     /// Step 8: receive b.
-    fn receive(&mut self, b: u8) -> u8 {
+    fn receive(&mut self, b: u8) -> Outcome {
         let board = self.board(b);
         let l = board.view.leader;
         check!(l != 0 && l != b, 9);
@@ -397,11 +439,11 @@ impl Row {
         check!(board.log.len() < leader.log.len(), 12);
         let entry = leader.log.entry(board.log.len());
         self.board_mut(b).log.push(entry);
-        0
+        Outcome::ACCEPTED
     }
 
     /// Step 9: leader a counts b.
-    fn count(&mut self, a: u8, b: u8) -> u8 {
+    fn count(&mut self, a: u8, b: u8) -> Outcome {
         let (leader, board) = (self.board(a), self.board(b));
         check!(leader.view.leader == a, 8);
         check!(board.view.has(b), 5);
@@ -410,11 +452,11 @@ impl Row {
         let length = board.log.len();
         check!(leader.counts[at(b)] < length, 12);
         self.board_mut(a).counts[at(b)] = length;
-        0
+        Outcome::ACCEPTED
     }
 
     /// Step 10: the controller takes news.
-    fn controller_news(&mut self) -> u8 {
+    fn controller_news(&mut self) -> Outcome {
         check!(self.control.view.epoch < self.registry.epoch, 12);
         self.control = Control {
             view: self.registry,
@@ -425,11 +467,11 @@ impl Row {
             },
             heard: UNHEARD,
         };
-        0
+        Outcome::ACCEPTED
     }
 
     /// Step 11: the controller reads its leader.
-    fn read_leader(&mut self) -> u8 {
+    fn read_leader(&mut self) -> Outcome {
         check!(self.control.stage == Stage::Leader, 15);
         let l = self.control.view.leader;
         let leader = self.board(l);
@@ -439,11 +481,11 @@ impl Row {
             joined: 0,
         };
         self.control.stage = Stage::Boards;
-        0
+        Outcome::ACCEPTED
     }
 
     /// Step 12: the controller reads b.
-    fn read(&mut self, b: u8) -> u8 {
+    fn read(&mut self, b: u8) -> Outcome {
         let (control, board) = (&self.control, self.board(b));
         check!(control.stage == Stage::Boards, 15);
         check!(control.view.leader != b, 6);
@@ -452,29 +494,32 @@ impl Row {
         let length = Some(board.log.len());
         check!(control.heard[at(b)].length < length, 12);
         self.control.heard[at(b)] = Heard { length, joined: 0 };
-        0
+        Outcome::ACCEPTED
     }
 
     /// Step 13: set normal.
-    fn set_normal(&mut self) -> u8 {
+    fn set_normal(&mut self) -> Outcome {
         let (control, registry) = (&mut self.control, &mut self.registry);
         check!(control.stage == Stage::Boards, 15);
         check!(control.view.epoch == registry.epoch, 16);
-        // At stage boards the leader is heard, so a length not below its is heard too.
-        let least = control.heard[at(control.view.leader)].length;
-        let heard = |m| control.heard[at(m)].length >= least;
-        check!(control.view.majority_of(heard), 14);
+        // Where nothing is heard of the leader, any heard length is not below that; but an
+        // unheard board never qualifies, the leader included.
+        let length = |m| control.heard[at(m)].length;
+        let least = length(control.view.leader);
+        let heard_as_long = |m| length(m).is_some() && length(m) >= least;
+        let behind = control.view.members_that(heard_as_long);
+        check!(control.view.is_majority(behind), 14);
         check!(registry.epoch < EPOCH_MAX, 7);
         registry.epoch += 1;
         self.status = Status::Normal;
         control.stage = Stage::Idle;
         control.heard = UNHEARD;
         control.view.epoch = registry.epoch;
-        0
+        Outcome::carried(behind)
     }
 
     /// Step 14: the controller hears b.
-    fn hear(&mut self, b: u8) -> u8 {
+    fn hear(&mut self, b: u8) -> Outcome {
         let (control, board) = (&self.control, self.board(b));
         check!(control.stage == Stage::Choosing, 15);
         check!(control.view.has(b), 5);
@@ -483,11 +528,11 @@ impl Row {
         check!(control.heard[at(b)].length < length, 12);
         let joined = board.joined;
         self.control.heard[at(b)] = Heard { length, joined };
-        0
+        Outcome::ACCEPTED
     }
 
     /// Step 15: install b.
-    fn install(&mut self, b: u8) -> u8 {
+    fn install(&mut self, b: u8) -> Outcome {
         let (control, registry) = (&mut self.control, &mut self.registry);
         check!(control.stage == Stage::Choosing, 15);
         check!(control.view.has(b), 5);
@@ -496,7 +541,9 @@ impl Row {
         let rank = |m| (control.heard[at(m)].joined, control.heard[at(m)].length);
         let heard = |m| control.heard[at(m)].length.is_some();
         let not_above = |m| heard(m) && rank(m) <= rank(b);
-        check!(heard(b) && control.view.majority_of(not_above), 14);
+        let behind = control.view.members_that(not_above);
+        // A majority contains b only if b itself qualifies: it must be heard.
+        check!(has(behind, b) && control.view.is_majority(behind), 14);
         check!(registry.epoch < EPOCH_MAX, 7);
         registry.epoch += 1;
         registry.leader = b;
@@ -507,6 +554,6 @@ impl Row {
         control.view.leader_epoch = registry.epoch;
         control.stage = Stage::Leader;
         control.heard = UNHEARD;
-        0
+        Outcome::carried(behind)
     }
 }

@@ -28,7 +28,7 @@ pub fn tally(sheet: &[u8]) -> Result<Tally, usize> {
     for record in &records[1..] {
         // Before the join: afterwards what it cut is gone.
         let by_epoch = matches!(*record, [7, b @ 1..=8, ..] if row.join_cuts_by_epoch(b));
-        if row.step(record) != 0 {
+        if row.step(record).answer != 0 {
             continue;
         }
         // Neither an append nor a receive nor a receipt changes a leader epoch.

@@ -2,7 +2,8 @@
 //! paper asks for.
 
 use crate::listing::{Count, Out, Place};
-use crate::{answers, opened, RECORDS_MAX};
+use crate::row::Outcome;
+use crate::{opened, outcomes, RECORDS_MAX};
 
 /// No line is longer, and `board 2 receives an entry` with answer 5 is as long: 25 bytes
 /// of step, 11 of `: refused, `, 57 of reason, and byte 10. Next are `board 2 gives a
@@ -130,16 +131,16 @@ pub fn explain(sheet: &[u8], text: &mut [u8]) -> usize {
     let Some((records, mut row)) = opened(sheet) else {
         return 2;
     };
-    let answers = &answers(records, &mut row)[..records.len()];
+    let outcomes = &outcomes(records, &mut row)[..records.len()];
     let mut count = Count(0);
-    write_all(&mut count, records, answers);
+    write_all(&mut count, records, outcomes);
     let Count(length) = count;
     // [3] a slice shorter than the text
     if text.len() < length {
         return 3;
     }
     let slice = &mut text[..length];
-    write_all(&mut Place { slice, end: 0 }, records, answers);
+    write_all(&mut Place { slice, end: 0 }, records, outcomes);
     length
 }
 
@@ -155,10 +156,10 @@ pub fn explained(sheet: &[u8]) -> Result<String, usize> {
     }
 }
 
-fn write_all(out: &mut impl Out, records: &[[u8; 8]], answers: &[u8]) {
-    for (record, &answer) in records.iter().zip(answers) {
-        let line = Line::of(record, answer.into()).expect("a run's answers are on the list");
-        line.write(out);
+fn write_all(out: &mut impl Out, records: &[[u8; 8]], outcomes: &[Outcome]) {
+    for (record, outcome) in records.iter().zip(outcomes) {
+        let line = Line::of(record, outcome.answer.into());
+        line.expect("a run's answers are on the list").write(out);
     }
 }
 

@@ -1,11 +1,12 @@
-//! Majority sizes from a table: document 02, Paper 3.
+//! Majority sizes from a table: document 02, Paper 3; and for every set of members the
+//! set that the majority question answers with: Paper 6.
 //!
 //! No test fails if the table is read with board 8 as the lowest bit, and none can: an
 //! entry depends on how many boards its set has, and a set keeps that number when its
 //! bits are turned around, or put in any other order. So both tables are the same. That
 //! board 1 is the lowest bit of the members is seen where the row asks for a majority.
 
-use peer::row::{majority_size, Heard, Row, Stage, MAJORITY_SIZES};
+use peer::row::{majority_size, Heard, Outcome, Row, Stage, MAJORITY_SIZES};
 
 /// What the lowest bit, of board 1, to the highest, of board 8, add to a set.
 const BITS: [u8; 8] = [1, 2, 4, 8, 16, 32, 64, 128];
@@ -86,12 +87,12 @@ fn entries_by_hand() {
     }
 }
 
-/// The answer of a record at a stage, where b leads, these are the members in its view and
+/// The outcome of a record at a stage, where b leads, these are the members in its view and
 /// the controller's, and b's log has one entry, which just the boards of `behind`, b among
 /// them, are counted and heard to have.
-fn answer(members: u8, behind: u8, b: u8, stage: Stage, record: [u8; 8]) -> u8 {
+fn outcome(members: u8, behind: u8, b: u8, stage: Stage, record: [u8; 8]) -> Outcome {
     let mut row = Row::open(b).unwrap();
-    assert_eq!(row.step(&[1, b, 0, 0, 41, 0, 0, 0]), 0);
+    assert_eq!(row.step(&[1, b, 0, 0, 41, 0, 0, 0]).answer, 0);
     let board = &mut row.boards[usize::from(b) - 1];
     board.view.members = members;
     row.control.view.members = members;
@@ -106,13 +107,14 @@ fn answer(members: u8, behind: u8, b: u8, stage: Stage, record: [u8; 8]) -> u8 {
 
 /// The steps that ask for a majority, for every set of members and every set of boards
 /// that qualify, members or not. No answer changes: it is 14 unless more than half of the
-/// members qualify, so with no members always.
+/// members qualify, so with no members always. All members that qualify are behind an
+/// accepted one, and no board is behind a refused one.
 #[test]
-fn no_answer_changes() {
+fn no_answer_changes_and_all_members_that_qualify_are_behind_it() {
     for members in 0..=255 {
         for behind in 1..=255 {
             let b = (1..=8).find(|&b| has(behind, b)).unwrap();
-            let ask = |stage, record| answer(members, behind, b, stage, record);
+            let ask = |stage, record| outcome(members, behind, b, stage, record);
             let receipt = ask(Stage::Idle, [2, b, 0, 0, 0, 0, 0, 0]);
             let normal = ask(Stage::Boards, [13, 0, 0, 0, 0, 0, 0, 0]);
             let install = ask(Stage::Choosing, [15, b, 0, 0, 0, 0, 0, 0]);
@@ -120,7 +122,11 @@ fn no_answer_changes() {
             let more_than_half = 2 * boards(members & behind) > boards(members);
             let n = if more_than_half { 0 } else { 14 };
             // Only a member is installed [5].
-            let expected = [n, n, if has(members, b) { n } else { 5 }];
+            let answers = [n, n, if has(members, b) { n } else { 5 }];
+            let expected = answers.map(|answer| Outcome {
+                answer,
+                behind: if answer == 0 { members & behind } else { 0 },
+            });
             let sets = format!("members {members:08b}, behind {behind:08b}");
             assert_eq!([receipt, normal, install], expected, "{sets}");
         }

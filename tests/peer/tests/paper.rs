@@ -1,5 +1,6 @@
 //! The trials and refusals of document 01, and of document 02 the marks of Paper 1
-//! and the entries of Paper 4. All that is expected is worked out from the papers by
+//! and the entries of Paper 4. Lines of accepted receipts, set normal and install have
+//! the fourth field of Paper 6. All that is expected is worked out from the papers by
 //! hand.
 
 use peer::row::{majority, Entry, Row, Status, View};
@@ -70,7 +71,7 @@ impl Trial {
     fn gives<const N: usize>(&mut self, answers: [([u8; 8], u8); N]) -> &mut Trial {
         for (record, answer) in answers {
             let before = self.0.clone();
-            assert_eq!(self.0.step(&record), answer, "{record:?}");
+            assert_eq!(self.0.step(&record).answer, answer, "{record:?}");
             assert!(answer == 0 || self.0 == before, "{record:?}");
         }
         self
@@ -130,7 +131,7 @@ fn mark(listing: &str, b: u8) -> &str {
 const SAMPLE: &str = "\
 1 0 0
 2 1 0
-3 2 0
+3 2 0 1
 4 3 0
 registry 2 1 1 12 waiting
 control 1 1 1 1 idle
@@ -387,18 +388,19 @@ fn refusal_2() {
 
 #[test]
 fn refusal_3_and_what_the_slice_keeps() {
-    // 285 bytes before Paper 4, which puts @1 after 41.
-    assert_eq!(SAMPLE.len(), 287);
+    // 285 bytes before Paper 4, which puts @1 after 41, and Paper 6, which puts a space
+    // and board 1 after the receipt's answer.
+    assert_eq!(SAMPLE.len(), 289);
     assert_eq!(run(&sample(), &mut []), 3);
-    let mut short = [170; 286];
+    let mut short = [170; 288];
     assert_eq!(run(&sample(), &mut short), 3);
-    assert_eq!(short, [170; 286]);
+    assert_eq!(short, [170; 288]);
     let mut long = [170; 300];
-    assert_eq!(run(&sample(), &mut long), 287);
-    assert_eq!(&long[..287], SAMPLE.as_bytes());
-    assert_eq!(long[287..], [170; 13]);
+    assert_eq!(run(&sample(), &mut long), 289);
+    assert_eq!(&long[..289], SAMPLE.as_bytes());
+    assert_eq!(long[289..], [170; 11]);
     assert_eq!(run(&open(9), &mut long), 2);
-    assert_eq!(&long[..287], SAMPLE.as_bytes());
+    assert_eq!(&long[..289], SAMPLE.as_bytes());
 }
 
 #[test]
@@ -569,7 +571,7 @@ fn the_listing_of_a_replaced_leader() {
 4 10 0
 5 11 0
 6 12 0
-7 13 0
+7 13 0 12
 8 1 0
 9 5 0
 10 6 0
@@ -655,7 +657,7 @@ fn the_listing_of_the_same_value_twice() {
 7 11 0
 8 12 0
 9 12 0
-10 13 0
+10 13 0 123
 11 6 0
 12 6 0
 13 6 0
@@ -671,18 +673,18 @@ fn the_listing_of_the_same_value_twice() {
 23 10 0
 24 14 0
 25 14 0
-26 15 0
+26 15 0 23
 27 6 0
 28 1 0
 29 6 0
 30 9 11
 31 7 0
 32 9 0
-33 2 0
+33 2 0 24
 34 2 14
 35 8 0
 36 9 0
-37 2 0
+37 2 0 24
 registry 7 7 2 234 waiting
 control 7 7 2 234 leader
 board 1 5 1 1 1234 1 2 late
@@ -822,7 +824,16 @@ fn the_listing_of_entries_from_leader_to_leader() {
     ];
     let mut listing = String::new();
     for (number, step) in (1..).zip(steps) {
-        listing += &format!("{number} {step} 0\n");
+        let behind = match number {
+            // 1, 2 and 3 are read, 4 is not.
+            10 => " 123",
+            // 2 and 3 are heard, and then read, 4 is not.
+            23 | 32 => " 23",
+            // 3 and 4, the only members, are heard; 3 has counted 4 with three entries.
+            39 | 48..=50 => " 34",
+            _ => "",
+        };
+        listing += &format!("{number} {step} 0{behind}\n");
     }
     listing += "\
 registry 10 10 3 34 waiting
@@ -923,19 +934,19 @@ fn the_listing_of_a_replaced_leader_that_goes_on() {
 4 10 0
 5 11 0
 6 12 0
-7 13 0
+7 13 0 12
 8 6 0
 9 5 0
 10 1 0
 11 8 0
 12 9 0
-13 2 0
+13 2 0 12
 14 1 0
 15 6 0
 16 1 0
 17 1 0
 18 2 14
-19 2 0
+19 2 0 2
 20 2 12
 21 3 0
 22 6 0
@@ -1017,7 +1028,7 @@ fn the_listing_of_a_receipt_for_an_older_entry() {
 4 10 0
 5 11 0
 6 12 0
-7 13 0
+7 13 0 12
 8 6 0
 9 1 0
 10 8 0
@@ -1026,8 +1037,8 @@ fn the_listing_of_a_receipt_for_an_older_entry() {
 13 2 8
 14 6 0
 15 1 0
-16 2 0
-17 2 0
+16 2 0 2
+17 2 0 2
 registry 4 4 2 2 normal
 control 3 1 1 12 idle
 board 1 2 1 1 12 1 2 late
@@ -1090,7 +1101,7 @@ fn the_shortest_and_the_longest_receipts() {
     let line = format!("receipts 512{}", " 4294967295@4000".repeat(512));
     assert_eq!(line.len(), 12 + 512 * 16);
     trial.ends_in(&line);
-    assert!(4095 * 12 + trial.listing().len() <= listing::LENGTH_MAX);
+    assert!(4095 * 19 + trial.listing().len() <= listing::LENGTH_MAX);
 }
 
 #[test]
