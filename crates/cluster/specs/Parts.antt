@@ -31,8 +31,8 @@ pub record Tells (Known : RowState → Type 0) (st : Step) (c : Controller) (x :
 abbrev pub bothIn : Registry → Controller → RowState → RowState
 bothIn r c s = withController (withRegistry s (registryOf r)) (controllerOf c)
 
--- The registry r and the controller c, and what the step st of any state that has them answers and leaves, and who is
--- behind it.
+-- The registry r and the controller c, and what the step st of any state that has them answers, who is behind it, and
+-- what it leaves.
 pub record Settles (st : Step) (r : Registry) (c : Controller) (x : Settled) : Type 0 where
   pub answer : (s : RowState) → x .answer ≡ answerOf (outline (bothIn r c s)) st
   pub behind : (s : RowState) → bits (x .behind) ≡ behind (outline (bothIn r c s)) st

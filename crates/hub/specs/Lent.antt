@@ -1,5 +1,5 @@
--- What a call over the lent controller promises: its answer and the record that it leaves, accepted or refused. Cited
--- by the contracts of hub. Assumes nothing.
+-- What a call over the lent controller promises: its answer, who is behind it and the record that it leaves, accepted
+-- or refused. Cited by the contracts of hub. Assumes nothing.
 use mathlib.Core.Bool.{Bool, true, not, cond, _&&_, _||_}
 use mathlib.Core.List.{List, [], _∷_}
 use mathlib.Core.Logic.{_≢_}
@@ -57,7 +57,7 @@ pub record Lends (fits : Bool) (Known : RowState → Type 0) (st : Step) (c : Co
   -- Refusal 1 first, then the model's answer.
   pub answer : (s : RowState) → (fits ≡ true → Known s) → r .answer
       ≡ cond fits (answerOf (outline (withController s (controllerOf c))) st) 1
-  -- The set behind it.
+  -- The set behind it: no one, as none of the four steps asks a majority.
   pub behind : (s : RowState) → (fits ≡ true → Known s) → bits (r .behind)
       ≡ cond fits (behind (outline (withController s (controllerOf c))) st) none
   -- The state with c′ put back is the model's step of the state with c.
@@ -84,17 +84,14 @@ Hears c x = Lends (reportFits c x) (Reported x) (hear (x .board)) c
 abbrev pub TypedReply : Reply → Type 0
 TypedReply r = r .behind < 256
 
--- Such a promise fixes the reply and the record that a call leaves: what it is told is so in some state.
+-- The promise P of a reply and of the record that a call leaves fixes both.
+abbrev pub Fixes : (Reply → Controller → Type 0) → Type 0
+Fixes P = (r q : Reply) (c′ d : Controller) → TypedReply r → TypedReply q → TypedController c′ → TypedController d
+    → P r c′ → P q d → (r ≡ q) × (c′ ≡ d)
+
+-- The promises of the four steps do: what a call is told is so in some state.
 pub record LentFixed : Type 0 where
-  pub news : (c : Controller) (g : Registry) (r q : Reply) (c′ d : Controller) → TypedReply r → TypedReply q
-      → TypedController c′ → TypedController d
-      → TakesNews c g r c′ → TakesNews c g q d → (r ≡ q) × (c′ ≡ d)
-  pub readLeader : (c : Controller) (x : Report) (r q : Reply) (c′ d : Controller) → TypedReply r → TypedReply q
-      → TypedController c′ → TypedController d
-      → ReadsLeader c x r c′ → ReadsLeader c x q d → (r ≡ q) × (c′ ≡ d)
-  pub read : (c : Controller) (x : Report) (r q : Reply) (c′ d : Controller) → TypedReply r → TypedReply q
-      → TypedController c′ → TypedController d
-      → Reads c x r c′ → Reads c x q d → (r ≡ q) × (c′ ≡ d)
-  pub hear : (c : Controller) (x : Report) (r q : Reply) (c′ d : Controller) → TypedReply r → TypedReply q
-      → TypedController c′ → TypedController d
-      → Hears c x r c′ → Hears c x q d → (r ≡ q) × (c′ ≡ d)
+  pub news : (c : Controller) (g : Registry) → Fixes (TakesNews c g)
+  pub readLeader : (c : Controller) (x : Report) → Fixes (ReadsLeader c x)
+  pub read : (c : Controller) (x : Report) → Fixes (Reads c x)
+  pub hear : (c : Controller) (x : Report) → Fixes (Hears c x)

@@ -167,6 +167,10 @@ pub lines-most : (s : Text) (ns ms : List ℕ) → ((i : ℕ) → getD s i 0 < 2
 unfolding lines
 lines-most s ns ms hs n hn h =
     let l = records-length n s in
-    omega (arith, l, each-most 1 (records n s) (take n ns) (map bits (take n ms)) (records-small n s hs .0)
-    (λ i g. subst (λ a. a < 100) (sym (getD-take n ns i 0 (omega (arith, g, l)))) (hn i (omega (arith, g, l))))
-    (omega (arith, l, h)))
+    omega (
+      arith,
+      l,
+      each-most 1 (records n s) (take n ns) (map bits (take n ms)) (records-small n s hs .0)
+          (λ i g. subst (λ a. a < 100) (sym (getD-take n ns i 0 (omega (arith, g, l)))) (hn i (omega (arith, g, l))))
+          (omega (arith, l, h)),
+    )

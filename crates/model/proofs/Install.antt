@@ -8,12 +8,12 @@ use native.Mathlib.Omega.{arith}
 use lib.Dec.{T, leb, ltb, eqb, eqb→eq, leb→le, nltb→le}
 use lib.ListN.{length}
 use Rattle.model.specs.Prelude.{_⊑_}
-use Rattle.model.specs.Members.{Members, _∩_, size, hasQuorum}
+use Rattle.model.specs.Members.{Members, _∩_, size}
 use Rattle.model.specs.State.{outline, Entries, View, waiting, leader, Registry, Controller, State, isChoosing, stageNumber}
 use Rattle.model.specs.Steps.{install, checks, next, above, rankedNotAbove}
 use Rattle.model.proofs.Tests.{Holds, split-and, join-and, by-test, by-cond, not-left, not-right, not-both, eq-test}
 use Rattle.model.proofs.Prefix.{begins-trans, begins-compare}
-use Rattle.model.proofs.Quorum.{meet-sub, quorum-half, size-with}
+use Rattle.model.proofs.Quorum.{meet-sub, hasQuorum, quorum-half, size-with}
 use Rattle.model.proofs.Invariant.{reading, Firm, vacant, steady, reads, electors, read, Ok, Blocked, stuck, Outvoted, SafeIn, Inv}
 use Rattle.model.proofs.Static as Static
 use Rattle.model.proofs.Static.{o, _⇒_, chooses, Holder, witness, Later}

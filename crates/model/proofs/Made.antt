@@ -175,22 +175,52 @@ record-brings : (r : Record) → r .value < 2 ^ 32 → brings (stepOf r)
 unfolding brings
 record-brings r h = found (rules r) (r .step) (
   tt,
-  (unused-brings (r .other ∷ r .spare ∷ []) (append (r .board) (r .value)) h,
-  (one (commit (r .board)) tt,
-  (one (add (r .board)) tt,
-  (one (remove (r .board)) tt,
-  (bare changeLeader tt,
-  (one (refresh (r .board)) tt,
-  (one (join (r .board)) tt,
-  (one (receive (r .board)) tt,
-  (unused-brings (r .spare ∷ r .value ∷ []) (acknowledge (r .board) (r .other)) tt,
-  (bare refreshController tt,
-  (bare readLeader tt,
-  (one (read (r .board)) tt,
-  (bare setNormal tt,
-  (one (hear (r .board)) tt,
-  (one (install (r .board)) tt,
-  tt))))))))))))))),
+  (
+    unused-brings (r .other ∷ r .spare ∷ []) (append (r .board) (r .value)) h,
+    (
+      one (commit (r .board)) tt,
+      (
+        one (add (r .board)) tt,
+        (
+          one (remove (r .board)) tt,
+          (
+            bare changeLeader tt,
+            (
+              one (refresh (r .board)) tt,
+              (
+                one (join (r .board)) tt,
+                (
+                  one (receive (r .board)) tt,
+                  (
+                    unused-brings (r .spare ∷ r .value ∷ []) (acknowledge (r .board) (r .other)) tt,
+                    (
+                      bare refreshController tt,
+                      (
+                        bare readLeader tt,
+                        (
+                          one (read (r .board)) tt,
+                          (
+                            bare setNormal tt,
+                            (
+                              one (hear (r .board)) tt,
+                              (
+                                one (install (r .board)) tt,
+                                tt,
+                              ),
+                            ),
+                          ),
+                        ),
+                      ),
+                    ),
+                  ),
+                ),
+              ),
+            ),
+          ),
+        ),
+      ),
+    ),
+  ),
 )
   where
     one : (st : Step) → brings st → brings (unused (r .other ∷ r .spare ∷ r .value ∷ []) st)

@@ -6,7 +6,7 @@ use Prim.Native.Nat.{ℕ, zero, suc, _+_, _*_, _≤_, _<_}
 use native.Mathlib.Omega.{arith}
 use lib.Dec.{T, leb, leb→le}
 use Rattle.model.specs.Prelude.{upd}
-use Rattle.model.specs.Members.{Members, isReplica, _∩_, bit, size, quorum, hasQuorum, lowest}
+use Rattle.model.specs.Members.{Members, isReplica, _∩_, bit, size, quorum, isQuorum, lowest}
 use Rattle.model.proofs.Tests.{split-and, join-and, by-cond, upd-other, eq-or-ne}
 
 pub replica-range : (b : ℕ) → T (isReplica b) → (1 ≤ b) × (b ≤ 8)
@@ -134,6 +134,10 @@ module _ (m x y : Members) where
   overlap h =
       at 1 tt λ h1. at 2 tt λ h2. at 3 tt λ h3. at 4 tt λ h4. at 5 tt λ h5. at 6 tt λ h6. at 7 tt λ h7. at 8 tt λ h8.
       absurd (omega arith)
+
+-- Those of m that are in q are a majority of m.
+abbrev pub hasQuorum : Members → Members → Bool
+hasQuorum m q = isQuorum m (m ∩ q)
 
 -- A quorum is more than half.
 pub quorum-half : (m q : Members) → T (hasQuorum m q) → size m < 2 * size (m ∩ q)

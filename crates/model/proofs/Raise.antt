@@ -9,12 +9,12 @@ use native.Mathlib.Omega.{arith}
 use lib.Dec.{T, leb, eqb, eqb→eq, leb→le, T-not}
 use lib.ListN.{length}
 use Rattle.model.specs.Prelude.{upd, _⊑_}
-use Rattle.model.specs.Members.{Members, isReplica, _∩_, size, hasQuorum}
+use Rattle.model.specs.Members.{Members, isReplica, _∩_, size}
 use Rattle.model.specs.State.{outline, Entries, View, Status, waiting, Registry, State, isNormal, isChoosing, stageNumber}
 use Rattle.model.specs.Steps as Steps
 use Rattle.model.specs.Steps.{add, remove, setNormal, checks, next, withRegistry, heardEnough}
 use Rattle.model.proofs.Tests.{Holds, split-and, join-and, by-cond, ne-fact, upd-other, upd-idle, is-true}
-use Rattle.model.proofs.Quorum.{meet-sub, quorum-half, replica-ne}
+use Rattle.model.proofs.Quorum.{meet-sub, hasQuorum, quorum-half, replica-ne}
 use Rattle.model.proofs.Invariant as Invariant
 use Rattle.model.proofs.Invariant.{ViewOk, ControllerOk, reading, Firm, vacant, steady, reads, electors, LogsOk, HeardOk, holding, Backed, held, Ok, Stale, Blocked, passed, stuck, Outvoted, SafeIn, Inv}
 use Rattle.model.proofs.Static as Static

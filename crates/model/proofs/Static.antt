@@ -8,11 +8,11 @@ use native.Mathlib.Omega.{arith}
 use lib.Dec.{T, leb, eqb, eqb→eq, leb→le, le→leb, T-not}
 use lib.ListN.{length, take}
 use Rattle.model.specs.Prelude.{_⊑_}
-use Rattle.model.specs.Members.{Members, isReplica, _∩_, size, hasQuorum}
+use Rattle.model.specs.Members.{Members, isReplica, _∩_, size}
 use Rattle.model.specs.State.{View, Status, Stage, idle, leader, boards, Registry, Controller, State, isChoosing, stageNumber}
 use Rattle.model.proofs.Tests.{split-and, join-and, by-test, by-cond, eq-test, le-or-lt, is-true, is-false}
 use Rattle.model.proofs.Prefix.{begins-nil, begins-trans, begins-take, begins-length, begins-compare, take-grown}
-use Rattle.model.proofs.Quorum.{overlap, meet-sub, quorum-half, size-with}
+use Rattle.model.proofs.Quorum.{overlap, meet-sub, hasQuorum, quorum-half, size-with}
 use Rattle.model.proofs.Invariant.{fits, reading, Firm, electors, holding, Backed, held, read, Ok, Blocked, passed, stuck, Outvoted, SafeIn, Inv}
 
 pub chooses : (g : Status) (x : Stage) → stageNumber x ≡ 3 → T (fits g x) → T (isChoosing g)

@@ -6,9 +6,10 @@ use mathlib.Core.Path.{_≡_}
 use Prim.Native.Nat.{ℕ, _≤_, _<_}
 use lib.Dec.{T}
 use Rattle.model.specs.Prelude.{asks}
-use Rattle.model.specs.Members.{Members, isReplica, none, size, quorum, hasQuorum}
+use Rattle.model.specs.Members.{Members, isReplica, none, _∩_, size, quorum, isQuorum}
 use Rattle.model.specs.State.{Controller, Outline}
 use Rattle.model.specs.Steps.{Step, commit, setNormal, install, checks, answerOf, behind}
+use Rattle.model.specs.Records.{Record, stepOf}
 
 -- q is a majority of m: a set of its members, of at least as many as "a majority of n boards" is. (That one of just as
 -- many exists is the same.)
@@ -70,11 +71,13 @@ module _ (m : Outline) where
         × T (behind m (install b) b)
     -- A refused step has no one behind it.
     pub refused : (st : Step) → answerOf m st ≢ 0 → behind m st ≡ none
+    -- Nor has a record of another number than 2, 13 and 15.
+    pub others : (r : Record) → r .step ≢ 2 → r .step ≢ 13 → r .step ≢ 15 → behind m (stepOf r) ≡ none
 
 pub record Majorities : Type 0 where
-  -- So many members qualify as a majority is just where some majority of the members qualifies.
-  pub counted : (m q : Members) → T (hasQuorum m q) ↔ SomeMajority m (λ x. T (q x))
+  -- The members that qualify are a majority just where some majority of the members qualifies.
+  pub counted : (m q : Members) → T (isQuorum m (m ∩ q)) ↔ SomeMajority m (λ x. T (q x))
   -- The checks with refusal 14 are the questions of document 01.
   pub questions : (m : Outline) → Questions m
-  -- Those that qualify are behind the step where it is accepted, no one where it is refused.
+  -- Those that qualify are behind an accepted step that asks for them; no one is behind any other step.
   pub sets : (m : Outline) → Sets m

@@ -35,13 +35,9 @@ size m = bit (m 1) + bit (m 2) + bit (m 3) + bit (m 4) + bit (m 5) + bit (m 6) +
 abbrev pub quorum : ℕ → ℕ
 quorum n = n / 2 + 1
 
--- q, a set of members of m, has as many as a majority of m.
+-- q, which are members of m, are a majority: at least as many as one of m has.
 abbrev pub isQuorum : Members → Members → Bool
 isQuorum m q = leb (quorum (size m)) (size q)
-
--- Some majority of the members m lies in q: as many of them do. (That these are the same: Majority.)
-abbrev pub hasQuorum : Members → Members → Bool
-hasQuorum m q = isQuorum m (m ∩ q)
 
 -- The lowest replica of a set, 0 for the empty set.
 abbrev pub lowest : Members → ℕ

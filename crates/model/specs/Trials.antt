@@ -165,7 +165,7 @@ follower = running 1
     ∷ of 3 2 ∷ of 6 2 ∷ of 8 2 ∷ of 7 2 ∷ of 6 1 ∷ of 8 2
     -- 1 appends, 2 receives; the row is set normal; 2 succeeds 1
     ∷ ofValue 1 1 41 ∷ of 8 2 ∷ bare 10 ∷ bare 11 ∷ of 12 2 ∷ bare 13 ∷ bare 5
-    -- add 1; news for 1: its leader is behind, 10; news for 2: not joined yet, 11; joins; joined already, 11;
+    -- add 1; news for 1: its leader has not taken it, 10; news for 2: not joined yet, 11; joins; joined already, 11;
     -- nothing to receive, 12
     ∷ of 3 1 ∷ of 6 1 ∷ of 7 1 ∷ of 8 1 ∷ of 6 2 ∷ of 8 1 ∷ of 7 1 ∷ of 7 1 ∷ of 8 1 ∷ [])
     (9 ∷ 9 ∷ 5 ∷ 5

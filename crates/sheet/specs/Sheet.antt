@@ -71,8 +71,9 @@ unfoldable pub SampleHolds : Type 0
 SampleHolds = (isSheet sampleSheet ≡ true) × (listing sampleSheet ≡ sampleListing) × (length sampleListing ≡ 289)
 
 -- Document 02, Paper 6: a receipt, set normal and installing, each with more members behind it than a majority needs.
--- Board 6 is counted for the receipt, and is a member in the registry but not in board 1's view; board 5 is heard below
--- the leader, board 3 above it and, for installing, ranked above board 2. One of each step is refused, with no field.
+-- Board 1 has counted board 6 too, which is a member in the registry but not in board 1's view, and so is not in the
+-- set; board 5 is heard below the leader, board 3 above it and, for installing, ranked above board 2. One of each of the
+-- three is refused, with no field.
 unfoldable pub setsSheet : Text
 unfolding sheetBytes
 setsSheet = sheetBytes
@@ -96,7 +97,7 @@ setsListing =
     ++ word "board 7 1 1 1 1 1 0 late\nboard 8 1 1 1 1 1 0 late\nreceipts 1 41@1\n"
 
 unfoldable pub SetsHold : Type 0
-SetsHold = listing setsSheet ≡ setsListing
+SetsHold = (isSheet setsSheet ≡ true) × (listing setsSheet ≡ setsListing)
 
 -- A slice of n bytes.
 abbrev pub slice : ℕ → Text
@@ -125,8 +126,8 @@ RefusedHolds = (rest out : Text)
     → Refused (openingBytes 0 ++ rest) out × Refused (openingBytes 9 ++ rest) out
     × Refused [] out × Refused (0 ∷ 1 ∷ 0 ∷ 0 ∷ []) out
 
--- No listing is so short that its length could be taken for a refusal, and none of n records has more than
--- 19 n + 8,650 bytes.
+-- No listing is so short that its length could be taken for a refusal. That of n records, of a sheet of bytes that
+-- refusal 2 lets through, has at most 19 n + 8,650 bytes.
 unfoldable pub LengthsTell : Type 0
 unfolding listing
 LengthsTell = (s : Text) → (4 ≤ length (listing s))

@@ -10,8 +10,8 @@ ghost use Rattle.sheet.specs.Sheet.{answersOf, SampleHolds, SetsHold, Ro
 
 mod running;
 
-// The papers' sample sheet has the papers' listing, byte for byte, and a sheet with large sets its own; short slices and
-// bad openings are refused; a listing of n records has 4 to 19 n + 8,650 bytes. By the definitions: nothing to run.
+// The papers' sample sheet has the papers' listing, byte for byte, and a sheet with large sets its own; short slices
+// and bad openings are refused; a listing of n records has 4 to 19 n + 8,650 bytes. By the definitions: nothing to run.
 pub fn sample()
     ensures { λ r. ⌜ SampleHolds × SetsHold × RoomHolds × RefusedHolds × LengthsTell × TrialsHold ⌝ }
 {}

@@ -103,9 +103,9 @@ pub fn set_normal(r: Registry, c: Controller) -> Settled
     let g = c.stage;
     let heard = c.heard;
     let low = heard_at(heard, v.leader);
-    let q = heard_enough(heard, low);
-    let s = members::both(v.members, q);
-    let n = may_set_normal(r, v, g, s);
+    let p = heard_enough(heard, low);
+    let enough = members::both(v.members, p);
+    let n = may_set_normal(r, v, g, enough);
     if n != 0 {
         return Settled {
             answer: n,
@@ -129,7 +129,7 @@ pub fn set_normal(r: Registry, c: Controller) -> Settled
     };
     Settled {
         answer: 0,
-        behind: s,
+        behind: enough,
         registry: Registry {
             view: ruled,
             status: Status::Normal,
@@ -170,9 +170,9 @@ pub fn install(r: Registry, c: Controller, b: u8) -> Settled
     let k = seat(b);
     let i = (k - 1) as usize;
     let l = heard[i];
-    let q = ranked_not_above(heard, joined, l, joined[i]);
-    let t = members::both(v.members, q);
-    let n = may_install(r, v, g, l, t, k, b);
+    let p = ranked_not_above(heard, joined, l, joined[i]);
+    let fit = members::both(v.members, p);
+    let n = may_install(r, v, g, l, fit, k, b);
     if n != 0 {
         return Settled {
             answer: n,
@@ -196,7 +196,7 @@ pub fn install(r: Registry, c: Controller, b: u8) -> Settled
     };
     Settled {
         answer: 0,
-        behind: t,
+        behind: fit,
         registry: Registry {
             view: ruled,
             status: Status::Waiting,

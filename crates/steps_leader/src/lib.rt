@@ -140,7 +140,8 @@ pub fn commit(
     let k = seat(b);
     let v = view(views, k);
     let n = lookup(len, k);
-    let s = members::both(v.members, counted(acked, k, issued));
+    let p = counted(acked, k, issued);
+    let s = members::both(v.members, p);
     let r = may_commit(v, n, issued, s, b);
     if r != 0 {
         return Given {

@@ -391,6 +391,10 @@ fn set_normal_has_the_members_heard_as_long_as_the_leader() {
     // A leader that is no member is not in the set.
     let row = reading("346", [one, two, three, four, five, six, None, None]);
     carried(row, SET_NORMAL, "346");
+    // The leader asked is the controller's, 2, heard at 4; the registry's is still 1.
+    let mut row = reading("1235", [one, two, three, four, five, six, None, None]);
+    row.control.view.leader = 2;
+    carried(row, SET_NORMAL, "123");
     let row = reading("", [one; 8]);
     refused(row, SET_NORMAL, 14);
 }

@@ -17,7 +17,7 @@ unfolding SampleHolds SetsHold setsSheet sheetBytes RoomHolds result left over l
     registryLine controlLine boardLine boardLines receiptsLine receiptsText receiptText ending viewText membersText
     fourthField digits digitsWithin run answers setsBehind given
 returns c =
-    ((refl, refl, refl), refl, (refl, refl, refl, refl, refl, refl), refused-holds, lengths-tell, trials-hold)
+    ((refl, refl, refl), (refl, refl), (refl, refl, refl, refl, refl, refl), refused-holds, lengths-tell, trials-hold)
 
 pub sample-spec : {M : Type 1} → statement M
 sample-spec = tie.close (tie.spec returns)

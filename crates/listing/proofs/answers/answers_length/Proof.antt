@@ -67,9 +67,10 @@ returns : tie.Need-returns Inv-loop μ-loop
 returns c =
     let l = c .before .loop in
     let a = c .before .before .before .before .before .args in
-    let e : l .i ≡ length (now (a .sheet)) / 8 = omega arith in
-    (l .inv .2 ∙ ap (λ n. length (lines (now (a .sheet)) (now (a .answers)) (now (a .sets)) n)) e
-    , omega (arith, l .inv .1, e))
+    let e : l .i ≡ length (now (a .sheet)) / 8 = omega arith in (
+      l .inv .2 ∙ ap (λ n. length (lines (now (a .sheet)) (now (a .answers)) (now (a .sets)) n)) e,
+      omega (arith, l .inv .1, e),
+    )
 
 pub answers-length-spec : {M : Type 1} → statement M
 answers-length-spec =

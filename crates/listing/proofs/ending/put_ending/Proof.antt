@@ -30,10 +30,13 @@ most k =
     let e = k .before .before in
     let n = e .args .row .issued in
     let few = to-ranges (outlineOf (e .args .row)) (of-true (e .pre .0)) .committed in
-    omega (arith, ending-most (outlineOf (e .args .row)) (take n (all e)) (e .pre .0)
-    (omega (arith, few, length-take n (all e)))
-    (words-taken (now (e .args .list)) (now (e .args .list2)) n (λ i. omega (arith, k .shared-slice-known .given i)))
-    (e .pre .1))
+    omega (
+      arith,
+      ending-most (outlineOf (e .args .row)) (take n (all e)) (e .pre .0)
+          (omega (arith, few, length-take n (all e)))
+          (words-taken (now (e .args .list)) (now (e .args .list2)) n (λ i. omega (arith, k .shared-slice-known .given i)))
+          (e .pre .1),
+    )
 
 -- What is still to be written after the call j.
 abbrev text3 : tie.Start → Text
