@@ -16,11 +16,11 @@
  * pointer that the convention gives a function (the red zone): a handler that
  * runs on the same stack must leave them alone.
  *
- * Stack. On every sheet that was tried a call of run_sheet took at most 42,352
+ * Stack. On every sheet that was tried a call of run_sheet took at most 46,416
  * bytes, with memcpy and memset bound beforehand (link with -z now; bound at
- * their first call, that call took 44,328). No proof bounds it. The pages are
+ * their first call, that call took 48,424). No proof bounds it. The pages are
  * touched in order, so a guard page is met before anything below it. A call of
- * explain_sheet took at most 35,128 bytes, one of describe_record 3,176, one of
+ * explain_sheet took at most 39,224 bytes, one of describe_record 3,176, one of
  * seed_sheet 32, one of look_up_majority 528.
  *
  * Reentrant. Nothing is kept between calls: calls may run in several threads,
@@ -109,13 +109,22 @@ enum row_answer {
  * The listing is ASCII. Each line ends in byte 10, fields are parted by one
  * space, numbers are in base ten, members are digits (124 is 1, 2 and 4):
  *
- *   RECORD STEP ANSWER           a line a record: from 1 on, byte 0, row_answer
+ *   RECORD STEP ANSWER [BEHIND]  a line a record: from 1 on, byte 0, row_answer
  *   registry EPOCH LEADER-EPOCH LEADER MEMBERS normal|waiting|choosing
  *   control EPOCH LEADER-EPOCH LEADER MEMBERS idle|leader|boards|choosing
  *   board B EPOCH LEADER-EPOCH LEADER MEMBERS JOINED LENGTH late|current
  *                                8 lines, boards 1 to 8
  *   receipts N VALUE@EPOCH ...   how many, then the value and the epoch of each,
  *                                as in 41@1
+ *
+ * BEHIND are boards as digits, as in 3 2 0 1. They stand in the lines of a
+ * ROW_STEP_RECEIPT, ROW_STEP_SET_NORMAL and ROW_STEP_INSTALL that was accepted, and
+ * in no other: all members that qualified for the majority that the step asks for,
+ * not only as many as it needs. Behind a receipt stand the members, in the view of
+ * the board that gives it, whose counts there are above the receipts' length; behind
+ * set normal those of the controller's members that are heard at the leader's heard
+ * length or more; behind an install those that are heard and not ranked above the
+ * new leader, which is one of them.
  *
  * The EPOCH of an entry is the LEADER-EPOCH of the board that appended it, when it
  * did. The entry keeps it in the logs of boards that receive it, and in its receipt.
@@ -128,13 +137,14 @@ enum row_answer {
  *
  * ROW_LISTING_LEN(n) bytes suffice for the listing of any sheet of n records:
  *
- *     12 n  n record lines of at most 4 + 3 + 2 digits, 2 spaces and byte 10
+ *     19 n  n record lines of at most 4 + 2 + 1 + 8 digits, 3 spaces and byte 10
+ *           (one without BEHIND has at most 4 + 3 + 2, 2 spaces and byte 10)
  *       39  the registry's line:   9 + 5 + 5 + 2 + 9 + 9
  *       38  the controller's line: 8 + 5 + 5 + 2 + 9 + 9
  *      368  8 board lines of at most 8 + 5 + 5 + 2 + 9 + 5 + 3 + 9 = 46
  *     8205  the receipts' line: 13, and 512 times a space, 10 digits, @ and 4 digits
  *
- * That is 12 n + 8650, and 57,790 for the longest sheet: an int of 32 bits
+ * That is 19 n + 8650, and 86,455 for the longest sheet: an int of 32 bits
  * holds it for every n up to ROW_RECORDS_MAX. There is no cast, so that it
  * stands in #if too.
  */

@@ -17,6 +17,7 @@ use Rattle.model.specs.Records.{Record, wellFormed, isOpening, unused, r
 use Rattle.model.proofs.Tests.{split-and, is-false, by-cond, eq-or-ne}
 use Rattle.model.proofs.Refusals.{absent, absent-not}
 use Rattle.model.proofs.Theorem.{All}
+use Rattle.model.proofs.Rules.{_then_}
 
 -- The element at a place, past the end too.
 at : {A : Type 0} (P : ℕ → A → Type 0) (d : A) (xs : List A) (k n : ℕ)
@@ -25,10 +26,6 @@ at P d [] k n out a = out (k + n) (omega arith)
 at P d (x ∷ xs) k zero out a = subst (λ m. P m x) (omega arith) (a .0)
 at P d (x ∷ xs) k (suc n) out a =
     subst (λ m. P m (getD xs n d)) (omega arith) (at P d xs (suc k) n (λ m h. out m (omega arith)) (a .1))
-
-infixr 10 _then_
-_then_ : {A B : Type 0} → A → B → A × B
-a then b = (a, b)
 
 -- The tests of a record in document 01's order, and in the order in which a step's are made.
 turn : (a b c d : Bool) → (a && b && c && d) ≡ ((b && (c && (d && true))) && a)

@@ -13,6 +13,7 @@ pub mod Succession
 pub mod Change
 pub mod Install
 pub mod Theorem
+pub mod Rules
 pub mod Range
 pub mod Bounds
 pub mod Made

@@ -11,7 +11,7 @@ use lib.ListN.{length, getD}
 use Rattle.model.specs.Prelude.{upd}
 use Rattle.model.specs.State.{outline, Entries, Entry, entries, State, RowState, Opening, canOpen, opened}
 use Rattle.model.specs.Steps.{Step, Writes, appends, commits, receives, nothing, writes, append, commit, add, remove, changeLeader, refresh, join, receive, acknowledge, refreshController, readLeader, read, setNormal, hear, install, malformed, checks, accepted, next, step, shared}
-use Rattle.model.specs.Records.{Record, unused, rules, stepOf}
+use Rattle.model.specs.Records.{Record, stepOf}
 use Rattle.model.specs.Runs.{stepsOf, run}
 use Rattle.model.specs.Claim.{after}
 use Rattle.model.specs.Ranges.{every, eight, isEpoch, termsInRange, keptInRange}
@@ -19,6 +19,7 @@ use Rattle.model.proofs.Tests.{Holds, facts, by-cond, join-and}
 use Rattle.model.proofs.Range.{IsEpoch, to-epoch, to-eight}
 use Rattle.model.proofs.Invariant.{Inv}
 use Rattle.model.proofs.Theorem.{opened-inv, step-keeps}
+use Rattle.model.proofs.Rules.{_then_, by-rule}
 use Rattle.model.proofs.Bounds.{Bounds, opened-bounds, step-bounds, view-in}
 
 -- P holds of each element.
@@ -163,76 +164,13 @@ Word x = x .value < 2 ^ 32
 abbrev Small : ℕ → Type 0
 Small v = v < 2 ^ 32
 
-brings : Step → Type 0
+abbrev brings : Step → Type 0
 brings st = Brings Small (writes st)
 
-unused-brings : (ns : List ℕ) (st : Step) → brings st → brings (unused ns st)
-unfolding brings
-unused-brings [] st w = w
-unused-brings (n ∷ ns) st w = by-cond brings (eqb n 0) (λ _. unused-brings ns st w) (λ _. tt)
-
 record-brings : (r : Record) → r .value < 2 ^ 32 → brings (stepOf r)
-unfolding brings
-record-brings r h = found (rules r) (r .step) (
-  tt,
-  (
-    unused-brings (r .other ∷ r .spare ∷ []) (append (r .board) (r .value)) h,
-    (
-      one (commit (r .board)) tt,
-      (
-        one (add (r .board)) tt,
-        (
-          one (remove (r .board)) tt,
-          (
-            bare changeLeader tt,
-            (
-              one (refresh (r .board)) tt,
-              (
-                one (join (r .board)) tt,
-                (
-                  one (receive (r .board)) tt,
-                  (
-                    unused-brings (r .spare ∷ r .value ∷ []) (acknowledge (r .board) (r .other)) tt,
-                    (
-                      bare refreshController tt,
-                      (
-                        bare readLeader tt,
-                        (
-                          one (read (r .board)) tt,
-                          (
-                            bare setNormal tt,
-                            (
-                              one (hear (r .board)) tt,
-                              (
-                                one (install (r .board)) tt,
-                                tt,
-                              ),
-                            ),
-                          ),
-                        ),
-                      ),
-                    ),
-                  ),
-                ),
-              ),
-            ),
-          ),
-        ),
-      ),
-    ),
-  ),
-)
-  where
-    one : (st : Step) → brings st → brings (unused (r .other ∷ r .spare ∷ r .value ∷ []) st)
-    one = unused-brings (r .other ∷ r .spare ∷ r .value ∷ [])
-
-    bare : (st : Step) → brings st → brings (unused (r .board ∷ r .other ∷ r .spare ∷ r .value ∷ []) st)
-    bare = unused-brings (r .board ∷ r .other ∷ r .spare ∷ r .value ∷ [])
-
-    found : (sts : List Step) (n : ℕ) → All brings sts → brings (getD sts n malformed)
-    found [] n w = tt
-    found (st ∷ sts) zero w = w .0
-    found (st ∷ sts) (suc n) w = found sts n (w .1)
+record-brings r h = by-rule (λ _ st. brings st) (λ _. tt) r
+    (h then tt then tt then tt then tt then tt then tt then tt then tt then tt then tt then tt then tt then tt then tt
+    then tt)
 
 records-bring : (rs : List Record) → All (λ r. r .value < 2 ^ 32) rs → All brings (stepsOf rs)
 records-bring [] w = tt
@@ -240,5 +178,4 @@ records-bring (r ∷ rs) w = (record-brings r (w .0), records-bring rs (w .1))
 
 pub words-run : (o : Opening) → T (canOpen o) → (rs : List Record) → All (λ r. r .value < 2 ^ 32) rs
     → Kept Word (after entries o (stepsOf rs))
-unfolding brings
 words-run o real rs w = all-made entries Word Small (λ v t h _. h) o real (stepsOf rs) (records-bring rs w)

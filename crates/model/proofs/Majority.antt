@@ -1,24 +1,22 @@
 -- The count of those that qualify as a set that is a majority, the three majority questions in document 01's words, and
 -- who is behind an accepted step. Assumes nothing.
 use mathlib.Core.Bool.{Bool, true, false, not, cond, _&&_, _||_}
-use mathlib.Core.List.{List, [], _∷_}
 use mathlib.Core.Logic.{_⊎_, inl, inr, ⊎-elim, _↔_, _≢_, Iff·rfl}
 use mathlib.Core.Path.{_≡_, refl, sym, ap, subst, _∙_}
 use Prim.Native.Nat.{ℕ, zero, suc, _≤_, _<_}
-use native.Mathlib.Nat.{zero-add}
 use native.Mathlib.Omega.{arith}
 use lib.Dec.{T, leb, ltb, eqb, leb→le, le→leb, ltb→lt, lt→ltb, eqb→eq, T-not, not-T}
 use Rattle.model.specs.Prelude.{asks}
 use Rattle.model.specs.Members.{Members, isReplica, none, _∩_, size, quorum}
 use Rattle.model.specs.State.{Controller, Outline}
-use Rattle.model.specs.Steps.{Step, append, commit, add, remove, changeLeader, refresh, join, receive, acknowledge, refreshController, readLeader, read, setNormal, hear, install, malformed, checks, accepted, answerOf, above, countedAbove, heardEnough, rankedNotAbove, qualified, behind}
-use Rattle.model.specs.Records.{Record, unused, rules, stepOf}
+use Rattle.model.specs.Steps.{Step, commit, setNormal, install, checks, accepted, answerOf, above, countedAbove, heardEnough, rankedNotAbove, qualified, behind}
+use Rattle.model.specs.Records.{Record, stepOf}
 use Rattle.model.specs.Majority.{SomeMajority, Heard, RanksAbove, Question, Questions, AllWith, Sets, Majorities}
 use Rattle.model.proofs.Tests.{split-and, join-and, eq-test, of-true, by-cond, Holds, facts}
 use Rattle.model.proofs.Answer.{zero-accepted, nonzero-refused}
 use Rattle.model.proofs.Quorum.{size-sub, hasQuorum}
 use Rattle.model.proofs.Refusals.{once, once-fails}
-use Rattle.model.proofs.Theorem.{All, nth}
+use Rattle.model.proofs.Rules.{_then_, by-rule}
 
 -- Those that qualify, by a test q that says P.
 module _ (m q : Members) (P : ℕ → Type 0) (says : (x : ℕ) → T (q x) ↔ P x) where
@@ -146,78 +144,16 @@ module _ (m : Outline) where
       majority = counted ms q P says t .majority;
     }
 
-  -- A rule of another number than 2, 13 and 15 asks no majority.
+  -- A step of another number than 2, 13 and 15 asks no majority.
   abbrev AsksNone : ℕ → Step → Type 0
   AsksNone n st = n ≢ 2 → n ≢ 13 → n ≢ 15 → qualified m st ≡ none
 
-  unused-none : (ns : List ℕ) (st : Step) → qualified m st ≡ none → qualified m (unused ns st) ≡ none
-  unused-none [] st e = e
-  unused-none (n ∷ ns) st e =
-      by-cond (λ x. qualified m x ≡ none) (eqb n 0) (λ _. unused-none ns st e) (λ _. refl)
-
-  module _ (r : Record) where
-    open Record r using (board, other, spare, value)
-
-    one : (st : Step) {n : ℕ} → qualified m st ≡ none → AsksNone n (unused (other ∷ spare ∷ value ∷ []) st)
-    one st e _ _ _ = unused-none (other ∷ spare ∷ value ∷ []) st e
-
-    bare : (st : Step) {n : ℕ} → qualified m st ≡ none → AsksNone n (unused (board ∷ other ∷ spare ∷ value ∷ []) st)
-    bare st e _ _ _ = unused-none (board ∷ other ∷ spare ∷ value ∷ []) st e
-
-    rules-none : All AsksNone 0 (rules r)
-    rules-none = (
-      (λ _ _ _. refl),
-      (
-        (λ _ _ _. unused-none (other ∷ spare ∷ []) (append board value) refl),
-        (
-          (λ h _ _. absurd (h refl)),
-          (
-            one (add board) refl,
-            (
-              one (remove board) refl,
-              (
-                bare changeLeader refl,
-                (
-                  one (refresh board) refl,
-                  (
-                    one (join board) refl,
-                    (
-                      one (receive board) refl,
-                      (
-                        (λ _ _ _. unused-none (spare ∷ value ∷ []) (acknowledge board other) refl),
-                        (
-                          bare refreshController refl,
-                          (
-                            bare readLeader refl,
-                            (
-                              one (read board) refl,
-                              (
-                                (λ _ h _. absurd (h refl)),
-                                (
-                                  one (hear board) refl,
-                                  (
-                                    (λ _ _ h. absurd (h refl)),
-                                    tt,
-                                  ),
-                                ),
-                              ),
-                            ),
-                          ),
-                        ),
-                      ),
-                    ),
-                  ),
-                ),
-              ),
-            ),
-          ),
-        ),
-      ),
-    )
-
-    no-one : AsksNone (r .step) (stepOf r)
-    no-one = subst (λ n. AsksNone n (stepOf r)) (zero-add (r .step))
-        (nth AsksNone malformed (λ _ _ _ _. refl) (rules r) 0 (r .step) rules-none)
+  no-one : (r : Record) → AsksNone (r .step) (stepOf r)
+  no-one r = by-rule AsksNone (λ _ _ _ _. refl) r
+      ((λ _ _ _. refl) then (λ h _ _. absurd (h refl)) then (λ _ _ _. refl) then (λ _ _ _. refl) then (λ _ _ _. refl)
+      then (λ _ _ _. refl) then (λ _ _ _. refl) then (λ _ _ _. refl) then (λ _ _ _. refl) then (λ _ _ _. refl)
+      then (λ _ _ _. refl) then (λ _ _ _. refl) then (λ _ h _. absurd (h refl)) then (λ _ _ _. refl)
+      then (λ _ _ h. absurd (h refl)) then tt)
 
   sets : Sets m
   sets = record {
