@@ -109,7 +109,8 @@ enum row_answer {
  * The listing is ASCII. Each line ends in byte 10, fields are parted by one
  * space, numbers are in base ten, members are digits (124 is 1, 2 and 4):
  *
- *   RECORD STEP ANSWER [BEHIND]  a line a record: from 1 on, byte 0, row_answer
+ *   RECORD STEP ANSWER [BEHIND]  a line a record: its number from 1 on, byte 0,
+ *                                row_answer; some have BEHIND, see below
  *   registry EPOCH LEADER-EPOCH LEADER MEMBERS normal|waiting|choosing
  *   control EPOCH LEADER-EPOCH LEADER MEMBERS idle|leader|boards|choosing
  *   board B EPOCH LEADER-EPOCH LEADER MEMBERS JOINED LENGTH late|current
@@ -117,14 +118,16 @@ enum row_answer {
  *   receipts N VALUE@EPOCH ...   how many, then the value and the epoch of each,
  *                                as in 41@1
  *
- * BEHIND are boards as digits, as in 3 2 0 1. They stand in the lines of a
- * ROW_STEP_RECEIPT, ROW_STEP_SET_NORMAL and ROW_STEP_INSTALL that was accepted, and
- * in no other: all members that qualified for the majority that the step asks for,
- * not only as many as it needs. Behind a receipt stand the members, in the view of
- * the board that gives it, whose counts there are above the receipts' length; behind
- * set normal those of the controller's members that are heard at the leader's heard
- * length or more; behind an install those that are heard and not ranked above the
- * new leader, which is one of them.
+ * BEHIND is a set of boards, 1 to 8 digits in rising order: in the line 3 2 0 1 it
+ * is the last 1, board 1. The line of a ROW_STEP_RECEIPT, ROW_STEP_SET_NORMAL or
+ * ROW_STEP_INSTALL that was accepted has these four fields, every other one has
+ * three, and no space at its end. In the set are all members that qualified for the
+ * majority that the step asks for, not only as many as it needs: for a receipt the
+ * members, in the view of the board that gives it, that it has counted above the
+ * number of receipts given before; for set normal the controller's members that are
+ * heard at the leader's heard length or more; for an install those that are heard
+ * and not ranked above the new leader (by joined epoch first, then length), which
+ * is one of them.
  *
  * The EPOCH of an entry is the LEADER-EPOCH of the board that appended it, when it
  * did. The entry keeps it in the logs of boards that receive it, and in its receipt.

@@ -44,7 +44,10 @@ fn put_members(out: &mut [u8], at: usize, m: u8) -> usize
 fn has_fourth(step: u8, answer: u8) -> bool
     ensures { λ r. ⌜ r ≡ hasFourth step answer ⌝ }
 {
-    (answer == 0) & ((step == 2) | ((step == 13) | (step == 15)))
+    if answer != 0 {
+        return false;
+    }
+    (step == 2) | ((step == 13) | (step == 15))
 }
 
 // How many bytes that field has, with the space before it.
