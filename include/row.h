@@ -127,7 +127,7 @@ enum row_answer {
  * number of receipts given before; for set normal the controller's members that are
  * heard at the leader's heard length or more; for an install those that are heard
  * and not ranked above the new leader (by joined epoch first, then length), which
- * is one of them.
+ * is one of them. docs/FORMATS.md says what may be relied on of their logs.
  *
  * The EPOCH of an entry is the LEADER-EPOCH of the board that appended it, when it
  * did. The entry keeps it in the logs of boards that receive it, and in its receipt.

@@ -16,7 +16,7 @@ use Rattle.model.proofs.Prefix.{begins-trans, begins-compare}
 use Rattle.model.proofs.Quorum.{meet-sub, hasQuorum, quorum-half, size-with}
 use Rattle.model.proofs.Invariant.{reading, Firm, vacant, steady, reads, electors, read, Ok, Blocked, stuck, Outvoted, SafeIn, Inv}
 use Rattle.model.proofs.Static as Static
-use Rattle.model.proofs.Static.{o, _⇒_, chooses, Holder, witness, Later}
+use Rattle.model.proofs.Static.{o, _⇒_, chooses, frozen, Holder, witness, Later}
 use Rattle.model.proofs.Succession.{new-leader, renamed}
 
 module _ (𝓔 : Entries) where
@@ -64,6 +64,12 @@ module _ (𝓔 : Entries) where
 
       behind-of : (x : ℕ) → T (behind x) → T (leb 1 (controller .heard x)) × T (not (above controller b x))
       behind-of x t = split-and (leb 1 (controller .heard x)) (not (above controller b x)) t
+
+      -- and it follows nobody
+      pub install-stands : (x : ℕ) → T (controller .view .members x) → T (behind x) → Stands x × (view x .leader ≡ 0)
+      install-stands x k t =
+          let z = stands x (subst (λ (v : View). T (v .members x)) current k) (behind-of x t .0) in
+          (z, frozen i now at-choosing x (z .0))
 
       -- b ranks as high as x: if x has joined the term, so has b, and b's log is no shorter
       rank : (x : ℕ) → T (m x) → T (behind x) → joined x ≡ registry .view .term → (joined b ≡ registry .view .term)

@@ -18,5 +18,6 @@ pub mod Range
 pub mod Bounds
 pub mod Made
 pub mod Answer
+pub mod Carried
 pub mod Forms
 pub mod Table

@@ -4,21 +4,23 @@ use mathlib.Core.Bool.{true, false, not}
 use mathlib.Core.List.{List}
 use mathlib.Core.Logic.{inl, inr, _≢_}
 use mathlib.Core.Path.{_≡_, refl, sym, subst, ap, _∙_}
-use Prim.Native.Nat.{ℕ, suc, _*_, _≤_, _<_}
+use Prim.Native.Nat.{ℕ, suc, _-_, _*_, _≤_, _<_}
 use native.Mathlib.Omega.{arith}
 use lib.Dec.{T, leb, eqb, eqb→eq, leb→le, T-not}
-use lib.ListN.{length}
+use lib.ListN.{length, take}
+use lib.Seq.{length-take-le}
 use Rattle.model.specs.Prelude.{upd, _⊑_}
 use Rattle.model.specs.Members.{Members, isReplica, _∩_, size}
 use Rattle.model.specs.State.{outline, Entries, View, Status, waiting, Registry, State, isNormal, isChoosing, stageNumber}
 use Rattle.model.specs.Steps as Steps
 use Rattle.model.specs.Steps.{add, remove, setNormal, checks, next, withRegistry, heardEnough}
 use Rattle.model.proofs.Tests.{Holds, split-and, join-and, by-cond, ne-fact, upd-other, upd-idle, is-true}
+use Rattle.model.proofs.Prefix.{begins-take, begins-length, begins-compare}
 use Rattle.model.proofs.Quorum.{meet-sub, hasQuorum, quorum-half, replica-ne}
 use Rattle.model.proofs.Invariant as Invariant
 use Rattle.model.proofs.Invariant.{ViewOk, ControllerOk, reading, Firm, vacant, steady, reads, electors, LogsOk, HeardOk, holding, Backed, held, Ok, Stale, Blocked, passed, stuck, Outvoted, SafeIn, Inv}
 use Rattle.model.proofs.Static as Static
-use Rattle.model.proofs.Static.{o, _⇒_, to-holding, still-outvoted}
+use Rattle.model.proofs.Static.{o, _⇒_, to-holding, still-outvoted, follows-leader}
 use Rattle.model.proofs.Control.{waits, waits-named}
 
 module _ {E : Type 0} {L : ℕ → ℕ} {s : State E} (i : Inv L s) where
@@ -184,6 +186,25 @@ module _ (𝓔 : Entries) where
             leb→le (controller .heard (controller .view .leader)) (controller .heard x) (z .1),
             ap (controller .heard) (ap (λ v. v .leader) current ∙ Static.named i not-choosing),
           ))
+
+      -- and its log begins with what the leader had when it was read
+      pub set-normal-carried : (x : ℕ) → T (controller .view .members x) → T (heardEnough controller x)
+          → take (controller .heard (controller .view .leader) - 1) (log (controller .view .leader)) ⊑ log x
+      set-normal-carried x m t =
+          let n = controller .heard (controller .view .leader) - 1 in
+          let z = split-and (leb 1 (controller .heard x))
+          (leb (controller .heard (controller .view .leader)) (controller .heard x)) t in
+          let k = i .heard .read now (λ e. omega (arith, at-boards)) x (subst (λ (v : View). T (v .members x)) current m)
+          (leb→le 1 (controller .heard x) (z .0)) in
+          let f = follows-leader i (i .leader .took firm) x (k .0) in
+          let le : n ≤ length (log x) = omega (
+            arith,
+            k .1,
+            leb→le (controller .heard (controller .view .leader)) (controller .heard x) (z .1),
+          ) in
+          let l = length-take-le n (log (o i)) (omega (arith, le, begins-length f)) in
+          subst (λ y. take n (log y) ⊑ log x) (sym (ap (λ v. v .leader) current ∙ Static.named i not-choosing))
+          (begins-compare (begins-take n (log (o i))) f (omega (arith, l, le)))
 
       most : (n : ℕ) → suc n ≤ controller .heard (o i)
           → size (electors registry (o i)) < 2 * size

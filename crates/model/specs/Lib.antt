@@ -6,5 +6,6 @@ pub mod Majority
 pub mod Records
 pub mod Runs
 pub mod Claim
+pub mod Carried
 pub mod Ranges
 pub mod Trials

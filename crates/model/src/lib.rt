@@ -1,6 +1,7 @@
 // What is proved of the papers' rules alone. Nothing here is to be run: each function is the carrier of a
 // statement, which is its promise.
 
+ghost use Rattle.model.specs.Carried.{CarriersHold};
 ghost use Rattle.model.specs.Claim.{DemandThree};
 ghost use Rattle.model.specs.Majority.{Majorities};
 ghost use Rattle.model.specs.Ranges.{RunsInRange};
@@ -16,6 +17,12 @@ pub fn claim()
 // Accepted, each has behind it all members that qualify, in the words of document 02, Paper 6; refused, no one.
 pub fn majorities()
     ensures { λ r. ⌜ Majorities ⌝ }
+{}
+
+// What the set behind a step says of logs in every run: who is behind a receipt, set normal or an install holds what it
+// stands for.
+pub fn carriers()
+    ensures { λ r. ⌜ CarriersHold ⌝ }
 {}
 
 // No state of a run is one that refusal 1 would turn away.

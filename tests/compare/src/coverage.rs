@@ -2,7 +2,7 @@
 //! often they were met.
 
 use peer::behind::{behind, Behind};
-use peer::row::{Row, View, EPOCH_MAX, LOG_MAX};
+use peer::row::{Log, Row, View, EPOCH_MAX, LOG_MAX};
 use peer::tally::{tally, Tally};
 use std::fmt;
 
@@ -131,6 +131,39 @@ impl Seen<'_> {
         (1..=8).any(|m| !self.asked().has(m) && self.qualifies(m))
     }
 
+    /// Is such a board behind it?
+    fn some_behind(&self, is_such: impl Fn(u8) -> bool) -> bool {
+        let set = self.behind.outcome.behind;
+        (1..=8).any(|m| set >> (m - 1) & 1 == 1 && is_such(m))
+    }
+
+    /// Does board m's log begin with all receipts, this one too?
+    fn holds_receipts(&self, m: u8) -> bool {
+        begins(&self.after.board(m).log, &self.after.receipts, usize::MAX)
+    }
+
+    /// Has board m joined a later leader epoch than that of the board that gives a receipt?
+    fn went_on(&self, m: u8) -> bool {
+        self.before.board(m).joined > self.before.board(self.b).view.leader_epoch
+    }
+
+    /// Does board m's log begin with all that the controller's leader had when it was read?
+    fn holds_read(&self, m: u8) -> bool {
+        let leader = self.before.control.view.leader;
+        let read = self.heard(leader).unwrap_or(0);
+        begins(
+            &self.before.board(m).log,
+            &self.before.board(leader).log,
+            read,
+        )
+    }
+
+    /// Is board m as the controller heard it, and does it follow nobody?
+    fn stands(&self, m: u8) -> bool {
+        let board = self.before.board(m);
+        self.rank(m) == (board.joined, Some(board.log.len())) && board.view.leader == 0
+    }
+
     /// Is it this step, accepted with more boards behind it than the smallest majority?
     fn has_more(&self, step: u8) -> bool {
         self.gives(step, 0) && self.behind.is_larger()
@@ -142,10 +175,16 @@ impl Seen<'_> {
     }
 }
 
+/// Does a log begin with the list, or with the first `most` entries of it?
+fn begins(log: &Log, list: &Log, most: usize) -> bool {
+    let wanted = list.entries().take(most);
+    log.len() >= list.len().min(most) && log.entries().zip(wanted).all(|(x, y)| x == y)
+}
+
 type Event = (&'static str, fn(&Seen) -> bool);
 
 /// What the sheets should bring about besides the pairs.
-const EVENTS: [Event; 28] = [
+const EVENTS: [Event; 29] = [
     ("change of leader that leaves one member", |s| {
         s.gives(5, 0) && s.after.registry.leader != 0
     }),
@@ -216,6 +255,9 @@ const EVENTS: [Event; 28] = [
         let given = s.before.receipts.len();
         s.gives(2, 0) && given > 0 && s.some_member(|m| s.count(m) == given)
     }),
+    ("late receipt with a board behind it that went on", |s| {
+        s.gives(2, 0) && s.some_behind(|m| s.went_on(m))
+    }),
     ("set normal with a member heard below the leader", |s| {
         s.gives(13, 0) && s.some_member(|m| s.heard(m).is_some() && !s.qualifies(m))
     }),
@@ -236,13 +278,27 @@ const EVENTS: [Event; 28] = [
     }),
 ];
 
-/// What no run brings about: for a receipt a board may be counted that is no member, but
+/// What no run brings about. For a receipt a board may be counted that is no member, but
 /// the controller hears its members alone (its leader is one), and forgets what it heard
-/// when it takes news of others.
-const NEVER: Event = (
-    "set normal or install with a board heard that is no member",
-    |s| (s.gives(13, 0) || s.gives(15, 0)) && s.some_other(),
-);
+/// when it takes news of others. Who is behind a step holds what it stands for.
+const NEVER: [Event; 4] = [
+    (
+        "set normal or install with a board heard that is no member",
+        |s| (s.gives(13, 0) || s.gives(15, 0)) && s.some_other(),
+    ),
+    (
+        "receipt with a board behind it that lacks it and did not go on",
+        |s| s.gives(2, 0) && s.some_behind(|m| !s.went_on(m) && !s.holds_receipts(m)),
+    ),
+    (
+        "set normal with a board behind it that lacks what was read",
+        |s| s.gives(13, 0) && s.some_behind(|m| !s.holds_read(m)),
+    ),
+    (
+        "install with a board behind it that is not as it was heard",
+        |s| s.gives(15, 0) && s.some_behind(|m| !s.stands(m)),
+    ),
+];
 
 type Tallied = (&'static str, fn(&Tally) -> usize);
 
@@ -315,7 +371,7 @@ pub struct Coverage {
     /// In texts in words.
     told: Pairs,
     events: [u64; EVENTS.len()],
-    never: u64,
+    never: [u64; NEVER.len()],
     tallied: [u64; TALLIED.len()],
     lines: [u64; LINES.len()],
 }
@@ -350,7 +406,9 @@ impl Coverage {
             for (number, (_, came_about)) in self.events.iter_mut().zip(EVENTS) {
                 *number += u64::from(came_about(&seen));
             }
-            self.never += u64::from(NEVER.1(&seen));
+            for (number, (_, came_about)) in self.never.iter_mut().zip(NEVER) {
+                *number += u64::from(came_about(&seen));
+            }
         }
         if let Ok(tally) = tally(sheet) {
             for (number, (_, how_often)) in self.tallied.iter_mut().zip(TALLIED) {
@@ -388,9 +446,12 @@ impl Coverage {
         faults.extend(pair_faults("told", &self.told, can_tell));
         let rare = self.counts().filter(|&(_, number)| number < ENOUGH);
         faults.extend(rare.map(|(name, _)| format!("not met {ENOUGH} times: {name}")));
-        if self.never > 0 {
-            faults.push(format!("met: {}", NEVER.0));
-        }
+        let met = self
+            .never
+            .iter()
+            .zip(NEVER)
+            .filter(|(&number, _)| number > 0);
+        faults.extend(met.map(|(_, (name, _))| format!("met: {name}")));
         faults
     }
 }
