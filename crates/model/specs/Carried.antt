@@ -19,13 +19,13 @@ module _ (s : RowState) where
     -- receipts, this one too.
     pub receipt : (b : ℕ) → answerOf (outline s) (commit b) ≡ 0 → view b .term ≡ registry .view .term
         → (x : ℕ) → T (behind (outline s) (commit b) x) → step entries s (commit b) .committed ⊑ log x
-    -- One that b gives late, after it was replaced: so does the log of every board behind it that has not joined a later
-    -- leader epoch.
+    -- Under any leader epoch, so that b may have been replaced: the same of every board behind it that has not joined a
+    -- later one.
     pub lateReceipt : (b : ℕ) → answerOf (outline s) (commit b) ≡ 0
         → (x : ℕ) → T (behind (outline s) (commit b) x) → joined x ≤ view b .term
         → step entries s (commit b) .committed ⊑ log x
-    -- Set normal: the log of every board behind it begins with all that the leader had when it was read. (A heard length
-    -- n is kept as n + 1.)
+    -- Set normal: the log of every board behind it begins with as much of the leader's as was heard of it. (A heard
+    -- length n is kept as n + 1.)
     pub normal : answerOf (outline s) setNormal ≡ 0 → (x : ℕ) → T (behind (outline s) setNormal x)
         → take (heard (controller .view .leader) - 1) (log (controller .view .leader)) ⊑ log x
     -- Install: every board behind it has the length and the joined epoch that were heard, and follows no leader.

@@ -19,8 +19,9 @@ pub fn majorities()
     ensures { λ r. ⌜ Majorities ⌝ }
 {}
 
-// What the set behind a step says of logs in every run: who is behind a receipt, set normal or an install holds what it
-// stands for.
+// What the set behind a step says of logs in every run: who is behind a receipt holds it (but for a late one and a
+// board that has joined a later leader epoch), who is behind set normal holds as much of the leader's log as was heard
+// of it, who is behind an install is as it was heard.
 pub fn carriers()
     ensures { λ r. ⌜ CarriersHold ⌝ }
 {}

@@ -104,7 +104,7 @@ pub fn set_normal(r: Registry, c: Controller) -> Settled
     let heard = c.heard;
     let low = heard_at(heard, v.leader);
     let p = heard_enough(heard, low);
-    let enough = members::both(v.members, p);
+    let enough = members::both(v.members, p); // All that qualify: counted, and handed back.
     let n = may_set_normal(r, v, g, enough);
     if n != 0 {
         return Settled {
@@ -171,7 +171,7 @@ pub fn install(r: Registry, c: Controller, b: u8) -> Settled
     let i = (k - 1) as usize;
     let l = heard[i];
     let p = ranked_not_above(heard, joined, l, joined[i]);
-    let fit = members::both(v.members, p);
+    let fit = members::both(v.members, p); // All that qualify: counted, and handed back.
     let n = may_install(r, v, g, l, fit, k, b);
     if n != 0 {
         return Settled {

@@ -141,7 +141,7 @@ pub fn commit(
     let v = view(views, k);
     let n = lookup(len, k);
     let p = counted(acked, k, issued);
-    let s = members::both(v.members, p);
+    let s = members::both(v.members, p); // All that qualify: counted, and handed back.
     let r = may_commit(v, n, issued, s, b);
     if r != 0 {
         return Given {

@@ -280,15 +280,16 @@ const EVENTS: [Event; 29] = [
 
 /// What no run brings about. For a receipt a board may be counted that is no member, but
 /// the controller hears its members alone (its leader is one), and forgets what it heard
-/// when it takes news of others. Who is behind a step holds what it stands for.
+/// when it takes news of others. Who is behind a step holds what it stands for; of a board
+/// that went on, and is behind a late receipt, that is not proved but seen here.
 const NEVER: [Event; 4] = [
     (
         "set normal or install with a board heard that is no member",
         |s| (s.gives(13, 0) || s.gives(15, 0)) && s.some_other(),
     ),
     (
-        "receipt with a board behind it that lacks it and did not go on",
-        |s| s.gives(2, 0) && s.some_behind(|m| !s.went_on(m) && !s.holds_receipts(m)),
+        "receipt with a board behind it that lacks it",
+        |s| s.gives(2, 0) && s.some_behind(|m| !s.holds_receipts(m)),
     ),
     (
         "set normal with a board behind it that lacks what was read",
