@@ -1,13 +1,14 @@
 /*
  * A row of telemetry boards: runs a sheet of steps and writes its listing, or a
- * line in words for each record, describes a record and its answer in words, makes
- * sheets from a seed, and looks up how many boards make a majority.
+ * line in words for each record, describes a record and its answer in words, keeps
+ * the row of a sheet in an image and shows that of an image, makes sheets from a
+ * seed, and looks up how many boards make a majority.
  *
  * Link with librow.a. docs/FORMATS.md has the same formats with an example of
  * every line, what each step asks and does, and who causes each refusal.
  *
  * Platform. The archive is for x86-64 with the System V calling convention:
- * ELF, position-independent, some 20 KiB of code and constants, no data that is
+ * ELF, position-independent, some 34 KiB of code and constants, no data that is
  * written. It asks for no instruction set beyond SSE2, which every x86-64 has.
  * (A tzcnt in it runs as bsf on older processors, and both agree wherever the
  * result is used.) It allocates nothing, makes no system call, and calls two
@@ -16,12 +17,13 @@
  * pointer that the convention gives a function (the red zone): a handler that
  * runs on the same stack must leave them alone.
  *
- * Stack. On every sheet that was tried a call of run_sheet took at most 46,416
+ * Stack. On every sheet that was tried a call of run_sheet took at most 46,128
  * bytes, with memcpy and memset bound beforehand (link with -z now; bound at
- * their first call, that call took 48,424). No proof bounds it. The pages are
+ * their first call, that call took 48,552). No proof bounds it. The pages are
  * touched in order, so a guard page is met before anything below it. A call of
- * explain_sheet took at most 39,224 bytes, one of describe_record 3,176, one of
- * seed_sheet 32, one of look_up_majority 528.
+ * explain_sheet took at most 39,368 bytes, one of describe_record 3,320, one of
+ * save_sheet 37,904, one of show_image 13,056, one of seed_sheet 32,
+ * one of look_up_majority 528.
  *
  * Reentrant. Nothing is kept between calls: calls may run in several threads,
  * or one inside a handler that interrupts another, each with its own slices.
@@ -76,7 +78,8 @@ enum row_step {
 
 /*
  * The answers of a record in the listing: accepted, or the first check that
- * failed. A refused step changes nothing, and the sheet goes on.
+ * failed. A refused step changes nothing, and the sheet goes on. No record is
+ * answered with the last three, which are of an image.
  */
 enum row_answer {
     ROW_ACCEPTED = 0,
@@ -98,7 +101,11 @@ enum row_answer {
     /* by the controller, or a count */
     ROW_REFUSED_NO_MAJORITY = 14,
     ROW_REFUSED_STAGE = 15,
-    ROW_REFUSED_EPOCHS_DIFFER = 16
+    ROW_REFUSED_EPOCHS_DIFFER = 16,
+    /* by the caller, of the image of a row that is to be taken up again */
+    ROW_REFUSED_IMAGE_LENGTH = 17, /* it is not 258 plus 8 times 0 to 4,608 */
+    ROW_REFUSED_IMAGE_NUMBER = 18, /* outside its range, a zero byte that is not 0, or a row that 1 would turn away */
+    ROW_REFUSED_IMAGE_LINKS = 19   /* a chain past the last record or 512 entries, a record met twice or not at all */
 };
 
 /* The results of run_sheet that are refusals. Every listing is longer than 3 bytes. */
@@ -198,7 +205,7 @@ size_t run_sheet(const uint8_t *sheet, size_t sheet_len,
  *
  *   record      the record; it is only read
  *   record_len  its length in bytes, ROW_RECORD_LEN
- *   answer      0 to 16: row_answer, or 2 or 3 of a refused sheet. It need not be
+ *   answer      0 to 19: row_answer, or 2 or 3 of a refused sheet. It need not be
  *               one that the record could have: any answer goes with any record
  *   line        where the line goes, with no byte 0 at the end
  *   line_len    the length of that slice in bytes
@@ -234,6 +241,94 @@ size_t describe_record(const uint8_t *record, size_t record_len, size_t answer,
  */
 size_t explain_sheet(const uint8_t *sheet, size_t sheet_len,
                      uint8_t *text, size_t text_len);
+
+/*
+ * An image holds a row through a power cut: all that the row's next steps depend on,
+ * in bytes that the hub may store and hand back later. It has a head of 258 bytes and
+ * a record of 8 bytes for each entry of the eight logs and of the receipts; numbers
+ * of 2 and 4 bytes have their low byte first:
+ *
+ *   bytes 0 - 7      the registry: epoch (2), leader epoch (2), leader, members (a bit
+ *                    a board, 1 for board 1), status (0 normal, 1 waiting,
+ *                    2 choosing), 0
+ *   bytes 8 - 15     the controller: the same, with its stage (0 idle, 1 leader,
+ *                    2 boards, 3 choosing) in place of the status
+ *   bytes 16 - 47    for each board, 1 to 8, what the controller heard of it: length
+ *                    (2), 65,535 for none, and joined (2)
+ *   bytes 48 - 255   for each board, 26 bytes: epoch (2), leader epoch (2), joined (2),
+ *                    leader, members, its counts for boards 1 to 8 (2 each), and the
+ *                    number of its log's first record (2)
+ *   bytes 256 - 257  the number of the receipts' first record
+ *   from 258 on      the records 1, 2, ...: value (4), epoch (2), number of the next
+ *                    record (2)
+ *
+ * A first record 0 is an empty list, a next record 0 ends one. save_sheet numbers
+ * board 1's log first and the receipts last, each in order; show_image takes records
+ * in any numbering. An image is for any machine and any later call. It has no
+ * checksum: a byte that was changed in the store may give another row. docs/FORMATS.md
+ * has each byte and each error.
+ *
+ * ROW_IMAGE_LEN bytes suffice for any image, ROW_IMAGE_TEXT_LEN for the lines of any
+ * row. All four may be used in #if.
+ */
+#define ROW_IMAGE_HEAD_LEN 258  /* of every image, and all of one with empty lists */
+#define ROW_IMAGE_LEN 37122     /* of the longest: 4,608 entries, 8 bytes each */
+#define ROW_IMAGE_TEXT_LEN 8650 /* the longest registry, control, board and receipts lines */
+#define ROW_SCRATCH_LEN 4608    /* the least that show_image is to be lent */
+
+/* save_sheet is refused with ROW_BAD_SHEET, or with this. */
+#define ROW_SHORT_IMAGE 3 /* the image slice is shorter than the image */
+
+/*
+ * Runs a sheet from its opening and writes the image of the row that it ends with.
+ *
+ *   sheet      the records; they are only read
+ *   sheet_len  their length in bytes, 8 times the number of records
+ *   image      where the image goes
+ *   image_len  the length of that slice in bytes; just this image's is enough
+ *
+ * Returns the image's length in bytes, ROW_IMAGE_HEAD_LEN to ROW_IMAGE_LEN, or
+ * ROW_BAD_SHEET, or, for a sheet that is not refused so, ROW_SHORT_IMAGE.
+ *
+ * Both refusals leave the slice untouched. Bytes of it past the end of an image keep
+ * their values. The slices must not overlap. Neither pointer may be null, even where
+ * the length is 0.
+ */
+size_t save_sheet(const uint8_t *sheet, size_t sheet_len,
+                  uint8_t *image, size_t image_len);
+
+/*
+ * show_image is refused with ROW_SHORT_SCRATCH; or with ROW_REFUSED_IMAGE_LENGTH,
+ * ROW_REFUSED_IMAGE_NUMBER or ROW_REFUSED_IMAGE_LINKS of row_answer, in this order; or with
+ * ROW_SHORT_TEXT. The first and the last are one number: it is the scratch if that is
+ * shorter than ROW_SCRATCH_LEN, and else the text slice. Every text has 20 bytes or
+ * more, so a smaller result is a refusal.
+ */
+#define ROW_SHORT_SCRATCH 3 /* the scratch is shorter than ROW_SCRATCH_LEN */
+
+/*
+ * Takes up the row of an image and writes the lines that a listing has after those of
+ * its records: registry, control, the eight boards, receipts. So the hub sees at boot
+ * whether what it stored is a row, and which.
+ *
+ *   image        the image, from save_sheet or from elsewhere; it is only read
+ *   image_len    its length in bytes, and not that of the slice it was written to
+ *   text         where the lines go, with no byte 0 at the end
+ *   text_len     the length of that slice in bytes
+ *   scratch      memory for the call to work in, whatever it holds
+ *   scratch_len  its length in bytes, ROW_SCRATCH_LEN or more
+ *
+ * Returns the lines' length in bytes, or one of the refusals above.
+ *
+ * Every refusal leaves the text slice untouched. Bytes of it past the end of a text
+ * keep their values. A scratch that is too short is left untouched; else the whole of
+ * it, scratch_len bytes, ends as zeros, also where the image or the text slice is
+ * refused. No two of the slices may overlap. No pointer may be null, even where the
+ * length is 0.
+ */
+size_t show_image(const uint8_t *image, size_t image_len,
+                  uint8_t *text, size_t text_len,
+                  uint8_t *scratch, size_t scratch_len);
 
 /*
  * The results of seed_sheet that are refusals. Every sheet has ROW_RECORD_LEN

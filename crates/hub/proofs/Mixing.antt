@@ -6,8 +6,8 @@ use Rattle.model.specs.Steps.{Step, step}
 use Rattle.model.specs.Claim.{after}
 use Rattle.steps.specs.Calls as Calls
 use Rattle.steps.specs.Calls.{Held, Called, Calls}
-use Rattle.steps.proofs.Following.{Holds, Reached, fit, goes, follow, opening, open-reached, follows}
-use Rattle.hub.specs.Whole.{Link, byValue, news, readLeader, read, hear, Links, stop, link, PutBack, LinksSafe}
+use Rattle.steps.proofs.Following.{Holds, Reached, fit, goes, takes-up, follow, opening, open-reached, follows}
+use Rattle.hub.specs.Whole.{Link, byValue, news, readLeader, read, hear, Links, stop, link, resume, PutBack, LinksSafe}
 use Rattle.hub.proofs.Putting.{put-back}
 
 -- A row that a run reaches is one that refusal 1 lets through.
@@ -30,6 +30,7 @@ calls (link {st = st} l ls) s k m =
     let d = called k m l in
     let g = goes k m d in
     Calls.call d (calls ls (step entries s st) (g .reached) (g .holds))
+calls (resume t ls) s k m = Calls.resume t (calls ls s k (takes-up m t))
 
 pub links-safe : LinksSafe
 unfolding LinksSafe

@@ -13,7 +13,7 @@ use Rattle.cluster.specs.declared.Cluster.{Cluster}
 use Rattle.cluster.specs.Layout.{stageOf, at, noView}
 use Rattle.refinement.specs.Refinement.{Places, Shape}
 use Rattle.steps.specs.Call.{valid, Did}
-use Rattle.steps.specs.Calls.{Held, Called, Calls, Begins, Follows}
+use Rattle.steps.specs.Calls.{Held, Called, TakenUp, Calls, Begins, Follows}
 use Rattle.hub.specs.declared.Report.{Report}
 use Rattle.hub.specs.declared.Reply.{Reply}
 use Rattle.hub.specs.Lent.{TakesNews, ReadsLeader, Reads, Hears}
@@ -88,11 +88,14 @@ pub data Link : Step → Held → Held → ℕ → ℕ → Type 0 where
       → Hears (h .row .controller) (reportOf (h .row) b) r c′
       → Link (S.hear b) h (putInto h c′) (r .answer) (r .behind)
 
--- Calls of both kinds one after the other, their answers and the masks of those behind them.
+-- Calls of both kinds one after the other, their answers and the masks of those behind them; the row may have been taken
+-- up from its image anywhere.
 pub data Links : Held → List Step → Held → List ℕ → List ℕ → Type 0 where
   stop : {h : Held} → Links h [] h [] []
   link : {h h′ h″ : Held} {st : Step} {sts : List Step} {n q : ℕ} {ns qs : List ℕ}
       → Link st h h′ n q → Links h′ sts h″ ns qs → Links h (st ∷ sts) h″ (n ∷ ns) (q ∷ qs)
+  resume : {h h′ h″ : Held} {sts : List Step} {ns qs : List ℕ}
+      → TakenUp h h′ → Links h′ sts h″ ns qs → Links h sts h″ ns qs
 
 -- Demand 3 for lists that mix both kinds, after an opening: what holds after a list of calls by value holds after them,
 -- and a mixed list that follows is a list of such calls, so that what is claimed of "whatever calls follow" is claimed

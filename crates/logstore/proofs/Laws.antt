@@ -53,13 +53,13 @@ pairs-set (u ∷ vs) (s ∷ ts) zero v t = refl
 pairs-set (u ∷ vs) (s ∷ ts) (suc i) v t = ap (λ xs. entry u s ∷ xs) (pairs-set vs ts i v t)
 
 -- The first n entries are of the first n of both, and those past n of those past n.
-pairs-take : (n : ℕ) (vs ts : List ℕ) → take n (pairs vs ts) ≡ pairs (take n vs) (take n ts)
+pub pairs-take : (n : ℕ) (vs ts : List ℕ) → take n (pairs vs ts) ≡ pairs (take n vs) (take n ts)
 pairs-take zero vs ts = refl
 pairs-take (suc n) [] ts = refl
 pairs-take (suc n) (v ∷ vs) [] = refl
 pairs-take (suc n) (v ∷ vs) (t ∷ ts) = ap (λ xs. entry v t ∷ xs) (pairs-take n vs ts)
 
-pairs-drop : (n : ℕ) (vs ts : List ℕ) → drop n (pairs vs ts) ≡ pairs (drop n vs) (drop n ts)
+pub pairs-drop : (n : ℕ) (vs ts : List ℕ) → drop n (pairs vs ts) ≡ pairs (drop n vs) (drop n ts)
 pairs-drop zero vs ts = refl
 pairs-drop (suc n) [] ts = refl
 pairs-drop (suc n) (v ∷ vs) [] = go (drop n vs)

@@ -65,10 +65,10 @@ answerOf r = r .answer
 pub answer-at : (i : ℕ) → getD (map answerOf reasons) i 0 ≡ reasonAt i .answer
 answer-at i = List·getD-map answerOf reasons i (of 0 [] "")
 
-pub answer-small : (i : ℕ) → i < length reasons → getD (map answerOf reasons) i 0 ≤ 16
+pub answer-small : (i : ℕ) → i < length reasons → getD (map answerOf reasons) i 0 ≤ 19
 answer-small i h =
-    let t = passes (length reasons) (λ i. leb (reasonAt i .answer) 16) refl i h in
-    omega (arith, answer-at i, leb→le (reasonAt i .answer) 16 t)
+    let t = passes (length reasons) (λ i. leb (reasonAt i .answer) 19) refl i h in
+    omega (arith, answer-at i, leb→le (reasonAt i .answer) 19 t)
 
 abbrev maskOf : Reason → ℕ
 maskOf r = mask (r .steps)
@@ -138,40 +138,40 @@ module _ (k a : ℕ) where
           (0, omega arith, rw e, eqb→eq a (r .answer) same)
       go false e t f = let x = f t in (suc (x .0), omega (arith, x .1), rw e (x .2), x .3)
 
--- The answers on the list are 0 to 16.
+-- The answers on the list are 0 to 19.
 abbrev allPass : List Reason → Bool
 allPass [] = true
-allPass (r ∷ rs) = leb (r .answer) 16 && allPass rs
+allPass (r ∷ rs) = leb (r .answer) 19 && allPass rs
 
-unlisted : (rs : List Reason) (a : ℕ) → T (allPass rs) → 16 < a → isListedIn rs a ≡ false
+unlisted : (rs : List Reason) (a : ℕ) → T (allPass rs) → 19 < a → isListedIn rs a ≡ false
 unfolding isListedIn
 unlisted [] a t h = refl
 unlisted (r ∷ rs) a t h =
-    let x = split-and (leb (r .answer) 16) (allPass rs) t in
-    rw (ne-eqb a (r .answer) (λ (e : a ≡ r .answer). omega (arith, leb→le (r .answer) 16 (x .0), h)))
+    let x = split-and (leb (r .answer) 19) (allPass rs) t in
+    rw (ne-eqb a (r .answer) (λ (e : a ≡ r .answer). omega (arith, leb→le (r .answer) 19 (x .0), h)))
     (unlisted rs a (x .1) h)
 
-listed-tells : (a : ℕ) → isListed a ≡ leb a 16
+listed-tells : (a : ℕ) → isListed a ≡ leb a 19
 unfolding isListedIn
-listed-tells a = go (le-or-lt a 16)
+listed-tells a = go (le-or-lt a 19)
   where
-    go : (a ≤ 16) ⊎ (16 < a) → isListed a ≡ leb a 16
-    go (inl h) = is-true (isListed a) (passes 17 isListed refl a (omega arith)) ∙ sym (le-leb a 16 h)
-    go (inr h) = unlisted reasons a tt h ∙ sym (lt-leb a 16 h)
+    go : (a ≤ 19) ⊎ (19 < a) → isListed a ≡ leb a 19
+    go (inl h) = is-true (isListed a) (passes 20 isListed refl a (omega arith)) ∙ sym (le-leb a 19 h)
+    go (inr h) = unlisted reasons a tt h ∙ sym (lt-leb a 19 h)
 
-worded : (k a : ℕ) → k < 17 → a < 17 → 1 ≤ length (reasonText k a)
+worded : (k a : ℕ) → k < 17 → a < 20 → 1 ≤ length (reasonText k a)
 unfolding phraseIn
-worded k a h l = leb→le 1 _ (passes-both 17 17 (λ k a. leb 1 (length (reasonText k a))) refl k a h l)
+worded k a h l = leb→le 1 _ (passes-both 17 20 (λ k a. leb 1 (length (reasonText k a))) refl k a h l)
 
 pub covers : Covers
 covers = record { listed = listed-tells; worded = λ k a h l. worded k a (omega (arith, h)) (omega (arith, l)) }
 
-pub listed-below : (a : ℕ) → isListed a ≡ true → a < 17
-listed-below a e = let h = leb-true a 16 (sym (listed-tells a) ∙ e) in omega arith
+pub listed-below : (a : ℕ) → isListed a ≡ true → a < 20
+listed-below a e = let h = leb-true a 19 (sym (listed-tells a) ∙ e) in omega arith
 
 -- Each of them has a phrase for every step.
 pub there : (k a : ℕ) → k < 17 → isListed a ≡ true → T (isThere reasons k a)
-there k a h e = passes-both 17 17 (λ k a. isThere reasons k a) refl k a h (listed-below a e)
+there k a h e = passes-both 17 20 (λ k a. isThere reasons k a) refl k a h (listed-below a e)
 
 -- Looking for an answer, place by place: it stands here, or further on, or nowhere.
 pub listed-hit : (i a : ℕ) → i < length reasons → a ≡ reasonAt i .answer → isListedIn (drop i reasons) a ≡ true

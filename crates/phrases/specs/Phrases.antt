@@ -124,6 +124,9 @@ reasons =
     ∷ (of 16 (14 ∷ []) "the board's epoch is not the controller's")
     ∷ (of 16 (13 ∷ 15 ∷ []) "the controller's epoch is not the registry's")
     ∷ (any 16 "the epochs differ")
+    ∷ (any 17 "the image has a wrong length")
+    ∷ (any 18 "a number in the image is not valid")
+    ∷ (any 19 "the records in the image are wrongly linked")
     ∷ []
 
 abbrev pub has : ℕ → List ℕ → Bool

@@ -143,7 +143,7 @@ pub fn describe_record(bytes: &[u8], answer: usize, line: &mut [u8]) -> usize
 }
 
 // Two different pairs of record and answer never give the same line; each is one line; the list has the answers 0 to
-// 16; no line's length could be a refusal. Nothing to run: the promise is the statement.
+// 19; no line's length could be a refusal. Nothing to run: the promise is the statement.
 pub fn claim()
     ensures { λ r. ⌜ LinesDiffer × OneLine × Covers × LengthsTell × LinesHold × RoomHolds ⌝ }
 {}

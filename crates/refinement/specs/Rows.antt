@@ -1,5 +1,5 @@
--- What a row's type fixes, that an outline fixes its row and a set its mask. Cited by the promises of `steps::claim`
--- and `hub::claim`. Assumes nothing.
+-- What a row's type fixes, that an outline fixes its row and a set its mask. Cited by the promises of `steps::claim`,
+-- `hub::claim` and `image::claim`. Assumes nothing.
 use mathlib.Core.Path.{_≡_}
 use Prim.Native.Nat.{ℕ, _<_}
 use lib.ListN.{length}

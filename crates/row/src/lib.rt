@@ -8,6 +8,7 @@ ghost use Rattle.phrases.specs.Describe as Describe;
 ghost use Rattle.generator.specs.Seeded as Seeded;
 ghost use Rattle.model.specs.Members as Members;
 ghost use Rattle.members.specs.Mask.{bits};
+ghost use Rattle.archive.specs.Archive as Archive;
 
 // Sheet in, listing out: the listing's length, 2 for a sheet of wrong length or without a valid opening, 3 for a slice
 // that is shorter than the listing.
@@ -57,4 +58,26 @@ pub extern "C" fn describe_record(bytes: &[u8], answer: usize, line: &mut [u8]) 
         × (now (line .exit) ≡ Describe.left (now (bytes .entry)) answer (now (line .entry))) ⌝ }
 {
     phrases::describe_record(bytes, answer, &mut *line)
+}
+
+// Sheet in, the image of its row out (document 02, Paper 7): the image's length, 2 for a sheet of wrong length or without
+// a valid opening, then 3 for a slice that is shorter than the image; both leave the slice untouched.
+#[no_mangle]
+pub extern "C" fn save_sheet(sheet: &[u8], image: &mut [u8]) -> usize
+    ensures { λ r. ⌜ (r ≡ Archive.saveResult (now (sheet .entry)) (now (image .entry)))
+        × (now (image .exit) ≡ Archive.saveLeft (now (sheet .entry)) (now (image .entry))) ⌝ }
+{
+    archive::save_sheet(sheet, &mut *image)
+}
+
+// Image in, the lines of its row out: their length, 3 for a scratch that is too short, 17, 18 or 19 for the image, then
+// 3 for a slice that is shorter than the lines; all leave the slice untouched. Past the first of these the whole scratch
+// ends as zeros.
+#[no_mangle]
+pub extern "C" fn show_image(image: &[u8], text: &mut [u8], scratch: &mut [u8]) -> usize
+    ensures { λ r. ⌜ (r ≡ Archive.showResult (now (image .entry)) (now (text .entry)) (now (scratch .entry)))
+        × (now (text .exit) ≡ Archive.showLeft (now (image .entry)) (now (text .entry)) (now (scratch .entry)))
+        × (now (scratch .exit) ≡ Archive.scratchLeft (now (scratch .entry))) ⌝ }
+{
+    archive::show_image(image, &mut *text, &mut *scratch)
 }

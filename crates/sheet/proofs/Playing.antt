@@ -122,7 +122,7 @@ module _ (s : Text) (sheet : isSheet s ≡ true) (k : ℕ) (row : Cluster) (p : 
       ∙ is-true (inRange (outline (stateAt s k))) (in-range entries opening (sheet-real s sheet) past)
 
   -- The kept epochs are in range too.
-  kept-fits : T (keptInRange (stateAt s k))
+  pub kept-fits : T (keptInRange (stateAt s k))
   kept-fits = kept-in (terms-run opening (sheet-real s sheet) past)
 
   pub ran-terms : termsInRange (abs row p .committed) ≡ true

@@ -8,7 +8,7 @@ ghost use Rattle.model.specs.Trials.{TrialsHold};
 ghost use Rattle.records.specs.Bytes.{isSheet};
 ghost use Rattle.sheet.specs.Sheet.{answersOf, SampleHolds, SetsHold, RoomHolds, RefusedHolds, LengthsTell, result, left};
 
-mod running;
+pub mod running;
 
 // The papers' sample sheet has the papers' listing, byte for byte, and a sheet with large sets its own; short slices
 // and bad openings are refused; a listing of n records has 4 to 19 n + 8,650 bytes. By the definitions: nothing to run.

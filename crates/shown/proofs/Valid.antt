@@ -20,7 +20,7 @@ use Rattle.refinement.proofs.Turning.{at-none}
 use Rattle.shown.specs.Shown.{lengthsFit, valid}
 
 -- Ranges of the replicas are bounds for every number.
-bounded : {A : Type 0} (d : A) (xs : List A) (f : A → ℕ) (n : ℕ) → length xs ≡ 8 → f d ≤ n
+pub bounded : {A : Type 0} (d : A) (xs : List A) (f : A → ℕ) (n : ℕ) → length xs ≡ 8 → f d ≤ n
     → ((b : ℕ) → T (isReplica b) → f (at d xs b) ≤ n) → (b : ℕ) → f (at d xs b) ≤ n
 bounded d xs f n e z h zero = z
 bounded d xs f n e z h (suc b) = go (le-or-lt (suc b) 8)

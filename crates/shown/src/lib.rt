@@ -9,7 +9,7 @@ ghost use Rattle.shown.specs.Refusals.{RefusalsHold};
 use cluster::Cluster;
 
 // Whether the lent places have their lengths.
-fn lengths(store: &[u32], store2: &[u16], list: &[u32], list2: &[u16]) -> bool
+pub fn lengths(store: &[u32], store2: &[u16], list: &[u32], list2: &[u16]) -> bool
     ensures { λ r. ⌜
         r ≡ lengthsFit (lent (now (store .entry)) (now (store2 .entry)) (now (list .entry)) (now (list2 .entry)))
         ⌝ }

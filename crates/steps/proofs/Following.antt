@@ -3,6 +3,7 @@ use mathlib.Core.Bool.{true, cond}
 use mathlib.Core.List.{List, _∷_, _++_, map}
 use mathlib.Core.Path.{_≡_, refl, sym, subst, ap, _∙_}
 use Prim.Native.Nat.{ℕ}
+use native.Mathlib.Omega.{arith}
 use Rattle.model.specs.Prelude.{_⊑_}
 use Rattle.model.specs.Members.{none}
 use Rattle.model.specs.State.{RowState, entries, Entry, outline, Opening, openingWith, canOpen, opened}
@@ -17,9 +18,11 @@ use Rattle.model.proofs.Theorem.{opened-inv, step-keeps, run-append, safe}
 use Rattle.model.proofs.Bounds.{Bounds, opened-bounds, step-bounds, all-in}
 use Rattle.model.proofs.Made.{Kept, TermIn, kept-in, terms-opened, terms-step}
 use Rattle.cluster.specs.Layout.{bits, outlineOf}
-use Rattle.refinement.specs.Refinement.{Full}
+use Rattle.refinement.specs.Refinement.{Full, abs}
+use Rattle.image.specs.Keeping.{Resumes}
+use Rattle.image.proofs.Resuming.{resumes, read-full}
 use Rattle.steps.specs.Call.{valid}
-use Rattle.steps.specs.Calls.{Held, stateOf, Called, Calls, stop, call, Begins, Follows, CallsSafe}
+use Rattle.steps.specs.Calls.{Held, stateOf, Called, TakenUp, Calls, stop, call, resume, Begins, Follows, CallsSafe}
 use Rattle.shown.proofs.Valid.{all-tests}
 use Rattle.steps.proofs.Calling.{did-full}
 
@@ -74,6 +77,19 @@ goes {s} {st} {h} {h′} k m d =
       };
     }
 
+-- A row that is taken up from its image is the row that was kept: the caller holds the same state again.
+pub takes-up : {s : RowState} {h h′ : Held} → Holds s h → TakenUp h h′ → Holds s h′
+unfolding Resumes
+takes-up {s} {h} {h′} m t =
+    let r = resumes (h .row) (h .places) (t .typed) (t .out) (t .n) (t .out′) (t .saves) (t .written .0) (t .written .1)
+    (t .given .row) (t .given .places) (t .scratch) _ (h′ .places) (t .scratch′) (t .loads)
+    (λ e. omega (arith, e)) (λ e. omega (arith, e)) in
+    record {
+      state = ap (λ row. abs row (h′ .places)) (r .1) ∙ r .2 ∙ m .state;
+      outlined = ap outlineOf (r .1) ∙ m .outlined;
+      full = read-full (t .loads) (λ e. omega (arith, e)) (λ e. omega (arith, e));
+    }
+
 -- After calls of sts from s: the model's answers and sets, and the model's state.
 pub record Ends (s : RowState) (sts : List Step) (h : Held) (ns qs : List ℕ) : Type 0 where
   pub answered : ns ≡ answers entries s sts
@@ -94,6 +110,7 @@ follow (call {st = st} d cs) s k m =
       reached = z .reached;
       holds = z .holds;
     }
+follow (resume t cs) s k m = follow cs s k (takes-up m t)
 
 module _ (o : Opening) (h : Held) (start : Begins o h) where
   pub opening : Holds (opened o) h

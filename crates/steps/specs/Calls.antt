@@ -1,12 +1,13 @@
 -- Demand 3 about calls: the opening, then any list of calls, by record or by name, each with the row and the lent
--- places as the one before returned or left them. Cited by the promise of `steps::claim`, and by hub's, which adds the
--- calls over a lent controller. Assumes nothing.
+-- places as the one before returned or left them, or as an image gives them again that was written there. Cited by the
+-- promise of `steps::claim`, and by hub's, which adds the calls over a lent controller. Assumes nothing.
 use mathlib.Core.Bool.{true}
 use mathlib.Core.List.{List, [], _∷_, map}
 use mathlib.Core.Logic.{_≢_}
 use mathlib.Core.Path.{_≡_}
 use Prim.Native.Nat.{ℕ}
 use lib.Dec.{T}
+use lib.ListN.{take}
 use Rattle.model.specs.Prelude.{_⊑_}
 use Rattle.model.specs.State.{RowState, entries, outline, Opening, canOpen, opened}
 use Rattle.model.specs.Steps.{Step, append, commit, add, remove, changeLeader, refresh, join, receive, acknowledge, refreshController, readLeader, read, setNormal, hear, install}
@@ -16,6 +17,9 @@ use Rattle.model.specs.Records.{bare, of, ofBoth, ofValue}
 use Rattle.cluster.specs.declared.Cluster.{Cluster}
 use Rattle.cluster.specs.Layout.{bits, outlineOf}
 use Rattle.refinement.specs.Refinement.{Places, Full, abs}
+use Rattle.refinement.specs.Rows.{Typed}
+use Rattle.text.specs.Text.{Text}
+use Rattle.image.specs.Keeping.{Saves, Loads}
 use Rattle.steps_central.specs.Opening.{Opens}
 use Rattle.steps.specs.Call.{valid, Did}
 
@@ -32,12 +36,33 @@ stateOf h = abs (h .row) (h .places)
 abbrev pub Called : Step → Held → Held → ℕ → ℕ → Type 0
 Called st h h′ n q = Did st (h .row) (h .places) (record { answer = n; behind = q; row = h′ .row }) (h′ .places)
 
+-- "The hub must store a row and take it up again" (document 02, Paper 7): the writer took what the caller holds, h, and
+-- left out′ in its slice, of which the first n bytes are the image; the reader took these, and the caller holds h′ then.
+-- In between, any calls may have been made; the reader is given any row, any places, any scratch.
+pub record TakenUp (h h′ : Held) : Type 0 where
+  -- What the row's type fixes.
+  pub typed : Typed (h .row)
+  pub out : Text
+  pub n : ℕ
+  pub out′ : Text
+  pub saves : Saves (h .row) (h .places) out n out′
+  pub written : (n ≢ 1) × (n ≢ 3)
+  pub given : Held
+  pub scratch : Text
+  pub scratch′ : Text
+  pub loads :
+      Loads (take n out′) (given .row) (given .places) scratch (record { answer = 0; row = h′ .row }) (h′ .places) scratch′
+
 -- Calls one after the other, their answers and the masks of those behind them. A call by name is one of its step; the
--- call of a record is one of the step that the record stands for, which may be malformed.
+-- call of a record is one of the step that the record stands for, which may be malformed. Anywhere, and any number of
+-- times, the row may have been kept in an image and taken up again: "demand 3 holds for the steps before the image and
+-- those after its reading as one list. Steps between, and what tills were told then, are left out."
 pub data Calls : Held → List Step → Held → List ℕ → List ℕ → Type 0 where
   stop : {h : Held} → Calls h [] h [] []
   call : {h h′ h″ : Held} {st : Step} {sts : List Step} {n q : ℕ} {ns qs : List ℕ}
       → Called st h h′ n q → Calls h′ sts h″ ns qs → Calls h (st ∷ sts) h″ (n ∷ ns) (q ∷ qs)
+  resume : {h h′ h″ : Held} {sts : List Step} {ns qs : List ℕ}
+      → TakenUp h h′ → Calls h′ sts h″ ns qs → Calls h sts h″ ns qs
 
 -- The caller has made the opening o, and was lent places of their lengths that may hold anything.
 pub record Begins (o : Opening) (h : Held) : Type 0 where

@@ -1,0 +1,12 @@
+-- `archive::sample` meets its contract. Assumes nothing.
+use mathlib.Core.Path.{refl}
+use Rattle.archive.specs.Archive.{SampleHolds}
+use Rattle.archive.proofs.Lengths.{sample-holds, lengths-tell}
+use Rattle.archive.proofs.sample.Statement.{statement}
+use Rattle.archive.proofs.sample.Tie as tie
+
+returns : tie.Need-returns
+returns c = (sample-holds, lengths-tell)
+
+pub sample-spec : {M : Type 1} → statement M
+sample-spec = tie.close (tie.spec returns)

@@ -1,0 +1,4 @@
+pub mod Back
+pub mod Eights
+pub mod Filled
+pub mod Typed

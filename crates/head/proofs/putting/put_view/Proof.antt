@@ -1,0 +1,31 @@
+-- `head::putting::put_view` meets its contract. Assumes nothing.
+use Rattle.text.proofs.Laws.{then}
+use Rattle.head.proofs.Back.{mask-back}
+use borrow.Author.Needs.{needs}
+use Rattle.head.proofs.putting.put_view.Statement.{statement}
+use Rattle.head.proofs.putting.put_view.Tie as tie
+
+put-epochs-requires : tie.Need-put-epochs-requires
+put-epochs-requires c κs = search needs
+
+slice-aggregate-put-bytes : tie.Need-slice-aggregate-put-bytes
+slice-aggregate-put-bytes c = search needs
+
+put-bytes-requires : tie.Need-put-bytes-requires
+put-bytes-requires c κs = search needs
+
+same-length : tie.Need-same-length
+same-length c = search needs
+
+returns : tie.Need-returns
+returns c =
+    let d = c .before .before in
+    let e = d .before .before .before .before .before in
+    let a = e .before .before .before in
+    rw (mask-back (a .args .v .members) (a .good .1 .1 .0 .1 .1 .1 .1 .1 .0 .1))
+    (then (e .put-epochs .ensures) (d .put-bytes .ensures))
+
+pub put-view-spec : {M : Type 1} → statement M
+put-view-spec =
+    tie.close
+    (tie.spec put-epochs-requires slice-aggregate-put-bytes put-bytes-requires same-length returns)

@@ -1,0 +1,5 @@
+pub mod Fitting
+pub mod Reading
+pub mod Writing
+pub mod Returning
+pub mod Resuming
