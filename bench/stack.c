@@ -1,6 +1,7 @@
 /*
- * stack SHEET...: how deep run_sheet and explain_sheet go into the stack, for each
- * sheet, describe_record, for every answer, seed_sheet, for the longest sheet of a
+ * stack IMAGE SHEET...: how deep run_sheet, explain_sheet and save_sheet go into the
+ * stack, for each sheet, show_image, for the image of each sheet and the one that is
+ * named, describe_record, for every answer, seed_sheet, for the longest sheet of a
  * seed, and look_up_majority, for every set.
  *
  * The call is made on a stack of its own, painted before; the first byte from
@@ -23,6 +24,7 @@ enum { STACK_LEN = 1 << 20 };
 typedef size_t (*runner)(const uint8_t *, size_t, uint8_t *, size_t);
 typedef size_t (*describer)(const uint8_t *, size_t, size_t, uint8_t *, size_t);
 typedef size_t (*maker)(uint32_t, size_t, uint8_t *, size_t);
+typedef size_t (*shower)(const uint8_t *, size_t, uint8_t *, size_t, uint8_t *, size_t);
 typedef uint8_t (*looker)(uint8_t);
 
 static uint8_t stack[STACK_LEN];
@@ -30,11 +32,15 @@ static uint8_t sheet[ROW_SHEET_LEN(ROW_RECORDS_MAX) + 1];
 static size_t sheet_len;
 /* A listing or, longer, the lines in words. */
 static uint8_t listing[ROW_TEXT_LEN(ROW_RECORDS_MAX)];
+static uint8_t image[ROW_IMAGE_LEN + 1];
+static size_t image_len;
+static uint8_t scratch[ROW_SCRATCH_LEN];
 
 static ucontext_t here, there;
 static runner run;
 static describer describe;
 static maker make;
+static shower show;
 static looker look;
 static size_t result;
 
@@ -47,13 +53,18 @@ static void call_describe(void)
 {
     size_t answer;
 
-    for (answer = 0; answer <= 16; answer++)
+    for (answer = 0; answer <= 19; answer++)
         result = describe(sheet, ROW_RECORD_LEN, answer, listing, ROW_LINE_LEN);
 }
 
 static void call_make(void)
 {
     result = make(1, ROW_RECORDS_MAX, sheet, sizeof sheet);
+}
+
+static void call_show(void)
+{
+    result = show(image, image_len, listing, ROW_IMAGE_TEXT_LEN, scratch, sizeof scratch);
 }
 
 static void call_look(void)
@@ -81,6 +92,13 @@ static size_t describe_nothing(const uint8_t *in, size_t in_len, size_t answer, 
 static size_t make_nothing(uint32_t seed, size_t count, uint8_t *out, size_t out_len)
 {
     (void)seed, (void)count, (void)out, (void)out_len;
+    return 0;
+}
+
+static size_t show_nothing(const uint8_t *in, size_t in_len, uint8_t *out, size_t out_len,
+                           uint8_t *lent, size_t lent_len)
+{
+    (void)in, (void)in_len, (void)out, (void)out_len, (void)lent, (void)lent_len;
     return 0;
 }
 
@@ -138,27 +156,47 @@ static size_t make_depth(maker m)
     return deepest(call_make);
 }
 
+static size_t show_depth(shower s)
+{
+    show = s;
+    return deepest(call_show);
+}
+
 static size_t look_depth(looker l)
 {
     look = l;
     return deepest(call_look);
 }
 
+/* Reads a file into a slice: how many bytes it has, but no more than these. */
+static size_t take(const char *name, uint8_t *to, size_t room)
+{
+    FILE *file = fopen(name, "rb");
+    size_t len;
+
+    if (file == NULL) {
+        perror(name);
+        exit(2);
+    }
+    len = fread(to, 1, room, file);
+    fclose(file);
+    return len;
+}
+
 int main(int argc, char **argv)
 {
     const size_t address = sizeof(void (*)(void));
-    size_t before = run_depth(run_nothing) - address, most = 0, told = 0, mark;
+    size_t before = run_depth(run_nothing) - address;
+    size_t before_show = show_depth(show_nothing) - address;
+    size_t most = 0, told = 0, saved = 0, shown = 0, mark;
     int n;
 
-    for (n = 1; n < argc; n++) {
-        FILE *file = fopen(argv[n], "rb");
-
-        if (file == NULL) {
-            perror(argv[n]);
-            return 2;
-        }
-        sheet_len = fread(sheet, 1, sizeof sheet, file);
-        fclose(file);
+    if (argc < 2) {
+        fputs("usage: stack IMAGE SHEET...\n", stderr);
+        return 2;
+    }
+    for (n = 2; n < argc; n++) {
+        sheet_len = take(argv[n], sheet, sizeof sheet);
         mark = run_depth(run_sheet) - before;
         if (mark > most)
             most = mark;
@@ -167,9 +205,21 @@ int main(int argc, char **argv)
         mark = run_depth(explain_sheet) - before;
         if (mark > told)
             told = mark;
+        mark = run_depth(save_sheet) - before;
+        if (mark > saved)
+            saved = mark;
+        image_len = save_sheet(sheet, sheet_len, image, sizeof image);
+        mark = show_depth(show_image) - before_show;
+        if (mark > shown)
+            shown = mark;
     }
     printf("%8zu  the most\n", most);
     printf("%8zu  explain_sheet, the most of these sheets\n", told);
+    printf("%8zu  save_sheet, the most of these sheets\n", saved);
+    printf("%8zu  show_image, the most of these sheets' images\n", shown);
+    image_len = take(argv[1], image, sizeof image);
+    mark = show_depth(show_image) - before_show;
+    printf("%8zu  show_image, %s (%zu bytes, result %zu)\n", mark, argv[1], image_len, result);
     before = describe_depth(describe_nothing) - address;
     mark = describe_depth(describe_record) - before;
     printf("%8zu  describe_record (every answer, the last result %zu)\n", mark, result);

@@ -31,6 +31,16 @@ enum { TEXT_LEN = ROW_TEXT_LEN(1 + 1) };
 #error "the refusals of a line are 1 and 3, and that of a text, beside 2 for the sheet, is 3"
 #endif
 
+#if ROW_IMAGE_HEAD_LEN != 258 || ROW_IMAGE_LEN != 258 + 8 * 4608 || ROW_SCRATCH_LEN != 4608
+#error "an image has 258 bytes and 8 times 0 to 4,608, a scratch 4,608"
+#endif
+#if ROW_IMAGE_TEXT_LEN != ROW_LISTING_LEN(0)
+#error "the lines of an image are a listing's after its records"
+#endif
+#if ROW_SHORT_IMAGE != 3 || ROW_SHORT_SCRATCH != 3
+#error "a slice too short is 3"
+#endif
+
 /* C99 has no static assertion: an array of a negative length does not compile. */
 #define SAME(name, number) typedef char same_##name[(name) == (number) ? 1 : -1]
 
@@ -66,6 +76,9 @@ SAME(ROW_REFUSED_LOG_FULL, 13);
 SAME(ROW_REFUSED_NO_MAJORITY, 14);
 SAME(ROW_REFUSED_STAGE, 15);
 SAME(ROW_REFUSED_EPOCHS_DIFFER, 16);
+SAME(ROW_REFUSED_IMAGE_LENGTH, 17);
+SAME(ROW_REFUSED_IMAGE_NUMBER, 18);
+SAME(ROW_REFUSED_IMAGE_LINKS, 19);
 
 /*
  * The sample's listing has so many bytes: document 01's 285, @1 after the receipt's value,
@@ -164,7 +177,7 @@ static int describe(void)
 
     if (describe_record(record, sizeof record, ROW_REFUSED_JOINING, line, sizeof line) != ROW_NO_LINE)
         return 31;
-    if (describe_record(record, ROW_RECORD_LEN, 17, line, 0) != ROW_NO_LINE)
+    if (describe_record(record, ROW_RECORD_LEN, 20, line, 0) != ROW_NO_LINE)
         return 32;
     if (describe_record(record, ROW_RECORD_LEN, ROW_REFUSED_JOINING, line, len - 1) != ROW_SHORT_LINE)
         return 33;
@@ -201,6 +214,51 @@ static int explain(void)
     return memcmp(text, words, len) == 0 && text[len] == 0 ? 0 : 46;
 }
 
+/* A row opened with board 1 is kept and shown, document 02, Paper 7. Returns as above. */
+static int keep(void)
+{
+    static const uint8_t sheet[ROW_RECORD_LEN] = {ROW_STEP_OPENING, 1, 0, 0, 0, 0, 0, 0};
+    /* Epoch 1, leader epoch 1, leader 1, members {1}, normal; then the controller. */
+    static const uint8_t start[] = {1, 0, 1, 0, 1, 1, 0, 0, 1, 0, 1, 0, 1, 1, 0, 0, 255, 255, 0, 0};
+    static const char first[] = "registry 1 1 1 1 normal\ncontrol 1 1 1 1 idle\nboard 1 1 1 1 1 1 0 current\n";
+    static const char last[] = "board 8 1 1 1 1 1 0 current\nreceipts 0\n";
+    static uint8_t image[ROW_IMAGE_LEN], text[ROW_IMAGE_TEXT_LEN], scratch[ROW_SCRATCH_LEN + 1];
+    const size_t len = ROW_IMAGE_HEAD_LEN, last_len = sizeof last - 1;
+    size_t n, i;
+
+    if (save_sheet(sheet, 0, image, sizeof image) != ROW_BAD_SHEET)
+        return 51;
+    if (save_sheet(sheet, sizeof sheet, image, len - 1) != ROW_SHORT_IMAGE || image[0] != 0)
+        return 52;
+    if (save_sheet(sheet, sizeof sheet, image, len) != len || memcmp(image, start, sizeof start) != 0)
+        return 53;
+    memset(scratch, 7, sizeof scratch);
+    if (show_image(image, 0, text, 0, scratch, ROW_SCRATCH_LEN - 1) != ROW_SHORT_SCRATCH || scratch[0] != 7)
+        return 54;
+    if (show_image(image, len + 1, text, sizeof text, scratch, ROW_SCRATCH_LEN) != ROW_REFUSED_IMAGE_LENGTH)
+        return 55;
+    if (scratch[0] != 0 || scratch[ROW_SCRATCH_LEN] != 7)
+        return 56;
+    image[7] = 1;
+    if (show_image(image, len, text, sizeof text, scratch, sizeof scratch) != ROW_REFUSED_IMAGE_NUMBER)
+        return 57;
+    image[7] = 0;
+    image[256] = 1;
+    if (show_image(image, len, text, sizeof text, scratch, sizeof scratch) != ROW_REFUSED_IMAGE_LINKS)
+        return 58;
+    image[256] = 0;
+    if (show_image(image, len, text, sizeof first, scratch, sizeof scratch) != ROW_SHORT_TEXT || text[0] != 0)
+        return 59;
+    memset(scratch, 7, sizeof scratch);
+    n = show_image(image, len, text, sizeof text, scratch, sizeof scratch);
+    if (n < 20 || memcmp(text, first, sizeof first - 1) != 0 || memcmp(text + n - last_len, last, last_len) != 0)
+        return 60;
+    for (i = 0; i < sizeof scratch; i++)
+        if (scratch[i] != 0)
+            return 61;
+    return text[n] == 0 ? 0 : 62;
+}
+
 int main(void)
 {
     int wrong = run_sample();
@@ -211,5 +269,7 @@ int main(void)
         wrong = look_up();
     if (wrong == 0)
         wrong = describe();
-    return wrong != 0 ? wrong : explain();
+    if (wrong == 0)
+        wrong = explain();
+    return wrong != 0 ? wrong : keep();
 }

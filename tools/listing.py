@@ -76,6 +76,12 @@ def tell(listing, text):
     return listing._replace(told=[tell_answer(*pair) for pair in zip(listing.answers, lines, strict=True)])
 
 
+def number(listing):
+    """The listing with its answers told by their numbers alone."""
+    told = [f"refused {answer}" if answer else "accepted" for answer in listing.answers]
+    return listing._replace(told=told)
+
+
 def table(rows):
     """Rows of equal columns under their names: numbers to the right, words and sets to the left."""
     columns = list(zip(*rows))
@@ -105,7 +111,8 @@ def in_words(steps, listing):
     receipts = f"receipts: {len(listing.receipts)}"
     if listing.receipts:
         receipts += ", as value@epoch: " + " ".join(listing.receipts)
-    parts = [*table(records(steps, listing)), "", *table(views), "", *table(boards), "", receipts]
+    parts = [*table(records(steps, listing)), ""] if steps else []
+    parts += [*table(views), "", *table(boards), "", receipts]
     return "".join(part + "\n" for part in parts)
 
 

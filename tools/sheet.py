@@ -274,10 +274,15 @@ def messages(error, name=""):
 # Reading and writing
 
 
+def read_up_to(descriptor, most):
+    """The bytes of an open file, no more than so many."""
+    with open(descriptor, "rb", closefd=False) as file:
+        return file.read(most)
+
+
 def read_all(descriptor):
     """All bytes of an open file."""
-    with open(descriptor, "rb", closefd=False) as file:
-        data = file.read(BYTES_MAX + 1)
+    data = read_up_to(descriptor, BYTES_MAX + 1)
     if len(data) > BYTES_MAX:
         raise wrong(f"it has more than {BYTES_MAX} bytes, which no sheet has")
     return data

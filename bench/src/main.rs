@@ -1,11 +1,14 @@
-//! bench DIRECTORY [SEED]
-//! bench calls run_sheet|peer_sheet|explain_sheet|peer_explain SHEET...
+//! bench DIRECTORY [--only TABLE] [SEED]
+//! bench calls run_sheet|peer_sheet|explain_sheet|peer_explain|save_sheet|peer_save SHEET...
 //! bench calls seed_sheet|peer_seed 'SEED COUNT'...
+//! bench calls show_image|peer_show IMAGE...
 //!
-//! The first times `run_sheet`, `explain_sheet` and the second program on the same
-//! sheets, and `seed_sheet` and the second program on the same seeds, has callgrind
-//! count their instructions, and prints a table of each. It leaves the sheets in the directory.
-//! The others call one of the programs once for each sheet in a file, or for each
+//! The first times `run_sheet`, `explain_sheet`, `save_sheet` and the second program on the
+//! same sheets, `seed_sheet` and the second program on the same seeds, and `show_image` and
+//! the second program on the same images, has callgrind count their instructions, and
+//! prints a table of each, or the one alone: sheets, words, seeds, images or saved. It leaves
+//! the sheets and the images in the directory.
+//! The others call one of the programs once for each sheet or image in a file, or for each
 //! seed; this is what callgrind counts.
 
 mod programs;
@@ -20,9 +23,11 @@ use std::process::{Command, ExitCode};
 use std::time::Instant;
 use std::{env, fs};
 
+const USAGE: &str = "usage: bench DIRECTORY [--only sheets|words|seeds|images|saved] [SEED]";
 const SEED: u64 = 1;
 const ROUNDS: usize = 301;
-/// Room for any listing, and for any sheet.
+/// Room for any listing, for any sheet, for any image, and for the lines of any image
+/// with the scratch.
 const ROOM: usize = 86_455;
 /// Room for any text in words.
 const TEXT_ROOM: usize = 96 * peer::RECORDS_MAX;
@@ -32,12 +37,9 @@ fn main() -> ExitCode {
     let words: Vec<&str> = args.iter().map(String::as_str).collect();
     let done = match words[..] {
         ["calls", name, ref inputs @ ..] => calls(name, inputs),
-        [directory] => bench(Path::new(directory), SEED),
-        [directory, seed] => match seed.parse() {
-            Ok(seed) => bench(Path::new(directory), seed),
-            Err(_) => Err("the seed is a number".into()),
-        },
-        _ => Err("usage: bench DIRECTORY [SEED]".into()),
+        [directory, "--only", what, ref rest @ ..] => bench(Path::new(directory), Some(what), rest),
+        [directory, ref rest @ ..] => bench(Path::new(directory), None, rest),
+        _ => Err(USAGE.into()),
     };
     match done {
         Ok(()) => ExitCode::SUCCESS,
@@ -55,6 +57,8 @@ fn calls(name: &str, words: &[&str]) -> Result<(), Box<dyn Error>> {
         let input = match name {
             "run_sheet" | "peer_sheet" => Input::Sheet(fs::read(word)?),
             "explain_sheet" | "peer_explain" => Input::Told(fs::read(word)?),
+            "save_sheet" | "peer_save" => Input::Saved(fs::read(word)?),
+            "show_image" | "peer_show" => Input::Image(fs::read(word)?),
             _ => {
                 let line = format!("{word}\n");
                 let (seed, count) = peer::seed::read(line.as_bytes()).ok_or("no such seed")?;
@@ -67,31 +71,72 @@ fn calls(name: &str, words: &[&str]) -> Result<(), Box<dyn Error>> {
     Ok(())
 }
 
-fn bench(directory: &Path, seed: u64) -> Result<(), Box<dyn Error>> {
-    let (sheets, told, seeds) = (sheets::all(seed), sheets::told(), sheets::seeds());
-    sheets
-        .iter()
-        .chain(&told)
-        .chain(&seeds)
-        .try_for_each(agree)?;
-    let (run, explained, made) = (take(&sheets), take(&told), take(&seeds));
+fn bench(directory: &Path, only: Option<&str>, rest: &[&str]) -> Result<(), Box<dyn Error>> {
+    let seed = match rest {
+        [] => SEED,
+        [seed] => seed.parse().map_err(|_| "the seed is a number")?,
+        _ => return Err(USAGE.into()),
+    };
+    let mut tables = vec![
+        ("sheets", sheets::all(seed)),
+        ("words", sheets::told()),
+        ("seeds", sheets::seeds()),
+        ("images", sheets::images(seed)),
+        ("saved", sheets::saved(seed)),
+    ];
+    let mut sets = tables.iter().flat_map(|(_, sets)| sets);
+    // Also those of tables that are left out: their stack is measured.
+    sets.try_for_each(|set| keep(directory, set).map(drop))?;
+    tables.retain(|(what, _)| only.is_none_or(|only| only == *what));
+    if tables.is_empty() {
+        return Err(USAGE.into());
+    }
+    for (_, sets) in &tables {
+        sets.iter().try_for_each(agree)?;
+    }
+    let times: Vec<_> = tables.iter().map(|(_, sets)| take(sets)).collect();
     let counted = Command::new("valgrind").arg("--version").output().is_ok();
-    println!("{}", about(seed, &seeds));
-    let guided = table("sheets", directory, &sheets, &run, counted)?;
-    println!();
-    println!(
-        "A record of a guided sheet of 4,095 takes {:.2} times the time of one of 1,000, and",
-        guided[2] / guided[1]
-    );
-    println!("{:.2} times the time of one of 100.", guided[2] / guided[0]);
-    println!();
-    table("words", directory, &told, &explained, counted)?;
-    println!();
-    table("seeds", directory, &seeds, &made, counted)?;
+    print!("{}", about(seed, &sheets::seeds()));
+    for ((what, sets), times) in tables.iter().zip(&times) {
+        println!();
+        let costs = table(what, directory, sets, times, counted)?;
+        match *what {
+            "sheets" => more_records(&costs),
+            "images" => more_entries(sets, &costs),
+            _ => {}
+        }
+    }
     if !counted {
         println!("valgrind is not there: no instructions were counted.");
     }
     Ok(())
+}
+
+/// What a record of a long guided sheet takes beside one of a shorter sheet.
+fn more_records(costs: &[Cost]) {
+    let times = |n: usize| costs[2].time / costs[n].time;
+    println!();
+    println!(
+        "A record of a guided sheet of 4,095 takes {:.2} times the time of one of 1,000, and",
+        times(1)
+    );
+    println!("{:.2} times the time of one of 100.", times(0));
+}
+
+/// What each entry adds to the cost of an empty image: the first set has none.
+fn more_entries(sets: &[Set], costs: &[Cost]) {
+    let (none, some) = costs.split_first().expect("an empty image");
+    println!();
+    println!("Each entry adds 8 bytes to an image, and to a call on the empty one:");
+    for (set, cost) in sets[1..].iter().zip(some) {
+        let each = |more: f64| more / set.records as f64;
+        print!("  {:<12}", set.name);
+        print!(" {:>6.2} ns", each(cost.time - none.time));
+        match (cost.instructions, none.instructions) {
+            (Some(some), Some(none)) => println!(" {:>6.1} instructions", each(some - none)),
+            _ => println!(),
+        }
+    }
 }
 
 /// What the tables are of.
@@ -102,9 +147,14 @@ fn about(seed: u64, seeds: &[Set]) -> String {
     };
     format!(
         "\
-Guided sheets from seed {seed}. Seeded sheets as `seed_sheet` makes them; anyone can make
-the same, such as the first of 4,095 records: echo '1 4095' | target/bin/seedsheet
+Guided sheets, and the values of images, from seed {seed}. Seeded sheets as `seed_sheet`
+makes them; anyone can make the same, such as the first of 4,095 records:
+echo '1 4095' | target/bin/seedsheet
 {}
+Images of nine lists that are as long as each other, of eight full logs without receipts
+(only-logs), and of nine full lists numbered at random (renumbered). To show an image is
+to read it and to write the lines of its row, the receipts among them, in both programs.
+To save a sheet is to run it, with no listing, and to write the image of its row.
 Times: for each input the median of {ROUNDS} calls, the two programs in turn, in a slice
 as the call before left it; `cleared` is the ratio in a slice that is cleared before
 each call (not timed). Both programs clear their own arrays in each call.
@@ -114,25 +164,41 @@ Instructions: callgrind's count, of one call an input.
     )
 }
 
-/// Prints a table with a line for each set. Returns the library's nanoseconds a record.
+/// What a record, or a call, costs the library.
+struct Cost {
+    time: f64,
+    instructions: Option<f64>,
+}
+
+/// Prints a table with a line for each set. Returns what a record costs the library, or a
+/// call where images are read: an image may have no record.
 fn table(
     what: &str,
     directory: &Path,
     sets: &[Set],
     times: &[[Times; 2]],
     counted: bool,
-) -> Result<Vec<f64>, Box<dyn Error>> {
+) -> Result<Vec<Cost>, Box<dyn Error>> {
     let [name, peer] = sets[0].inputs[0].names();
-    println!("{}", head(what, name));
-    let mut taken = Vec::new();
+    println!("{}", head(what, &sets[0].inputs[0]));
+    let mut costs = Vec::new();
     for (set, [left, cleared]) in sets.iter().zip(times) {
         let (number, records) = (set.inputs.len(), set.records);
-        let all = (number * records) as f64;
-        let [ours, theirs] = [0, 1].map(|n| left.total(n) / all);
         print!("{:<12} {number:>6} {records:>7}", set.name);
+        let all = match &set.inputs[0] {
+            Input::Image(image) => {
+                print!(" {:>7}", image.len());
+                number as f64
+            }
+            _ => (number * records) as f64,
+        };
+        let [ours, theirs] = [0, 1].map(|n| left.total(n) / all);
         print!(" {ours:>10.1} {theirs:>9.1}");
         print!(" {:>7.2} {:>7.2}", left.ratio(), cleared.ratio());
-        taken.push(ours);
+        let mut cost = Cost {
+            time: ours,
+            instructions: None,
+        };
         let words = keep(directory, set)?;
         let count = |program| -> Result<f64, Box<dyn Error>> {
             Ok(instructions(directory, program, &words)? as f64 / all)
@@ -140,39 +206,49 @@ fn table(
         if counted {
             let (ours, theirs) = (count(name)?, count(peer)?);
             println!(" {ours:>10.1} {theirs:>9.1} {:>7.2}", ours / theirs);
+            cost.instructions = Some(ours);
         } else {
             println!(" {:>10} {:>9} {:>7}", "-", "-", "-");
         }
+        costs.push(cost);
     }
-    Ok(taken)
+    Ok(costs)
 }
 
-/// The head of a table of what is given to the library's entry of this name.
-fn head(what: &str, name: &str) -> String {
-    let above = "ns a record               cleared  instructions a record";
+/// The head of a table of inputs like this one.
+fn head(what: &str, input: &Input) -> String {
+    let [name, _] = input.names();
+    let (bytes, unit) = match input {
+        Input::Image(_) => ("   bytes", "call"),
+        _ => ("", "record"),
+    };
+    let first = format!("{what:<12} number records{bytes} ");
     let names = format!("{name:>10}      peer   ratio");
-    format!(
-        "{:32}{above}\n{what:<12} number records {names}   ratio {names}",
-        ""
-    )
+    let time = format!("ns a {unit}");
+    let above = format!("{time:<26}cleared  instructions a {unit}");
+    let width = first.len() + 4;
+    format!("{:width$}{above}\n{first}{names}   ratio {names}", "")
 }
 
-/// Leaves the sheets of a set in files. Returns the words that name its inputs.
+/// Leaves the sheets or images of a set in files. Returns the words that name its inputs.
 fn keep(directory: &Path, set: &Set) -> Result<Vec<OsString>, Box<dyn Error>> {
     let mut words = Vec::new();
     for (n, input) in (1..).zip(&set.inputs) {
-        words.push(match input {
-            Input::Sheet(sheet) | Input::Told(sheet) => {
-                let name = match set.inputs.len() {
-                    1 => format!("{}.sheet", set.name),
-                    _ => format!("{}-{n}.sheet", set.name),
-                };
-                let file = directory.join(name);
-                fs::write(&file, sheet)?;
-                file.into()
+        let (bytes, kind) = match input {
+            Input::Sheet(sheet) | Input::Told(sheet) | Input::Saved(sheet) => (sheet, "sheet"),
+            Input::Image(image) => (image, "image"),
+            Input::Seed(seed, count) => {
+                words.push(format!("{seed} {count}").into());
+                continue;
             }
-            Input::Seed(seed, count) => format!("{seed} {count}").into(),
-        });
+        };
+        let name = match set.inputs.len() {
+            1 => format!("{}.{kind}", set.name),
+            _ => format!("{}-{n}.{kind}", set.name),
+        };
+        let file = directory.join(name);
+        fs::write(&file, bytes)?;
+        words.push(file.into());
     }
     Ok(words)
 }

@@ -1,9 +1,11 @@
-//! The sheets that are run, and the seeds that sheets are made from.
+//! The sheets that are run, the seeds that sheets are made from, and the images that are
+//! read.
 
 use crate::programs::Input;
 use generate::{guided, record, Rng};
 use peer::row::{Row, LOG_MAX};
-use peer::RECORDS_MAX;
+use peer::{image, RECORDS_MAX};
+use std::array;
 
 /// How many sheets of a seed, and of how many records: those of seeds 1, 2 and so on.
 const SEEDED: [(u32, usize); 2] = [(64, 100), (8, RECORDS_MAX)];
@@ -15,13 +17,22 @@ pub struct Set {
     pub inputs: Vec<Input>,
 }
 
-/// Sheets to run: enough of each size that no program knows their steps by heart.
-pub fn all(seed: u64) -> Vec<Set> {
-    let guided = [(64, 100), (16, 1000), (8, RECORDS_MAX)].map(|(number, records)| {
+/// Guided sheets: enough of each size that no program knows their steps by heart.
+fn all_guided(seed: u64, input: fn(Vec<u8>) -> Input) -> [Set; 3] {
+    [(64, 100), (16, 1000), (8, RECORDS_MAX)].map(|(number, records)| {
         let mut seeds = Rng::new(seed);
         let sheets = (0..number).map(|_| guided(Rng::new(seeds.draw()), records));
-        set(&format!("guided-{records}"), sheets.collect())
-    });
+        Set {
+            name: format!("guided-{records}"),
+            records,
+            inputs: sheets.map(input).collect(),
+        }
+    })
+}
+
+/// Sheets to run.
+pub fn all(seed: u64) -> Vec<Set> {
+    let guided = all_guided(seed, Input::Sheet);
     let seeded = seeds().into_iter().map(|seeds| {
         let sheets = seeds.inputs.iter().map(made);
         set(&format!("seeded-{}", seeds.records), sheets.collect())
@@ -57,6 +68,78 @@ pub fn told() -> Vec<Set> {
             .collect(),
     };
     seeds().into_iter().map(few).collect()
+}
+
+/// Sheets to run and save: the guided ones.
+pub fn saved(seed: u64) -> Vec<Set> {
+    all_guided(seed, Input::Saved).into()
+}
+
+/// Images to read, of values drawn from the seed: of nine lists as long as each other, but
+/// for one entry; of eight full logs without receipts; and the longest ones again, each in a
+/// numbering drawn for it.
+pub fn images(seed: u64) -> Vec<Set> {
+    let mut rng = Rng::new(seed);
+    let alike = [0, 512, 2304, image::RECORDS_MAX].map(|records| {
+        // What is left over goes to the first ones: no log is longer than board 1's.
+        let lists = array::from_fn(|n| records / 9 + usize::from(n < records % 9));
+        image_set(&format!("image-{records}"), lists, || {
+            image_of(lists, &mut rng)
+        })
+    });
+    let mut logs = [LOG_MAX; 9];
+    logs[8] = 0;
+    let others = [
+        image_set("only-logs", logs, || image_of(logs, &mut rng)),
+        image_set("renumbered", [LOG_MAX; 9], || {
+            let image = image_of([LOG_MAX; 9], &mut rng);
+            renumber(&image, &mut rng)
+        }),
+    ];
+    alike.into_iter().chain(others).collect()
+}
+
+/// Eight images with lists of these lengths.
+fn image_set(name: &str, lists: [usize; 9], mut image: impl FnMut() -> Vec<u8>) -> Set {
+    Set {
+        name: name.into(),
+        records: lists.iter().sum(),
+        inputs: (0..8).map(|_| Input::Image(image())).collect(),
+    }
+}
+
+/// The image of a row with lists of these lengths, the receipts' last; no log is longer than
+/// board 1's, and no list is shorter than the receipts.
+fn image_of(lists: [usize; 9], rng: &mut Rng) -> Vec<u8> {
+    let [logs @ .., receipts] = lists;
+    let mut row = Row::open(1).expect("board 1 opens");
+    let mut step = |step, a, b, value| {
+        let outcome = row.step(&record(step, a, b, value));
+        assert_eq!(outcome.answer, 0, "step {step} of {a}");
+    };
+    (2..=8).for_each(|b| step(3, b, 0, 0));
+    (1..=8).for_each(|b| step(6, b, 0, 0));
+    (0..logs[0]).for_each(|_| step(1, 1, 0, rng.draw() as u32));
+    for (b, length) in (2..).zip(&logs[1..]) {
+        (0..*length).for_each(|_| step(8, b, 0, 0));
+        if *length > 0 {
+            step(9, 1, b, 0);
+        }
+    }
+    (0..receipts).for_each(|_| step(2, 1, 0, 0));
+    let image = image::write(&row);
+    assert_eq!(image.len(), image::HEAD + 8 * lists.iter().sum::<usize>());
+    image
+}
+
+/// The image with its records in any order.
+fn renumber(image: &[u8], rng: &mut Rng) -> Vec<u8> {
+    let records = (image.len() - image::HEAD) / 8;
+    let mut numbers: Vec<u16> = (1..=records as u16).collect();
+    for n in (1..records).rev() {
+        numbers.swap(n, rng.below(n + 1));
+    }
+    image::renumbered(image, &numbers)
 }
 
 /// The sheet that the library makes.

@@ -1,9 +1,11 @@
 #!/usr/bin/env python3
-"""Tests of tools/run-sheet, with the programs that RUNSHEET, SEEDSHEET and EXPLAINSHEET name.
+"""Tests of tools/run-sheet, with the programs that RUNSHEET, SEEDSHEET, EXPLAINSHEET, SAVESHEET,
+SHOWIMAGE and RESUMESHEET name.
 
 What a row answers is taken from document 01, its sample, its trials, its rules,
-a board's mark, the records of a seed, the epochs of entries and the boards behind
-a record from document 02; the words of an answer from docs/PHRASES.md.
+a board's mark, the records of a seed, the epochs of entries, the boards behind a
+record and the image of a row from document 02; the words of an answer from
+docs/PHRASES.md.
 """
 
 import os
@@ -15,12 +17,16 @@ import sys
 import tempfile
 import unittest
 from pathlib import Path
+from struct import pack
 
 ROOT = Path(__file__).resolve().parents[2]
 TOOL = ROOT / "tools" / "run-sheet"
 PROGRAM = os.environ.get("RUNSHEET") or str(ROOT / "target" / "bin" / "runsheet")
 MAKER = os.environ.get("SEEDSHEET") or str(ROOT / "target" / "bin" / "seedsheet")
 EXPLAINER = os.environ.get("EXPLAINSHEET") or str(ROOT / "target" / "bin" / "explainsheet")
+SAVER = os.environ.get("SAVESHEET") or str(ROOT / "target" / "bin" / "savesheet")
+SHOWER = os.environ.get("SHOWIMAGE") or str(ROOT / "target" / "bin" / "showimage")
+TAKER = os.environ.get("RESUMESHEET") or str(ROOT / "target" / "bin" / "resumesheet")
 sys.dont_write_bytecode = True
 sys.path.insert(0, str(TOOL.parent))
 
@@ -56,6 +62,8 @@ board 1 appends value 41: accepted
 board 1 gives a receipt: accepted
 add board 2: accepted
 """
+# The sample's image, made by hand from document 02, Paper 7.
+IMAGE = (ROOT / "crates" / "savesheet" / "stdout").read_bytes()
 # The first records of seed 0: tests/peer/tests/seed.rs says how they were worked out. Board
 # 7 opens the row, so that neither board 6, 3 nor 1 is leader, and board 4 has all news.
 SEED_0 = ["open 7", "count 6 2", "receipt 3", "news 4", "receipt 1"]
@@ -104,9 +112,21 @@ CHECKS = {
 }
 
 
-def run(*words, given=b"", tool=TOOL, program=PROGRAM, maker=MAKER, explainer=EXPLAINER, **more):
+def run(
+    *words,
+    given=b"",
+    tool=TOOL,
+    program=PROGRAM,
+    maker=MAKER,
+    explainer=EXPLAINER,
+    saver=SAVER,
+    shower=SHOWER,
+    taker=TAKER,
+    **more,
+):
     """Runs the tool. What it wrote is there as bytes on standard output and as text on standard error."""
     env = os.environ | {"RUNSHEET": str(program), "SEEDSHEET": str(maker), "EXPLAINSHEET": str(explainer)}
+    env |= {"SAVESHEET": str(saver), "SHOWIMAGE": str(shower), "RESUMESHEET": str(taker)}
     more = {"stdout": subprocess.PIPE, "stderr": subprocess.PIPE, "env": env} | more
     done = subprocess.run([tool, *words], input=given, check=False, **more)
     if done.stderr is not None:
@@ -195,7 +215,8 @@ class Sheets(InFolder):
             text = done.stdout.decode()
             for said in ["docs/FORMATS.md", "docs/PHRASES.md", "Exit status", "four minutes"]:
                 self.assertIn(said, text)
-            for way in ["--words", "--explain", "--ask", "--seed SEED COUNT"]:
+            images = ["--save IMAGE", "--show IMAGE", "--resume IMAGE"]
+            for way in ["--words", "--explain", "--ask", "--seed SEED COUNT", *images]:
                 self.assertIn(f"\n  {way}", text)
             for form in sheet.FORMS:
                 self.assertIn("  " + " ".join(form), text)
@@ -339,6 +360,9 @@ class Errors(InFolder):
 class Writing(InFolder):
     WAYS = [([], b""), (["--words"], b""), (["--explain"], b""), (["--ask"], b"open 1\n"), (["-"], b"")]
     WAYS += [(["--seed", "0", "5"], b""), (["--seed", "0", "0"], b"")]
+    STORED = ROOT / "crates" / "savesheet" / "stdout"
+    WAYS += [(["--show", STORED], b"")]
+    WAYS += [(["--resume", STORED, "-"], b"add 3\n"), (["--resume", STORED, "-"], b"raw 1\n")]
 
     def failed(self, done, said):
         self.assertEqual(done.returncode, FAILED)
@@ -439,7 +463,7 @@ class InWords(InFolder):
                     told += refusal is not None
                     expected = rf"refused {refusal[1]}: .+" if refusal else "accepted"
                     self.assertRegex(shown[number], f"^{expected}$")
-        self.assertEqual(told, 7)
+        self.assertEqual(told, 8)
 
 
 class Explained(InFolder):
@@ -502,6 +526,286 @@ opening with board 1: refused, an opening stands first and nowhere else
                 self.assertEqual((done.stdout, done.returncode), (b"", FAILED))
                 self.assertIn("other printed does not tell the answers of the listing", done.stderr)
                 self.assertNotIn("Traceback", done.stderr)
+
+
+class Images(InFolder):
+    """A row that is stored, shown and taken up again: document 02, Paper 7."""
+
+    ENDING = LISTING[LISTING.index(b"registry") :]
+    # Two boards, three sales, a receipt; then board 2 leads alone.
+    STORY = ["open 1", "append 1 41", "add 2", "news 1", "news 2", "controller news", "read leader", "receive 2"]
+    STORY += ["read 2", "set normal", "count 1 2", "receipt 1", "add 2", "raw 9 2 2 0 0 0 0 0", "append 1 42"]
+    STORY += ["change leader", "news 2", "append 2 43", "receipt 2"]
+
+    def setUp(self):
+        super().setUp()
+        self.image = self.folder / "row.image"
+
+    def refused(self, done, number, *said):
+        self.assertEqual((done.stdout, done.returncode), (b"refused %d\n" % number, REFUSED), done.stderr)
+        self.assertTrue(done.stderr.startswith(f"run-sheet: refused {number}: "))
+        for words in said:
+            self.assertIn(words, done.stderr)
+
+    def test_the_samples_image(self):
+        for words in [["--save", self.image], ["--save", self.image, self.file("records", RECORDS)]]:
+            self.listed(run(*words))
+            self.assertEqual(self.image.read_bytes(), IMAGE)
+        self.listed(run("--explain", "--save", self.image), LINES)
+        self.assertEqual(self.image.read_bytes(), IMAGE)
+        self.listed(run("--show", self.image), self.ENDING)
+        self.listed(run("--show", "-", given=IMAGE), self.ENDING)
+
+    def test_in_words(self):
+        """The row of an image is shown as a listing shows it, without the records."""
+        listed = run("--words", "--save", self.image).stdout
+        done = run("--words", "--show", self.image)
+        self.listed(done, listed.partition(b"\n\n")[2])
+        # No program has the reasons of a row taken up.
+        done = run("--words", "--resume", self.image, "-", given=b"\nreceipt 1\nappend 1 42\nreceipt 1\n")
+        self.assertEqual((done.returncode, done.stderr), (LISTED, ""))
+        steps, _, boards, receipts = done.stdout.decode().split("\n\n")
+        self.assertEqual(
+            [re.split(r"  +", line.strip()) for line in steps.splitlines()],
+            [
+                ["record", "line", "step", "behind", "answer"],
+                ["1", "2", "receipt 1", "refused 12"],
+                ["2", "3", "append 1 42", "accepted"],
+                ["3", "4", "receipt 1", "1", "accepted"],
+            ],
+        )
+        self.assertEqual(boards.splitlines()[1].split(), ["1", "1", "1", "1", "1", "1", "2", "late"])
+        self.assertEqual(receipts, "receipts: 2, as value@epoch: 41@1 42@1\n")
+
+    def test_going_on(self):
+        """The sample's board 2 is a member already (5), and no receipt is due (12)."""
+        image = self.file("image", IMAGE)
+        for name, data in [("words", b"add 2\nreceipt 1\n"), ("records", RECORDS[24:] + RECORDS[16:24])]:
+            done = run("--resume", image, "--save", self.image, self.file(name, data))
+            self.listed(done, b"1 3 5\n2 2 12\n" + self.ENDING)
+            # Refused steps leave the row as it was.
+            self.assertEqual(self.image.read_bytes(), IMAGE)
+        # An opening stands in mid-sheet, and malformed records are answered too.
+        given = b"open 1\nraw 200 1 2 3 4 5 6 7\n"
+        self.listed(run("--resume", image, "-", given=given), b"1 0 1\n2 200 1\n" + self.ENDING)
+        self.listed(run("--resume", image, "-", given=b"# nothing\n"), self.ENDING)
+        self.listed(run("--resume", "-", self.file("none", b""), given=IMAGE), self.ENDING)
+
+    def test_the_image_in_the_midst_of_a_story(self):
+        """Every field of examples/power-cut/first.txt's row, in the order of Paper 7."""
+        run("--save", self.image, ROOT / "examples" / "power-cut" / "first.txt")
+        both, waiting, boards, none = 3, 1, 2, 65535
+        head = pack("<HHBBBB", 2, 1, 1, both, waiting, 0) + pack("<HHBBBB", 2, 1, 1, both, boards, 0)
+        # The controller has heard its leader alone.
+        head += pack("<HH", 2, 0) + pack("<HH", none, 0) * 7
+        # Board 1 has counted itself at length 2 and board 2 at 1; board 2 counts nobody. Epoch, leader epoch, joined,
+        # leader, members, counts, first record.
+        head += pack("<HHHBB8HH", 2, 1, 1, 1, both, 2, 1, 0, 0, 0, 0, 0, 0, 1)
+        head += pack("<HHHBB8HH", 2, 1, 1, 1, both, 0, 0, 0, 0, 0, 0, 0, 0, 3)
+        head += pack("<HHHBB8HH", 1, 1, 1, 1, 1, 0, 0, 0, 0, 0, 0, 0, 0, 0) * 6
+        head += pack("<H", 5)
+        # Value, epoch, next record.
+        log = [(41, 1, 2), (42, 1, 0), (41, 1, 4), (42, 1, 0)]
+        records = b"".join(pack("<IHH", *entry) for entry in [*log, (41, 1, 0)])
+        self.assertEqual(self.image.read_bytes(), head + records)
+
+    def test_a_new_image(self):
+        """crates/resumesheet has the sample with four records more, worked out by hand."""
+        folder = ROOT / "crates" / "resumesheet"
+        given, expected = (folder / "stdin").read_bytes(), (folder / "stdout").read_bytes()
+        steps = self.file("steps", given[4 + len(IMAGE) :])
+        done = run("--resume", self.file("image", IMAGE), "--save", self.image, steps)
+        ending = self.ENDING.replace(b"1 1 1 1 1 1 1 late", b"1 1 1 1 1 1 2 late").replace(b"1 41@1", b"2 41@1 42@1")
+        self.listed(done, b"1 2 12\n2 3 5\n3 1 0\n4 2 0 1\n" + ending)
+        self.assertEqual(self.image.read_bytes(), expected[1 + 2 * 4 :])
+
+    def test_a_story_cut_at_every_place(self):
+        """It goes on as if it had not been cut: each line has its answer and its set, and the end is the same."""
+        for story in [self.STORY, (ROOT / "examples" / "two-sales.txt").read_text().splitlines()]:
+            records = sheet.encode("\n".join(story))
+            whole = run("-", given=records).stdout.decode().splitlines()
+            count = len(records) // 8
+            answers = [line.partition(" ")[2] for line in whole[:count]]
+            last = run("--save", self.image, "-", given=records)
+            self.assertEqual(last.returncode, LISTED)
+            image = self.image.read_bytes()
+            for cut in range(1, count + 1):
+                run("--save", self.image, "-", given=records[: 8 * cut])
+                done = run("--resume", self.image, "--save", self.image, "-", given=records[8 * cut :])
+                lines = [f"{n} {answer}" for n, answer in enumerate(answers[cut:], 1)] + whole[count:]
+                self.listed(done, "".join(line + "\n" for line in lines).encode())
+                self.assertEqual(self.image.read_bytes(), image)
+
+    def test_a_power_cut_after_every_step(self):
+        """The row is stored and taken up again after each step of the story."""
+        records = sheet.encode("\n".join(self.STORY))
+        whole = run("-", given=records).stdout.decode().splitlines()
+        run("--save", self.image, "-", given=records[:8])
+        for n in range(2, len(self.STORY) + 1):
+            done = run("--resume", self.image, "--save", self.image, "-", given=records[8 * n - 8 : 8 * n])
+            self.assertEqual(done.stdout.decode().splitlines()[0], whole[n - 1].replace(f"{n} ", "1 ", 1))
+        self.assertEqual(done.stdout.decode().splitlines()[1:], whole[len(self.STORY) :])
+
+    def test_images_that_are_refused(self):
+        """17 a length, 18 a number, 19 a link: by --show and by --resume, with the steps untold."""
+        head, records = IMAGE[:258], IMAGE[258:]
+        long = "and an image 258 and 8 for each of 0 to 4,608 records"
+        for image, number, said in [
+            (b"", 17, f"it has 0 bytes, {long}"),
+            (IMAGE[:257], 17, f"it has 257 bytes, {long}"),
+            (IMAGE + b"\0", 17, f"it has 275 bytes, {long}"),
+            (head + records + bytes(8) * 4607, 17, f"it has more than 37,122 bytes, {long}"),
+            (IMAGE + bytes(1 << 18), 17, f"it has more than 37,122 bytes, {long}"),
+            (b"\0\0" + IMAGE[2:], 18, "a number outside its range"),
+            (IMAGE[:7] + b"\1" + IMAGE[8:], 18, "a zero byte that is not 0"),
+            # Leader 0 while waiting.
+            (IMAGE[:4] + b"\0" + IMAGE[5:], 18, "a row that refusal 1 would turn away"),
+            # A record that is not met, one that is met twice, one that is not there.
+            (IMAGE + records[:8], 19, "a record that is met twice or not at all"),
+            (head[:256] + b"\1\0" + records, 19, "a record that is met twice or not at all"),
+            (head[:256] + b"\3\0" + records, 19, "a chain that passes its last record"),
+        ]:
+            path = self.file("image", image)
+            for words in [["--show", path], ["--words", "--show", path], ["--resume", path, "-", "--save", self.image]]:
+                self.refused(run(*words, given=b"add 3\n"), number, f"{path} is no image: it has ", said)
+            self.refused(run("--show", "-", given=image), number, "standard input is no image: ")
+        self.assertFalse(self.image.exists())
+
+    def test_steps_that_are_refused(self):
+        image = self.file("image", IMAGE)
+        for data, said in [
+            (RECORDS[:-1], "31 bytes are no whole records of 8 bytes"),
+            (b"add 3\nraw 1 2 3\n", "11 bytes are no whole records of 8 bytes"),
+            (RECORDS[24:] * 4096, "4,096 records are more than 4,095"),
+            (RECORDS[24:] * 100_000, "100,000 records are more than 4,095"),
+        ]:
+            done = run("--resume", image, "--save", self.image, "-", given=data)
+            self.refused(done, 2, said)
+            # The steps are looked at before the image.
+            self.refused(run("--resume", self.file("other", b"?"), "-", given=data), 2, said)
+        self.assertFalse(self.image.exists())
+        done = run("--resume", image, "-", given=RECORDS[24:] * 4095)
+        self.listed(done, b"".join(b"%d 3 5\n" % n for n in range(1, 4096)) + self.ENDING)
+        # A sheet that is refused has no row.
+        for words in [[], ["--words"], ["--explain"]]:
+            self.refused(run(*words, "--save", self.image, "-", given=RECORDS[8:]), 2, "no opening first")
+        self.assertFalse(self.image.exists())
+
+    def test_a_row_from_elsewhere(self):
+        """Choosing with leader 0, the controller at stage boards with all heard: set normal leaves a row that refusal 1
+        turns away, so that nothing can be shown or saved, and every step after it is answered 1."""
+        made = bytearray(IMAGE)
+        made[4], made[6] = 0, 2
+        made[8:16] = [2, 0, 1, 0, 1, 3, 2, 0]
+        made[16:24] = [0, 0, 0, 0, 0, 0, 0, 0]
+        done = run("--resume", self.file("image", made), "--save", self.image, "-", given=b"set normal\nadd 3\n")
+        self.assertEqual((done.stdout, done.returncode), (b"1 13 0 12\n2 3 1\n", REFUSED))
+        self.assertIn("run-sheet: refused 1: these steps made a row outside its ranges", done.stderr)
+        self.assertFalse(self.image.exists())
+
+    def test_the_program_that_takes_rows_up(self):
+        """Inputs that the tool does not make: too short for their image, or longer than any."""
+        length = len(IMAGE).to_bytes(4, "little")
+        for given, printed in [
+            (length + IMAGE, b"\0" + IMAGE),
+            (b"", b"\2"),
+            (length[:3], b"\2"),
+            (length, b"\2"),
+            (length + IMAGE[:-1], b"\2"),
+            (b"\xff\xff\xff\xff" + IMAGE, b"\2"),
+            # The image's last record taken for a step: the receipts' chain then passes the last one.
+            ((len(IMAGE) - 8).to_bytes(4, "little") + IMAGE, b"\x13"),
+            ((37130).to_bytes(4, "little") + bytes(37130), b"\x11"),
+            (bytes(4), b"\x11"),
+            (length + IMAGE + bytes(8) * 4095, b"\0" + b"\1\0" * 4095 + IMAGE),
+            (length + IMAGE + bytes(8) * 4096, b"\2"),
+            (length + IMAGE + bytes(1 << 20), b"\2"),
+        ]:
+            done = subprocess.run([TAKER], input=given, stdout=subprocess.PIPE, check=True)
+            self.assertEqual(done.stdout, printed, (given[:4], len(given)))
+
+    def test_files_of_others_are_spared(self):
+        story, records = self.file("story", WORDS), self.file("records", RECORDS)
+        # By its length it could be an image.
+        text = self.file("text", b"# " * 129)
+        for path in [story, records, text, self.file("image too", IMAGE + b"\0")]:
+            before = path.read_bytes()
+            for words in [[story], ["--resume", self.file("image", IMAGE), story], ["--seed", "0", "5"]]:
+                self.not_run(run("--save", path, *words), f"{path} is there already, and is no image: choose another")
+            self.assertEqual(path.read_bytes(), before)
+        self.listed(run("--save", self.file("empty", b""), story))
+        self.assertEqual((self.folder / "empty").read_bytes(), IMAGE)
+
+    def test_files_that_cannot_be_written(self):
+        for path, said in [
+            (self.folder, "Is a directory"),
+            (self.folder / "no" / "where", "No such file or directory"),
+            ("/dev/full", "No space left on device"),
+        ]:
+            for words in [[], ["--resume", self.file("image", IMAGE), self.file("steps", b"add 3\n")]]:
+                done = run("--save", path, *words)
+                self.assertEqual((done.stdout, done.returncode), (b"", FAILED))
+                self.assertEqual(done.stderr, f"run-sheet: {path} is not written: {said}\n")
+
+    def test_files_that_cannot_be_read(self):
+        none, story = self.folder / "none", self.file("story", WORDS)
+        for words in [["--show"], ["--resume"]]:
+            more = [story] if words == ["--resume"] else []
+            self.not_run(run(*words, none, *more), "none cannot be read: No such file")
+            self.not_run(run(*words, self.folder, *more), "cannot be read: Is a directory")
+        self.not_run(run("--resume", self.file("image", IMAGE), none), "none cannot be read: No such file")
+        self.refused(run("--show", "/dev/zero"), 17, "more than 37,122 bytes")
+
+    def test_options_that_do_not_go_together(self):
+        image, story = self.file("image", IMAGE), self.file("story", WORDS)
+        show, resume, keep, seed = ["--show", image], ["--resume", image], ["--save", self.image], ["--seed", "0", "5"]
+        for words, said in [
+            ([*show, *seed], "--show does not go with --seed"),
+            ([*show, *keep], "--show does not go with --save"),
+            ([*show, *resume], "--show does not go with --resume"),
+            ([*show, "--explain"], "--show does not go with --explain"),
+            ([*show, "--ask"], "--show does not go with --ask"),
+            ([*show, story], "--show takes an image alone"),
+            ([*resume, *seed], "--resume does not go with --seed"),
+            ([*resume, "--explain", story], "--resume does not go with --explain"),
+            ([*resume, "--ask"], "--resume does not go with --ask"),
+            (resume, "--resume goes on with the steps of a SHEET"),
+            (["--resume", "-", "-"], "image and steps cannot both be standard input"),
+            ([*keep, "--ask"], "--save does not go with --ask"),
+        ]:
+            self.not_run(run(*words), said)
+        self.assertFalse(self.image.exists())
+
+    def test_programs_that_fail(self):
+        image, story, name = self.file("image", IMAGE), self.file("story", WORDS[-6:]), self.folder / "none"
+        for words, which in [
+            (["--save", self.image], "saver"),
+            (["--show", image], "shower"),
+            (["--resume", image, story], "taker"),
+            (["--resume", image, story], "shower"),
+        ]:
+            for program, said in [
+                (name, f"{name} does not run: No such file"),
+                (self.script("ends", "exit 7"), "ends ended with status 7"),
+            ]:
+                done = run(*words, **{which: program})
+                self.assertEqual((done.stdout, done.returncode), (b"", FAILED))
+                self.assertIn(said, done.stderr)
+        for answer in [b"", b"\0", b"\0\0", b"\x12 more", b"\0\5\1" + IMAGE, b"\0\0\0" + IMAGE[1:], b"\0\0" + IMAGE]:
+            given = self.file("answer", answer)
+            done = run("--resume", image, story, taker=self.script("other", f"cat >/dev/null; cat '{given}'"))
+            self.assertEqual((done.stdout, done.returncode), (b"", FAILED), answer[:4])
+            self.assertIn("other printed are no answers", done.stderr)
+        done = run("--resume", image, story, "--save", self.image, shower=self.script("other", "echo refused 18"))
+        self.assertEqual((done.stdout, done.returncode), (b"", FAILED))
+        self.assertIn("printed is no image: ", done.stderr)
+        done = run("--save", self.image, saver=self.script("other", "echo hello"))
+        self.assertEqual((done.stdout, done.returncode), (b"", FAILED))
+        self.assertIn("other printed is no image", done.stderr)
+        self.assertFalse(self.image.exists())
+        done = run("--words", "--show", image, shower=self.script("other", "echo hello"))
+        self.assertEqual((done.stdout, done.returncode), (b"", FAILED))
+        self.assertIn("printed is no listing", done.stderr)
 
 
 class Compared(unittest.TestCase):
@@ -569,7 +873,7 @@ class Formats(unittest.TestCase):
 
     def test_the_answers(self):
         rows = self.rows("The answers")
-        self.assertEqual([int(row[0]) for row in rows], list(range(17)))
+        self.assertEqual([int(row[0]) for row in rows], list(range(20)))
         for number, *_, name in rows:
             self.assertRegex(self.header, rf"{name.strip('`')}(?: =)? {number}\b")
 
@@ -577,7 +881,8 @@ class Formats(unittest.TestCase):
         told = re.findall(r"(\d)\s\(`(ROW_\w+)`\)", self.page)
         seed = [("2", "ROW_BAD_COUNT"), ("3", "ROW_SHORT_SLICE")]
         words = [("1", "ROW_NO_LINE"), ("3", "ROW_SHORT_LINE"), ("2", "ROW_BAD_SHEET"), ("3", "ROW_SHORT_TEXT")]
-        self.assertEqual(told, seed + words)
+        images = [("2", "ROW_BAD_SHEET"), ("3", "ROW_SHORT_IMAGE"), ("3", "ROW_SHORT_SCRATCH")]
+        self.assertEqual(told, seed + words + images)
         for number, name in told:
             self.assertRegex(self.header, rf"#define {name} {number}\b")
 
@@ -791,6 +1096,7 @@ class Building(InFolder):
         shutil.copytree(TOOL.parent, self.root / "tools")
         shutil.copytree(ROOT / "examples", self.root / "examples")
         programs = {"runsheet": PROGRAM, "seedsheet": MAKER, "explainsheet": EXPLAINER}
+        programs |= {"savesheet": SAVER, "showimage": SHOWER, "resumesheet": TAKER}
         crates = "".join(f"{name}: rules io libc\n" for name in programs) + "other: rules\nrules:\n"
         self.file("a row/crates.txt", b"# NAME: DEPENDENCIES\n" + crates.encode())
         self.file("a row/crates/rules/src/lib.rt", b"// The rules of a row. And more.\n")
@@ -862,6 +1168,24 @@ class Building(InFolder):
             ],
         )
 
+    def test_images_need_their_programs(self):
+        image, story = self.folder / "image", self.file("steps", WORDS[-6:])
+        self.run_copy("--save", image)
+        self.assertEqual(image.read_bytes(), IMAGE)
+        self.run_copy("--show", image)
+        self.run_copy("--resume", image, story)
+        self.run_copy("--explain", "--save", image, "--seed", "0", "5")
+        self.run_copy("--show", image, env=self.env | {"SHOWIMAGE": SHOWER})
+        self.assertEqual(
+            self.called(),
+            [
+                "check runsheet savesheet",
+                "check showimage",
+                "check resumesheet showimage",
+                "check explainsheet savesheet seedsheet",
+            ],
+        )
+
     def test_one_line_of_progress_at_a_terminal(self):
         leader, follower = pty.openpty()
         done = self.run_copy(stderr=follower)
@@ -888,6 +1212,10 @@ class Building(InFolder):
         self.not_run(self.run_copy("-", given=b"opne 1\n"))
         self.not_run(self.run_copy("--list"))
         self.not_run(self.run_copy("--seed", "0", "5", self.folder / "none"))
+        self.not_run(self.run_copy("--show", self.folder / "none"))
+        self.not_run(self.run_copy("--resume", self.folder / "none", "-"))
+        self.not_run(self.run_copy("--resume", self.file("image", IMAGE), "-", given=b"opne 1\n"))
+        self.not_run(self.run_copy("--save", self.file("story", WORDS)))
         self.assertEqual(self.called(), [])
 
     def failed(self, done, *said):

@@ -61,9 +61,11 @@ pub fn in_slices(
         // Bytes around the slice show a write outside it.
         let before = 32 + rng.below(32);
         let slice = before..before + length;
-        let bytes = iter::repeat_with(|| rng.draw().to_le_bytes()).flatten();
-        let place: Vec<u8> = bytes.take(slice.end + 32).collect();
-        let (mut ours, mut theirs) = (place.clone(), place);
+        let mut ours = vec![0; slice.end + 32];
+        for part in ours.chunks_mut(8) {
+            part.copy_from_slice(&rng.draw().to_le_bytes()[..part.len()]);
+        }
+        let mut theirs = ours.clone();
         let result = entry(&mut ours[slice.clone()]);
         let expected = second(&mut theirs[slice]);
         let gives = || format!("in a slice of {length} bytes {name} gives {result}");

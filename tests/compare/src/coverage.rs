@@ -384,10 +384,11 @@ impl Coverage {
         let (Ok(mut row), Ok(behind)) = (Row::open(records[0][1]), behind(sheet)) else {
             return;
         };
+        // It takes each record once that was looked at: a copy for each would take longer.
+        let mut before = row.clone();
         self.met[0][0] += 1;
         let (mut changes, mut past) = (0, 0);
         for (record, behind) in records.iter().zip(behind).skip(1) {
-            let before = row.clone();
             let [step, b, ..] = *record;
             let answer = row.step(record).answer;
             self.met[usize::from(step).min(STEPS - 1)][usize::from(answer)] += 1;
@@ -410,6 +411,7 @@ impl Coverage {
             for (number, (_, came_about)) in self.never.iter_mut().zip(NEVER) {
                 *number += u64::from(came_about(&seen));
             }
+            before.step(record);
         }
         if let Ok(tally) = tally(sheet) {
             for (number, (_, how_often)) in self.tallied.iter_mut().zip(TALLIED) {

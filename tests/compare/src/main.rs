@@ -2,8 +2,11 @@
 //! compare --edges DIR
 //! compare --texts DIR
 //! compare --lines DIR
+//! compare --saved DIR
+//! compare --shown DIR
 //! compare --sets
 //! compare --pairs
+//! compare --images [SHEETS [SEED]]
 //!
 //! Holds the proved programs to the second one: each sheet goes through the C
 //! entries `run_sheet` and `explain_sheet` in several slices, and the edge sheets
@@ -11,20 +14,26 @@
 //! name, over standard input. As many random seeds go through the C entry
 //! `seed_sheet` and the program that SEEDSHEET names in the same way, and their
 //! sheets are then sheets like the others. That program is also given inputs that
-//! it must refuse.
+//! it must refuse. The edge sheets and every fourth random one are also saved, and
+//! their images shown and taken up again, renumbered and damaged ones too, by the C
+//! entries `save_sheet` and `show_image` and the programs that SAVESHEET, SHOWIMAGE and
+//! RESUMESHEET name.
 //! With --edges it compares nothing: it writes edge sheet N to DIR/N.sheet, and
 //! what the second program prints of it to DIR/N.printed; with --texts its text in
-//! words. With --lines it writes the inputs of the program that makes sheets so, N
-//! to DIR/N.line. With --sets it asks the C entry `look_up_majority` and the second
+//! words, with --saved its image. With --lines it writes the inputs of the program
+//! that makes sheets so, N to DIR/N.line, with --shown images at their limits, N to
+//! DIR/N.image. With --sets it asks the C entry `look_up_majority` and the second
 //! program of every set of boards alone, with --pairs the C entry `describe_record`
-//! of records of every kind with every answer.
+//! of records of every kind with every answer, with --images it compares images alone.
 //!
-//! Exit status: 0 all agree; 1 a sheet, a line, a set or a pair differs; 2 bad
-//! usage, or a program does not run; 3 all agree, but something that a run can meet
-//! was not met, or too rarely (as may be with fewer than 1,000 sheets).
+//! Exit status: 0 all agree; 1 a sheet, a line, an image, a set or a pair differs; 2
+//! bad usage, or a program does not run; 3 all agree, but something that a run can
+//! meet was not met, or too rarely (as may be with fewer than 1,000 sheets).
 
 mod both;
 mod coverage;
+mod damage;
+mod images;
 mod seeds;
 mod sets;
 mod sheets;
@@ -33,6 +42,7 @@ mod words;
 use both::{differs, Fault};
 use coverage::Coverage;
 use generate::{Kind, Rng};
+use images::{Images, Programs};
 use std::path::{Path, PathBuf};
 use std::process::ExitCode;
 use std::{env, fs, io};
@@ -52,6 +62,9 @@ fn main() -> ExitCode {
         ["--edges", dir] => write(dir, "sheet", &generate::edges(), sheets::printed),
         ["--texts", dir] => write(dir, "sheet", &generate::edges(), words::printed),
         ["--lines", dir] => write(dir, "line", &seeds::lines(), peer::seed::print),
+        ["--saved", dir] => write(dir, "sheet", &generate::edges(), images::saved),
+        ["--shown", dir] => write(dir, "image", &damage::edges(), images::shown),
+        ["--images", ref words @ ..] => compare_images(words),
         ["--sets"] => told(sets::compare()),
         ["--pairs"] => told(words::compare()),
         _ => compare_with(&words),
@@ -81,20 +94,54 @@ fn write(
     Ok(0)
 }
 
-/// Compares as many sheets as the words say, and tells what differs. Returns the exit
-/// status.
-fn compare_with(words: &[&str]) -> io::Result<u8> {
+/// The number of sheets and the seed that the words say, or these; none if they say
+/// something else.
+fn numbers(words: &[&str], sheets: u64) -> Option<(u64, u64)> {
     let number = |n: usize, default| words.get(n).map_or(Ok(default), |word| word.parse());
-    let (Ok(sheets), Ok(seed), 0..=2) = (number(0, SHEETS), number(1, SEED), words.len()) else {
-        let ways = "--edges DIR | --texts DIR | --lines DIR | --sets | --pairs";
-        eprintln!("usage: compare [SHEETS [SEED]] | {ways}");
-        return Ok(2);
-    };
-    let named = |name: &str| match env::var_os(name) {
+    match (number(0, sheets), number(1, SEED), words.len()) {
+        (Ok(sheets), Ok(seed), 0..=2) => Some((sheets, seed)),
+        _ => None,
+    }
+}
+
+fn usage() -> io::Result<u8> {
+    let ways = "--edges DIR | --texts DIR | --lines DIR | --saved DIR | --shown DIR";
+    let alone = "--sets | --pairs | --images [SHEETS [SEED]]";
+    eprintln!("usage: compare [SHEETS [SEED]] | {ways} | {alone}");
+    Ok(2)
+}
+
+/// The program that a variable names.
+fn named(name: &str) -> io::Result<PathBuf> {
+    match env::var_os(name) {
         Some(path) => Ok(path.into()),
         None => Err(io::Error::other(format!(
             "{name} does not name the program"
         ))),
+    }
+}
+
+fn programs_of_images() -> io::Result<Programs> {
+    Ok(Programs {
+        savesheet: named("SAVESHEET")?,
+        showimage: named("SHOWIMAGE")?,
+        resumesheet: named("RESUMESHEET")?,
+    })
+}
+
+/// Compares the images of as many sheets as the words say.
+fn compare_images(words: &[&str]) -> io::Result<u8> {
+    let Some((sheets, seed)) = numbers(words, SHEETS / PROGRAM_EVERY) else {
+        return usage();
+    };
+    told(images::compare(programs_of_images()?, sheets, seed))
+}
+
+/// Compares as many sheets as the words say, and tells what differs. Returns the exit
+/// status.
+fn compare_with(words: &[&str]) -> io::Result<u8> {
+    let Some((sheets, seed)) = numbers(words, SHEETS) else {
+        return usage();
     };
     let mut comparison = Comparison {
         runsheet: named("RUNSHEET")?,
@@ -103,6 +150,7 @@ fn compare_with(words: &[&str]) -> io::Result<u8> {
         rng: Rng::new(seed),
         coverage: Coverage::default(),
         told: Told::default(),
+        images: Images::new(programs_of_images()?, seed),
         sheets: 0,
         printed: 0,
     };
@@ -128,6 +176,19 @@ fn told(compared: Result<u8, Fault>) -> io::Result<u8> {
     }
 }
 
+/// Keeps a sheet, of this number, that differs.
+fn keep(compared: Result<(), Fault>, n: usize, kind: Kind, sheet: &[u8]) -> Result<(), Fault> {
+    let Err(Fault::Differs(said)) = compared else {
+        return compared;
+    };
+    let kept = env::current_exe()?.with_file_name("differs.sheet");
+    fs::write(&kept, sheet)?;
+    let kept = kept.display();
+    differs(format!(
+        "sheet {n} ({kind:?}) differs: {said}\nthe sheet is kept as {kept}"
+    ))
+}
+
 struct Comparison {
     runsheet: PathBuf,
     seedsheet: PathBuf,
@@ -136,6 +197,7 @@ struct Comparison {
     rng: Rng,
     coverage: Coverage,
     told: Told,
+    images: Images,
     /// How many sheets were compared, and how many of them were printed too.
     sheets: usize,
     printed: usize,
@@ -151,31 +213,29 @@ impl Comparison {
         }
         seeds::call_wrongly(&mut self.rng)?;
         seeds::print_edges(&self.seedsheet)?;
+        let first = self.sheets;
         for sheet in edges {
-            self.take((Kind::Edge, sheet.clone()), true)?;
+            self.take((Kind::Edge, sheet.clone()), false)?;
         }
+        let image = |fault: Fault| fault.of("an image differs");
+        self.images.show_edges().map_err(image)?;
         for n in 0..sheets {
             let print = n % PROGRAM_EVERY == 0;
             self.take(generate::random(Rng::new(of_sheets.draw())), print)?;
             self.take(generate::random_seeded(Rng::new(of_seeds.draw())), print)?;
         }
-        Ok(())
+        // Last, so that what is wrong is mostly found before so many processes are started.
+        for (n, sheet) in edges.iter().enumerate() {
+            keep(self.print(sheet), first + n, Kind::Edge, sheet)?;
+        }
+        self.images.print_edges().map_err(image)
     }
 
     /// Compares one sheet; one that differs is kept.
     fn take(&mut self, (kind, sheet): (Kind, Vec<u8>), print: bool) -> Result<(), Fault> {
-        match self.agree(kind, &sheet, print) {
-            Err(Fault::Differs(said)) => {
-                let kept = env::current_exe()?.with_file_name("differs.sheet");
-                fs::write(&kept, &sheet)?;
-                let (n, kept) = (self.sheets, kept.display());
-                let said = format!("sheet {n} ({kind:?}) differs: {said}");
-                return differs(format!("{said}\nthe sheet is kept as {kept}"));
-            }
-            other => other?,
-        }
+        let compared = self.agree(kind, &sheet, print);
+        keep(compared, self.sheets, kind, &sheet)?;
         self.sheets += 1;
-        self.printed += usize::from(print);
         if peer::list(&sheet).is_ok() {
             self.coverage.play(&sheet);
         }
@@ -198,9 +258,25 @@ impl Comparison {
         self.told
             .explain(sheet, &mut self.coverage, &mut self.rng)?;
         if print {
-            sheets::print(&self.runsheet, sheet)?;
-            words::print(&self.explainsheet, sheet)?;
+            self.print(sheet)?;
         }
+        match kind {
+            // They are short, and most of their steps are refused.
+            Kind::Seeded { .. } => Ok(()),
+            // An opening by itself, mostly a wrong one.
+            Kind::Edge if sheet.len() == 8 => self.images.save(sheet),
+            Kind::Edge => self.images.take(sheet),
+            _ if print => self.images.take(sheet),
+            _ => Ok(()),
+        }
+    }
+
+    /// The programs print of a sheet what the second program does.
+    fn print(&mut self, sheet: &[u8]) -> Result<(), Fault> {
+        sheets::print(&self.runsheet, sheet)?;
+        words::print(&self.explainsheet, sheet)?;
+        self.images.print_saved(sheet)?;
+        self.printed += 1;
         Ok(())
     }
 
@@ -210,7 +286,9 @@ impl Comparison {
         println!("all agree; {printed} of {all} sheets were also printed by the programs");
         println!("{}", self.told.said());
         println!("{}", self.coverage);
-        let faults = self.coverage.faults();
+        println!("{}", self.images);
+        let mut faults = self.coverage.faults();
+        faults.extend(self.images.faults());
         for fault in &faults {
             println!("{fault}");
         }

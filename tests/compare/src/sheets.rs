@@ -43,7 +43,7 @@ pub fn call(sheet: &[u8], rng: &mut Rng) -> Result<(), Fault> {
 }
 
 /// The C entry on two slices.
-fn run(sheet: &[u8], listing: &mut [u8]) -> usize {
+pub fn run(sheet: &[u8], listing: &mut [u8]) -> usize {
     // SAFETY: each pointer goes with its slice's length, and the two do not overlap.
     unsafe {
         run_sheet(

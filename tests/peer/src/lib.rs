@@ -1,13 +1,16 @@
-//! A second program for document 01 and Papers 1 to 6 of document 02: it turns a
-//! sheet into its listing or its lines in words, or into the number of the refusal,
-//! and a seed and a count of records into a bench sheet.
+//! A second program for document 01 and Papers 1 to 7 of document 02: it turns a
+//! sheet into its listing, its lines in words or the image of its row, or into the
+//! number of the refusal, an image into its row again, and a seed and a count of
+//! records into a bench sheet.
 //!
 //! It was written from these, document 003, the readings and the list of phrases
 //! alone, apart from the proved program, so that a misreading in one shows in the
 //! other. Numbers in brackets are the paper's refusals.
 
 pub mod behind;
+pub mod image;
 pub mod listing;
+pub mod ranges;
 pub mod row;
 pub mod seed;
 pub mod tally;

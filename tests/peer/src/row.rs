@@ -152,7 +152,7 @@ impl Outcome {
         behind: 0,
     };
 
-    fn refused(answer: u8) -> Outcome {
+    pub(crate) fn refused(answer: u8) -> Outcome {
         Outcome { answer, behind: 0 }
     }
 
@@ -163,7 +163,7 @@ impl Outcome {
 }
 
 impl Log {
-    const EMPTY: Log = Log {
+    pub(crate) const EMPTY: Log = Log {
         values: [0; LOG_MAX],
         epochs: [0; LOG_MAX],
         length: 0,
@@ -187,6 +187,11 @@ impl Log {
         both.map(|(&value, &epoch)| Entry { value, epoch })
     }
 
+    /// Have both the same entries, whatever their places past them hold?
+    fn same(&self, other: &Log) -> bool {
+        self.entries().eq(other.entries())
+    }
+
     /// The entry at a place below its length.
     fn entry(&self, place: usize) -> Entry {
         Entry {
@@ -202,7 +207,7 @@ impl Log {
         both.take_while(|(own, theirs)| own == theirs).count()
     }
 
-    fn push(&mut self, entry: Entry) {
+    pub(crate) fn push(&mut self, entry: Entry) {
         self.values[self.length] = entry.value;
         self.epochs[self.length] = entry.epoch;
         self.length += 1;
@@ -210,6 +215,15 @@ impl Log {
 
     fn truncate(&mut self, length: usize) {
         self.length = self.length.min(length);
+    }
+}
+
+impl Board {
+    fn same(&self, other: &Board) -> bool {
+        self.view == other.view
+            && self.joined == other.joined
+            && self.counts == other.counts
+            && self.log.same(&other.log)
     }
 }
 
@@ -278,13 +292,23 @@ impl Row {
         &self.boards[at(b)]
     }
 
+    /// Are they the same row? Unlike `==`, this asks for no place past a list's length:
+    /// an image keeps none of them.
+    pub fn same(&self, other: &Row) -> bool {
+        let boards = self.boards.iter().zip(&other.boards);
+        (self.registry, self.status) == (other.registry, other.status)
+            && self.control == other.control
+            && boards.into_iter().all(|(own, theirs)| own.same(theirs))
+            && self.receipts.same(&other.receipts)
+    }
+
     fn board_mut(&mut self, b: u8) -> &mut Board {
         &mut self.boards[at(b)]
     }
 
     /// One record after the opening: the answer, 0 if accepted, and which boards stood
     /// behind it. A refused step leaves the row as it was. [1] comes before a step's own
-    /// checks.
+    /// checks. The row is not asked for its own numbers: `call` does that.
     pub fn step(&mut self, record: &[u8; 8]) -> Outcome {
         match *record {
             [1, b @ 1..=8, 0, 0, value @ ..] => self.append(b, u32::from_le_bytes(value)),

@@ -95,6 +95,9 @@ const fn phrase(answer: usize, step: Option<u8>) -> Option<&'static str> {
         (16, Some(14)) => "the board's epoch is not the controller's",
         (16, Some(13 | 15)) => "the controller's epoch is not the registry's",
         (16, _) => "the epochs differ",
+        (17, _) => "the image has a wrong length",
+        (18, _) => "a number in the image is not valid",
+        (19, _) => "the records in the image are wrongly linked",
         _ => return None,
     })
 }

@@ -12,7 +12,7 @@ use peer::words::{describe, explain, explained, LINE_MAX, TEXT_MAX};
 use peer::{list, run};
 
 /// The highest answer of the list.
-const ANSWER_MAX: usize = 16;
+const ANSWER_MAX: usize = 19;
 
 const fn on(step: u8, b: u8) -> [u8; 8] {
     [step, b, 0, 0, 0, 0, 0, 0]
@@ -308,7 +308,7 @@ install board 2: refused, the registry's epochs are used up
 #[test]
 fn answers_in_common_words() {
     // Beside the words are the steps that have others.
-    let common: [(&str, &[u8]); 17] = [
+    let common: [(&str, &[u8]); 20] = [
         ("accepted", &[]),
         ("refused, the row or the memory for it is not valid", &[0]),
         (
@@ -341,6 +341,9 @@ fn answers_in_common_words() {
             &[11, 12, 13, 14, 15],
         ),
         ("refused, the epochs differ", &[11, 13, 14, 15]),
+        ("refused, the image has a wrong length", &[]),
+        ("refused, a number in the image is not valid", &[]),
+        ("refused, the records in the image are wrongly linked", &[]),
     ];
     for (answer, (words, own)) in (0..).zip(common) {
         for record in EACH_STEP {
@@ -361,6 +364,43 @@ fn answers_in_common_words() {
             let line = line(record, answer);
             assert_eq!(line.split_once(": ").unwrap().1, words, "{line}");
         }
+    }
+}
+
+/// The errors of an image, which no step gives, with steps and malformed records.
+#[test]
+fn the_errors_of_an_image() {
+    let pairs = [
+        (on(0, 1), 17),
+        (append(3, 41), 17),
+        (on(10, 0), 17),
+        (count(2, 2), 17),
+        (on(3, 2), 18),
+        (count(1, 2), 18),
+        (on(13, 0), 18),
+        (on(0, 0), 18),
+        (on(5, 0), 19),
+        (on(8, 8), 19),
+        (on(15, 4), 19),
+        (on(19, 1), 19),
+    ];
+    let lines = "\
+opening with board 1: refused, the image has a wrong length
+board 3 appends value 41: refused, the image has a wrong length
+controller takes news: refused, the image has a wrong length
+record 09 02 02 00 00 00 00 00: refused, the image has a wrong length
+add board 2: refused, a number in the image is not valid
+board 1 counts board 2: refused, a number in the image is not valid
+set normal: refused, a number in the image is not valid
+record 00 00 00 00 00 00 00 00: refused, a number in the image is not valid
+change leader: refused, the records in the image are wrongly linked
+board 8 receives an entry: refused, the records in the image are wrongly linked
+install board 4: refused, the records in the image are wrongly linked
+record 13 01 00 00 00 00 00 00: refused, the records in the image are wrongly linked
+";
+    assert_eq!(pairs.len(), lines.lines().count());
+    for ((record, answer), words) in pairs.into_iter().zip(lines.lines()) {
+        assert_eq!(line(record, answer), words);
     }
 }
 
@@ -459,10 +499,10 @@ fn is_refused_1(answer: usize) {
 
 #[test]
 fn an_answer_that_is_not_on_the_list_is_refused_1() {
-    for answer in [17, 255, 256, 256 + 5, 65536, usize::MAX] {
+    for answer in [20, 255, 256, 256 + 5, 65536, usize::MAX] {
         is_refused_1(answer);
     }
-    for answer in 17..=600 {
+    for answer in 20..=600 {
         is_refused_1(answer);
     }
 }
@@ -591,7 +631,7 @@ fn no_two_pairs_have_the_same_line() {
         }
     }
     // All pairs are met, of more than 10,000 records.
-    assert_eq!(lines.len(), 17 * many_records().len());
+    assert_eq!(lines.len(), 20 * many_records().len());
     assert!(many_records().len() > 10_000);
     assert_eq!(longest, LINE_MAX);
 }
