@@ -47,7 +47,10 @@ use Rattle.image.proofs.Fitting.{range-fit, taken-fits, receipts-there}
 use Rattle.archive.specs.Archive.{sheetImage, saveResult, saveLeft, receiptsIn, imageText, showResult, showLeft, SampleHolds, LengthsTell}
 
 pub sample-holds : SampleHolds
-unfolding SampleHolds sheetImage imageText imageOf headBytes firstsFor recordsFor recordsAll bytesOf rowIn rowAt numbersFit linksFit over chain chainsOf firstsFrom wellLinked joined has distinct upTo ending registryLine controlLine boardLines boardLine boardText receiptsLine receiptsText receiptText viewText membersText digits digitsWithin records run bits
+unfolding SampleHolds sheetImage imageText imageOf headBytes firstsFor recordsFor recordsAll bytesOf rowIn rowAt
+    numbersFit linksFit over chain chainsOf firstsFrom wellLinked joined has distinct upTo
+    ending registryLine controlLine boardLines boardLine boardText receiptsLine receiptsText receiptText
+    viewText membersText digits digitsWithin records run bits
 sample-holds = (refl, refl, refl, refl, refl, refl, refl, refl, refl, refl, refl, refl, refl, refl)
 
 module _ (o : Opening) (real : T (canOpen o)) (sts : List Step) where
@@ -159,8 +162,8 @@ shown-within true true false n m v e l h = absurd (omega (arith, h))
 shown-within true false c n m v e l h = absurd (omega (arith, h, l))
 shown-within false b c n m v e l h = absurd (omega (arith, h))
 
-pub shown-readable : (image out s : Text) {r : ℕ} {out′ : Text} → r ≡ showResult image out s → out′ ≡ showLeft image out s
-    → 20 ≤ r → r ≤ length out′
+pub shown-readable : (image out s : Text) {r : ℕ} {out′ : Text}
+    → r ≡ showResult image out s → out′ ≡ showLeft image out s → 20 ≤ r → r ≤ length out′
 unfolding showResult showLeft
 shown-readable image out s e f h =
     let text = imageText image in

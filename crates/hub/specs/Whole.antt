@@ -88,8 +88,8 @@ pub data Link : Step → Held → Held → ℕ → ℕ → Type 0 where
       → Hears (h .row .controller) (reportOf (h .row) b) r c′
       → Link (S.hear b) h (putInto h c′) (r .answer) (r .behind)
 
--- Calls of both kinds one after the other, their answers and the masks of those behind them; the row may have been taken
--- up from its image anywhere.
+-- Calls of both kinds one after the other, their answers and the masks of those behind them; anywhere the row may have
+-- been taken up from its image.
 pub data Links : Held → List Step → Held → List ℕ → List ℕ → Type 0 where
   stop : {h : Held} → Links h [] h [] []
   link : {h h′ h″ : Held} {st : Step} {sts : List Step} {n q : ℕ} {ns qs : List ℕ}

@@ -122,7 +122,8 @@ module _ (image : Text) where
         log-terms vs ts (suc j) m l ∙ ap (λ i. take m (drop (512 * i) ts)) z
         ∙ list-there (epochOf image) image n ok (p .store2) j h (f .store2) in
         of-true (terms-by (logOf (pairs vs ts) (suc j) m) ∙ ap (λ xs. every (map isEpoch xs)) g
-        ∙ is-true (every (map isEpoch (map (epochOf image) (listOf image j)))) (chain-epochs image n (listOf image j) e (of-true (sound-at n image j (omega (arith, h)) ok .records))))
+        ∙ is-true (every (map isEpoch (map (epochOf image) (listOf image j))))
+        (chain-epochs image n (listOf image j) e (of-true (sound-at n image j (omega (arith, h)) ok .records))))
 
     given : T (termsInRange (take (length (receiptsOf image)) (listed (placesIn image p))))
     unfolding placesIn
@@ -201,7 +202,8 @@ module _ (image : Text) (v : verdict image ≡ 0) where
   short-at (suc j) = ⊎-elim
       (λ h. let k : j < 9 = omega (arith, h) in
       subst (λ i. i ≤ 512) (sym (length-at image j h)) (sound-at (recordsIn image) image j k linked .short))
-      (λ h. let z = past-end (map length (boardsOf image)) j (omega (arith, h, lengths-eight image)) in omega (arith, z))
+      (λ h. let z = past-end (map length (boardsOf image)) j (omega (arith, h, lengths-eight image)) in
+      omega (arith, z))
       (le-or-lt (suc j) 8)
 
   pub range-fit : inRange (outlineOf (rowIn image)) ≡ true

@@ -89,7 +89,8 @@ pub judged-both : (image : Text) → _≡_ {A = ℕ} 0 (cond (lengthFits image) 
     → (lengthFits image ≡ true) × (numbersFit image ≡ true)
 judged-both image e = go (lengthFits image) (numbersFit image) refl refl
   where
-    go : (a b : Bool) → lengthFits image ≡ a → numbersFit image ≡ b → (lengthFits image ≡ true) × (numbersFit image ≡ true)
+    go : (a b : Bool) → lengthFits image ≡ a → numbersFit image ≡ b
+        → (lengthFits image ≡ true) × (numbersFit image ≡ true)
     go true true x y = (x, y)
     go true false x y = let z : _≡_ {A = ℕ} 0 18 = e ∙ rw (x, y) in absurd (omega (arith, z))
     go false b x y = let z : _≡_ {A = ℕ} 0 17 = e ∙ rw x in absurd (omega (arith, z))
@@ -109,8 +110,8 @@ module _ (image : Text) (given : Cluster) (p : Places) (s : Text) (t : lentEnoug
   -- What it leaves, as the chains are.
   seen : (h : Bool) → holds (recordsIn image) image ≡ h
       → Taken h image (p .store) store (p .store2) store2 len₀ len (p .list) list (p .list2) list2 s s′ k
-  seen h q = subst (λ b. Taken b image (p .store) store (p .store2) store2 len₀ len (p .list) list (p .list2) list2 s s′ k)
-      q x
+  seen h q = subst
+      (λ b. Taken b image (p .store) store (p .store2) store2 len₀ len (p .list) list (p .list2) list2 s s′ k) q x
 
   links-as : (h : Bool) → holds (recordsIn image) image ≡ h → verdict image ≡ cond h 0 19
   links-as h q = links ∙ ap (λ b. cond b 0 19) q

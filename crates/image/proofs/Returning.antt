@@ -62,8 +62,8 @@ module _ (row : Cluster) (p : Places) (typed : Typed row) (v : valid row p ≡ t
       ∙ sym (sized-firsts all (row .len) (row .issued) (sized row p (typed .shape) v) 1)
 
   back : Linked all (row .len) (row .issued) image
-  back = image-back all (row .len) (row .issued) (sized row p (typed .shape) v) head (head-length (outlineOf row) firsts)
-      firsts-right
+  back = image-back all (row .len) (row .issued) (sized row p (typed .shape) v) head
+      (head-length (outlineOf row) firsts) firsts-right
 
   size : length image ≡ 8 * sumOf all + 258
   size =
@@ -114,7 +114,8 @@ module _ (row : Cluster) (p : Places) (typed : Typed row) (v : valid row p ≡ t
   unfolding numbersFit
   numbers =
       let r = lengths-range image (row .len) (replicate 8 0) (row .issued) 0
-      (λ b. subst (λ n. n ≤ 512) (sym (getD-same {A = ℕ} 0 9 b)) (omega arith)) (omega arith) (ap (λ x. inRange (outlineOf x)) row-there ∙ valid-range row p v) in
+      (λ b. subst (λ n. n ≤ 512) (sym (getD-same {A = ℕ} 0 9 b)) (omega arith)) (omega arith)
+      (ap (λ x. inRange (outlineOf x)) row-there ∙ valid-range row p v) in
       rw (codes-back (outlineOf row) firsts (bytesOf (recordsAll 1 all)), r, epochs)
 
   links : linksFit image ≡ true

@@ -94,7 +94,11 @@ pub image-least : (s : RowState) → 258 ≤ length (imageOf s)
 unfolding imageOf
 image-least s =
     let h = headBytes (outline s) (firstsFor 1 (listsOf s)) in
-    omega (arith, length-append h (bytesOf (recordsAll 1 (listsOf s))), head-length (outline s) (firstsFor 1 (listsOf s)))
+    omega (
+      arith,
+      length-append h (bytesOf (recordsAll 1 (listsOf s))),
+      head-length (outline s) (firstsFor 1 (listsOf s)),
+    )
 
 -- and it has no more records than nine full lists.
 module _ (s : RowState) (short : (b : ℕ) → T (isReplica b) → length (s .log b) ≤ 512)

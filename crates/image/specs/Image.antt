@@ -39,8 +39,8 @@ abbrev pub lengthFits : Text → Bool
 lengthFits image = eqb (length image) (8 * recordsIn image + 258) && leb (recordsIn image) 4608
 
 -- nor "18 a number outside its range, a zero byte that is not 0, or a row that refusal 1 would turn away": the row as
--- the head says it and the epoch of every record, met by a chain or not. (An image has no lengths, so they are 0
--- here: that no list passes 512 is the next one's, and so refusal 1 lets the row that is returned through, `TakenFits`.)
+-- the head says it and the epoch of every record, met by a chain or not. (An image has no lengths, so they are 0 here.
+-- That no list passes 512 is the next one's; so refusal 1 lets the row that is returned through, `TakenFits`.)
 unfoldable pub numbersFit : Text → Bool
 numbersFit image =
     codesFit image && inRange (outlineOf (rowAt image (replicate 8 0) 0)) && epochsFit (recordsIn image) image

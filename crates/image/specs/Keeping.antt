@@ -17,8 +17,8 @@ use Rattle.shown.specs.Shown.{lengthsFit, valid}
 use Rattle.image.specs.declared.Loaded.{Loaded}
 use Rattle.image.specs.Image.{imageOf, verdict, rowIn, placesIn}
 
--- The writer, lent a slice whose bytes are `out`: it answers n and leaves out′. "Refusal 1 ... comes first, then 3 for a
--- slice too short; both change nothing": else the image's length, the image, and every byte past it as it was.
+-- The writer, lent a slice whose bytes are `out`: it answers n and leaves out′. "Refusal 1 ... comes first, then 3 for
+-- a slice too short; both change nothing": else the image's length, the image, and every byte past it as it was.
 pub record Saves (row : Cluster) (p : Places) (out : Text) (n : ℕ) (out′ : Text) : Type 0 where
   pub answer : n ≡ cond (valid row p)
       (cond (leb (length (imageOf (abs row p))) (length out)) (length (imageOf (abs row p))) 3) 1

@@ -18,8 +18,9 @@ pub struct Loaded {
     pub row: Cluster,
 }
 
-// A written row reads back as the same row, by the definitions and by the calls; an image has 258 to 37,122 bytes; every
-// image that is taken gives a row that refusal 1 lets through; no place past a list's length changes. Nothing to run.
+// A written row reads back as the same row, by the definitions and by the calls; an image has 258 to 37,122 bytes;
+// every image that is taken gives a row that refusal 1 lets through; no place past a list's length changes. Nothing to
+// run.
 pub fn claim()
     ensures { λ r. ⌜ ReadsBack × Resumes × ImagesTell × TakenFits × PastLeft ⌝ }
 {}

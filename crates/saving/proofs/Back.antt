@@ -147,7 +147,8 @@ module _ (lists : List (List Entry)) (len : List ℕ) (count : ℕ) (z : Sized l
           let v = log-there (valueOf image) (λ x. x .value) values-at store full i h in
           let t = log-there (epochOf image) (λ x. x .term) terms-at store2 also i h in
           sym (rw (b, pairs-drop (512 * i) store′ store2′)
-          (pairs-take n (drop (512 * i) store′) (drop (512 * i) store2′) ∙ ap₂ pairs v t ∙ pairs-back (getD lists i [])))
+          (pairs-take n (drop (512 * i) store′) (drop (512 * i) store2′) ∙ ap₂ pairs v t
+          ∙ pairs-back (getD lists i [])))
 
       receipts-back : getD lists 8 [] ≡ take count (pairs list′ list2′)
       receipts-back =

@@ -19,8 +19,8 @@ fn refuse(n: usize) {
     io::write_all(STDOUT_FILENO, b"refused 3\n");
 }
 
-// The longest image has 37,122 bytes: of a longer one so much is read that it is seen to be too long. The lines of a row
-// have 20 to 8,650 bytes (`LengthsTell`, archive::sample), so refusal 3 does not happen here.
+// The longest image has 37,122 bytes: of a longer one so much is read that it is seen to be too long. The lines of a
+// row have 20 to 8,650 bytes (`LengthsTell`, archive::sample), so refusal 3 does not happen here.
 fn main() {
     let mut image = [0u8; 37130];
     let mut text = [0u8; 8650];

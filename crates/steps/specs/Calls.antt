@@ -37,8 +37,8 @@ abbrev pub Called : Step → Held → Held → ℕ → ℕ → Type 0
 Called st h h′ n q = Did st (h .row) (h .places) (record { answer = n; behind = q; row = h′ .row }) (h′ .places)
 
 -- "The hub must store a row and take it up again" (document 02, Paper 7): the writer took what the caller holds, h, and
--- left out′ in its slice, of which the first n bytes are the image; the reader took these, and the caller holds h′ then.
--- In between, any calls may have been made; the reader is given any row, any places, any scratch.
+-- left out′ in its slice, of which the first n bytes are the image; the reader took these, and then the caller holds
+-- h′. In between, any calls may have been made; the reader is given any row, any places, any scratch.
 pub record TakenUp (h h′ : Held) : Type 0 where
   -- What the row's type fixes.
   pub typed : Typed (h .row)
@@ -51,7 +51,8 @@ pub record TakenUp (h h′ : Held) : Type 0 where
   pub scratch : Text
   pub scratch′ : Text
   pub loads :
-      Loads (take n out′) (given .row) (given .places) scratch (record { answer = 0; row = h′ .row }) (h′ .places) scratch′
+      Loads (take n out′) (given .row) (given .places) scratch
+      (record { answer = 0; row = h′ .row }) (h′ .places) scratch′
 
 -- Calls one after the other, their answers and the masks of those behind them. A call by name is one of its step; the
 -- call of a record is one of the step that the record stands for, which may be malformed. Anywhere, and any number of

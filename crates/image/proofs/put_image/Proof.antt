@@ -110,7 +110,8 @@ returns-2 c =
     let a = s .args in
     stored (a .row) (places s) (s .pre .1) (s .pre .0) (now (a .out)) (258 + 8 * d .total .result)
     (ap (λ n. 258 + 8 * n) (d .total .ensures)) (g .before .if1 .left) _ _
-    (h .put-head .ensures .text ∙ ap (λ f. over (now (a .out)) 0 (headBytes (outlineOf (a .row)) f)) (g .firsts .ensures))
+    (h .put-head .ensures .text
+    ∙ ap (λ f. over (now (a .out)) 0 (headBytes (outlineOf (a .row)) f)) (g .firsts .ensures))
     (e .put-chains .ensures)
 
 pub put-image-spec : {M : Type 1} → statement M

@@ -1,4 +1,5 @@
--- `resumesheet::keep` lends only what it may: a result that is no refusal is a length within the slice. Assumes nothing.
+-- `resumesheet::keep` lends only what it may: a result that is no refusal is a length within the slice. Assumes
+-- nothing.
 use mathlib.Core.Bool.{Bool, true, false, cond, _&&_}
 use mathlib.Core.Path.{_≡_, refl, sym, ap}
 use Prim.Native.Nat.{ℕ, _≤_}

@@ -35,11 +35,14 @@ returns : tie.Need-returns
 returns c = search needs
 
 array-share-prefix-text : tie.Need-array-share-prefix-text
-array-share-prefix-text c = let e = c .before .before .before .show-image .ensures in shown-readable _ _ _ (e .0) (e .1) (omega arith)
+array-share-prefix-text c =
+    let e = c .before .before .before .show-image .ensures in
+    shown-readable _ _ _ (e .0) (e .1) (omega arith)
 
 slice-aggregate-write-all : tie.Need-slice-aggregate-write-all
 slice-aggregate-write-all c =
-    let e = c .before .before .before .before .show-image .ensures in sym (length-take-le _ _ (shown-readable _ _ _ (e .0) (e .1) (omega arith)))
+    let e = c .before .before .before .before .show-image .ensures in
+    sym (length-take-le _ _ (shown-readable _ _ _ (e .0) (e .1) (omega arith)))
 
 write-all-requires : tie.Need-write-all-requires
 write-all-requires c κs = search needs
