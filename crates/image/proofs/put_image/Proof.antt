@@ -60,7 +60,7 @@ returns c =
     let d = c .before in
     let s = start d in
     too-short (s .args .row) (places s) (s .pre .1) (s .pre .0) (now (s .args .out)) (258 + 8 * d .total .result)
-    (ap (λ n. 258 + 8 * n) (d .total .ensures)) (c .if1 .taken)
+    (ap (λ n. 258 + 8 * n) (d .total .ensures)) (omega (arith, c .if1 .taken))
 
 firsts-requires : tie.Need-firsts-requires
 firsts-requires c κs = fit (start (c .before)) .short .most
