@@ -30,7 +30,7 @@ fn text_length(sheet: &[u8], answers: &[u8]) -> usize
     let mut i: usize = 0;
     while i < n {
         let r = records::decode(sheet, 8 * i);
-        total += phrases::line_length(r, answers[i] as usize);
+        total += telling::line_length(r, answers[i] as usize);
         i += 1;
     }
     total
@@ -68,7 +68,7 @@ fn put_text(out: &mut [u8], sheet: &[u8], answers: &[u8]) -> usize
     let mut i: usize = 0;
     while i < n {
         let r = records::decode(sheet, 8 * i);
-        let next = phrases::put_line(&mut *out, at, r, answers[i] as usize);
+        let next = telling::put_line(&mut *out, at, r, answers[i] as usize);
         at = next;
         i += 1;
     }

@@ -17,14 +17,15 @@ use Rattle.reading.specs.Reading.{isDigit, leading}
 use Rattle.reading.proofs.Decimal.{digits-differ, cut-digits}
 use Rattle.records.specs.Bytes.{recordAt, recordBytes}
 use Rattle.records.proofs.Encoding.{bytes-length}
+use Rattle.hex.specs.Hex.{hexes}
+use Rattle.hex.proofs.Hexes.{hexes-differ}
 use Rattle.phrases.specs.Phrases.{noStep, reasons, phraseIn, isListed}
-use Rattle.phrases.specs.Line.{hexes, leadText, trailText, boardPart, secondPart, stepText, rawText, headText, place, reasonText, verdictText, line}
+use Rattle.phrases.specs.Line.{leadText, trailText, boardPart, secondPart, stepText, rawText, headText, place, reasonText, verdictText, line}
 use Rattle.phrases.specs.Describe.{LinesDiffer}
 use Rattle.phrases.specs.Layout.{reasonAt}
 use Rattle.phrases.proofs.Testing.{passes, passes-both, same, told-apart}
 use Rattle.phrases.proofs.Fields.{every, every-append, every-more, isField, board-fields, second-fields, Small, small, bytes-back, hexes-fields}
 use Rattle.phrases.proofs.Listed.{there, place-of}
-use Rattle.phrases.proofs.Hexes.{hexes-differ}
 use Rattle.phrases.proofs.Forming.{by-form, Formed, formed, head-formed, head-raw, place-formed, place-raw, verdict-accepted, verdict-refused}
 use Rattle.phrases.proofs.Lengths.{place-below}
 

@@ -13,9 +13,10 @@ use Rattle.model.proofs.Tests.{split-and, join-and, by-test}
 use Rattle.text.specs.Text.{Text, digits}
 use Rattle.reading.proofs.Decimal.{by-digits}
 use Rattle.records.specs.Bytes.{recordAt, recordBytes}
-use Rattle.phrases.specs.Line.{hexDigit, hexes, boardPart, secondPart}
+use Rattle.hex.specs.Hex.{hexDigit, hexes}
+use Rattle.hex.proofs.Hexes.{Bytes}
+use Rattle.phrases.specs.Line.{boardPart, secondPart}
 use Rattle.phrases.specs.Describe.{EightBytes}
-use Rattle.phrases.proofs.Hexes.{Bytes}
 
 -- Bytes that pass a test
 

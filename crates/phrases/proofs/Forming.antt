@@ -1,6 +1,6 @@
 -- A line's parts by what is tested of a record and an answer. Assumes nothing.
 use mathlib.Core.Bool.{true, false, not, cond, _&&_, _||_}
-use mathlib.Core.List.{[], _++_}
+use mathlib.Core.List.{_++_}
 use mathlib.Core.Logic.{_≢_}
 use mathlib.Core.Path.{_≡_}
 use Prim.Native.Nat.{ℕ, _≤_}
@@ -9,10 +9,9 @@ use borrow.Author.Tests.{eq-eqb, ne-eqb}
 use Rattle.model.specs.Members.{isReplica}
 use Rattle.model.specs.Records.{Record, boardless, wellFormed}
 use Rattle.model.proofs.Tests.{of-true, split-and, by-test, is-true, is-false}
-use Rattle.text.specs.Text.{digits}
 use Rattle.lines.specs.Lines.{word}
 use Rattle.phrases.specs.Phrases.{noStep}
-use Rattle.phrases.specs.Line.{boardPart, secondPart, stepText, rawText, headText, place, reasonText, verdictText}
+use Rattle.phrases.specs.Line.{stepText, rawText, headText, place, reasonText, verdictText}
 
 -- What is known of the fields of a well-formed record.
 pub record Formed (r : Record) : Type 0 where
@@ -46,21 +45,6 @@ pub by-form : {P : Type 0} (r : Record) → (wellFormed r ≡ true → P) → (w
 by-form r f g = by-test (wellFormed r) (λ t. f (is-true (wellFormed r) t)) (λ t. g (is-false (wellFormed r) t))
 
 module _ (r : Record) where
-  pub board-none : boardless (r .step) ≡ true → [] ≡ boardPart r
-  board-none e = rw e
-
-  pub board-some : boardless (r .step) ≡ false → digits (r .board) ≡ boardPart r
-  board-some e = rw e
-
-  pub second-board : r .step ≡ 9 → digits (r .other) ≡ secondPart r
-  second-board e = rw (eq-eqb (r .step) 9 e)
-
-  pub second-value : r .step ≢ 9 → r .step ≡ 1 → digits (r .value) ≡ secondPart r
-  second-value f e = rw (ne-eqb (r .step) 9 f, eq-eqb (r .step) 1 e)
-
-  pub second-none : r .step ≢ 9 → r .step ≢ 1 → [] ≡ secondPart r
-  second-none f g = rw (ne-eqb (r .step) 9 f, ne-eqb (r .step) 1 g)
-
   pub head-formed : wellFormed r ≡ true → stepText r ≡ headText r
   unfolding headText
   head-formed e = rw e

@@ -15,11 +15,12 @@ use Rattle.text.proofs.Laws.{digits-one-length, digits-most-10}
 use Rattle.lines.specs.Lines.{word, newline}
 use Rattle.records.specs.Bytes.{recordAt, recordBytes}
 use Rattle.records.proofs.Encoding.{bytes-length}
+use Rattle.hex.specs.Hex.{hexes}
+use Rattle.hex.proofs.Hexes.{Bytes, hexes-triple}
 use Rattle.phrases.specs.Phrases.{noStep, phraseIn, isListed}
-use Rattle.phrases.specs.Line.{leadText, trailText, boardPart, secondPart, stepText, rawText, hexes, headText, place, verdictText, line}
+use Rattle.phrases.specs.Line.{leadText, trailText, boardPart, secondPart, stepText, rawText, headText, place, verdictText, line}
 use Rattle.phrases.specs.Describe.{LengthsTell}
 use Rattle.phrases.proofs.Testing.{passes, passes-both}
-use Rattle.phrases.proofs.Hexes.{Bytes, hexes-triple}
 use Rattle.phrases.proofs.Forming.{by-form, Formed, formed, head-formed, head-raw, place-formed, place-raw}
 use Rattle.phrases.proofs.Listed.{listed-below}
 

@@ -1,10 +1,8 @@
 pub mod Testing
-pub mod Parts
 pub mod Listed
-pub mod Hexes
 pub mod Forming
 pub mod Lengths
-pub mod Describing
+pub mod Trials
 pub mod Fields
 pub mod Differ
 pub mod Printing

@@ -13,8 +13,9 @@ use Rattle.model.proofs.Tests.{split-and, join-and, is-true, eq-or-ne}
 use Rattle.text.specs.Text.{Text}
 use Rattle.lines.specs.Lines.{word, newline}
 use Rattle.records.specs.Bytes.{recordAt, recordBytes}
+use Rattle.hex.specs.Hex.{hexes}
 use Rattle.phrases.specs.Phrases.{noStep, reasons, isListed}
-use Rattle.phrases.specs.Line.{hexes, leadText, trailText, boardPart, secondPart, stepText, rawText, headText, place, reasonText, verdictText, line}
+use Rattle.phrases.specs.Line.{leadText, trailText, boardPart, secondPart, stepText, rawText, headText, place, reasonText, verdictText, line}
 use Rattle.phrases.specs.Describe.{isOneLine, OneLine}
 use Rattle.phrases.specs.Layout.{reasonAt}
 use Rattle.phrases.proofs.Testing.{passes}

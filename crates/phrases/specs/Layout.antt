@@ -1,4 +1,4 @@
--- Places in the phrase list, as the code counts them. Cited by the contracts of `list`. Assumes nothing.
+-- Places in the phrase list, as the code counts them. Cited by the contracts of wording. Assumes nothing.
 use mathlib.Core.List.{List, [], _∷_}
 use Prim.Native.Nat.{ℕ}
 use lib.ListN.{getD}

@@ -1,28 +1,15 @@
--- The line of a record and its answer, byte for byte (document 02, Paper 5). Cited by Describe, by the
--- contracts of the writers, and by explain. Assumes nothing.
+-- The line of a record and its answer, byte for byte (document 02, Paper 5). Cited by Describe, by the contracts of the
+-- writers (form, wording, telling), and by explain. Assumes nothing.
 use mathlib.Core.Bool.{cond}
-use mathlib.Core.List.{[], _∷_, _++_}
-use Prim.Native.Nat.{ℕ, _+_, _/_, _%_}
-use lib.Dec.{ltb, eqb}
+use mathlib.Core.List.{[], _++_}
+use Prim.Native.Nat.{ℕ}
+use lib.Dec.{eqb}
 use Rattle.text.specs.Text.{Text, digits}
-use Rattle.lines.specs.Lines.{word, space, newline}
+use Rattle.lines.specs.Lines.{word, newline}
 use Rattle.model.specs.Records.{Record, boardless, wellFormed}
 use Rattle.records.specs.Bytes.{recordBytes}
+use Rattle.hex.specs.Hex.{hexes}
 use Rattle.phrases.specs.Phrases.{noStep, formOf, reasons, phraseIn}
-
--- "its eight bytes in hexadecimal"
-
--- Numbers below 16 are 0 to 9 and A to F.
-abbrev pub hexDigit : ℕ → ℕ
-hexDigit x = cond (ltb x 10) (48 + x) (55 + x)
-
-abbrev pub hex : ℕ → Text
-hex b = hexDigit (b / 16) ∷ hexDigit (b % 16) ∷ []
-
--- Bytes in hexadecimal, a space before each.
-unfoldable pub hexes : Text → Text
-hexes [] = []
-hexes (b ∷ bs) = space ++ (hex b ++ hexes bs)
 
 -- "the step's name, the boards and value it uses"
 

@@ -57,7 +57,7 @@ pub extern "C" fn describe_record(bytes: &[u8], answer: usize, line: &mut [u8]) 
     ensures { λ r. ⌜ (r ≡ Describe.result (now (bytes .entry)) answer (now (line .entry)))
         × (now (line .exit) ≡ Describe.left (now (bytes .entry)) answer (now (line .entry))) ⌝ }
 {
-    phrases::describe_record(bytes, answer, &mut *line)
+    describe::describe_record(bytes, answer, &mut *line)
 }
 
 // Sheet in, the image of its row out (document 02, Paper 7): the image's length, 2 for a sheet of wrong length or without

@@ -3,8 +3,9 @@ use mathlib.Core.Path.{refl}
 use Rattle.model.specs.Runs.{run, answers}
 use Rattle.text.specs.Text.{digits, digitsWithin, over, eachOf}
 use Rattle.records.specs.Bytes.{records, recordBytes, sheetBytes}
+use Rattle.hex.specs.Hex.{hexes}
 use Rattle.phrases.specs.Phrases.{phraseIn}
-use Rattle.phrases.specs.Line.{hexes, stepText, rawText, headText, verdictText, line}
+use Rattle.phrases.specs.Line.{stepText, rawText, headText, verdictText, line}
 use Rattle.sheet.specs.Sheet.{answersOf}
 use Rattle.explain.specs.Explain.{trialSheet, SampleHolds, RoomHolds, explained, result, left}
 use Rattle.explain.proofs.Explaining.{lengths-tell}

@@ -3,7 +3,7 @@ use Rattle.phrases.proofs.Differ.{lines-differ}
 use Rattle.phrases.proofs.Printing.{lines-one}
 use Rattle.phrases.proofs.Listed.{covers}
 use Rattle.phrases.proofs.Lengths.{lengths-tell}
-use Rattle.phrases.proofs.Describing.{lines-hold, room-holds}
+use Rattle.phrases.proofs.Trials.{lines-hold, room-holds}
 use Rattle.phrases.proofs.claim.Statement.{statement}
 use Rattle.phrases.proofs.claim.Tie as tie
 
