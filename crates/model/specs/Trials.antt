@@ -1,5 +1,5 @@
 -- The trials of document 01 marked P as one table, and the others, two of them of document 02. What P2 says of a sheet
--- stands in the crate `sheet`. Cited by the promise of `trials`. Assumes nothing.
+-- stands in the crate `sheet`, the two long ones in `limits`. Cited by the promise of `trials`. Assumes nothing.
 use mathlib.Core.Bool.{Bool, true, false, _&&_}
 use mathlib.Core.List.{List, [], _∷_, _++_}
 use Prim.Native.Nat.{ℕ, zero, suc}
@@ -93,20 +93,6 @@ table =
     ∷ running 1 (p8 ++ (bare 5 ∷ [])) (p8answers ++ (0 ∷ [])) p9seen
     ∷ []
 
--- "Append 512 accepted, 513 gives 13."
-abbrev full : Trial
-full = running 1 (replicate 513 (ofValue 1 1 7)) (replicate 512 0 ++ (13 ∷ [])) (λ s. eqb (length (s .log 1)) 512)
-
--- x and y in turn, n times each
-abbrev pub inTurn : {A : Type 0} → ℕ → A → A → List A
-inTurn zero x y = []
-inTurn (suc n) x y = x ∷ y ∷ inTurn n x y
-
--- "Adding and removing 2 in turn 3,999 times reaches epoch 4,000; the next gives 7."
-abbrev worn : Trial
-worn =
-    running 1 (inTurn 2000 (of 3 2) (of 4 2)) (replicate 3999 0 ++ (7 ∷ [])) (λ s. eqb (s .registry .view .epoch) 4000)
-
 -- "Members 1 to 4, leader 1, normal, news taken, logs empty."
 abbrev fourReady : List Record
 fourReady =
@@ -179,7 +165,7 @@ abbrev leaderless : Trial
 leaderless = running 1 (fourReady ++ (bare 5 ∷ of 6 2 ∷ of 7 2 ∷ of 8 2 ∷ [])) (replicate 15 0 ++ (9 ∷ 9 ∷ [])) unseen
 
 abbrev pub others : List Trial
-others = full ∷ worn ∷ running 1 fourReady (replicate 13 0) inFour ∷ four ∷ cut ∷ resold ∷ follower ∷ leaderless ∷ []
+others = running 1 fourReady (replicate 13 0) inFour ∷ four ∷ cut ∷ resold ∷ follower ∷ leaderless ∷ []
 
 -- The P trials: one table, one statement.
 unfoldable pub TrialsHold : Type 0
