@@ -1,4 +1,3 @@
 pub mod Back
-pub mod Eights
 pub mod Filled
 pub mod Typed

@@ -1,4 +1,4 @@
-// The head of an image (document 02, Paper 7), read; it is written in putting. Inner layer: callers see to it that the
+// The head of an image (document 02, Paper 7), read; crate `heading` writes it. Inner layer: callers see to it that the
 // image has a head.
 
 ghost use mathlib.Core.Path.{_≡_};
@@ -12,8 +12,6 @@ use cluster::Registry;
 use cluster::Stage;
 use cluster::Status;
 use cluster::View;
-
-pub mod putting;
 
 // A status by its number; codes_fit is for those past the last.
 fn status(n: u8) -> Status

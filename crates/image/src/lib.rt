@@ -49,7 +49,7 @@ fn put_image(
         return 3;
     }
     let firsts = saving::firsts(len, count);
-    head::putting::put_head(&mut *out, row, firsts);
+    heading::put_head(&mut *out, row, firsts);
     saving::put_chains(&mut *out, store, store2, &len, list, list2, count as usize);
     n
 }

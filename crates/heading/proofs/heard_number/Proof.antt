@@ -1,8 +1,8 @@
--- `head::putting::heard_number` meets its contract. Assumes nothing.
+-- `heading::heard_number` meets its contract. Assumes nothing.
 use borrow.Author.Tests.{eq-eqb, ne-eqb}
 use borrow.Author.Needs.{needs}
-use Rattle.head.proofs.putting.heard_number.Statement.{statement}
-use Rattle.head.proofs.putting.heard_number.Tie as tie
+use Rattle.heading.proofs.heard_number.Statement.{statement}
+use Rattle.heading.proofs.heard_number.Tie as tie
 
 returns : tie.Need-returns
 returns c = rw (eq-eqb _ _ (c .if1 .taken))

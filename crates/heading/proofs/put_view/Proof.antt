@@ -1,9 +1,9 @@
--- `head::putting::put_view` meets its contract. Assumes nothing.
+-- `heading::put_view` meets its contract. Assumes nothing.
 use Rattle.text.proofs.Laws.{then}
 use Rattle.head.proofs.Back.{mask-back}
 use borrow.Author.Needs.{needs}
-use Rattle.head.proofs.putting.put_view.Statement.{statement}
-use Rattle.head.proofs.putting.put_view.Tie as tie
+use Rattle.heading.proofs.put_view.Statement.{statement}
+use Rattle.heading.proofs.put_view.Tie as tie
 
 put-epochs-requires : tie.Need-put-epochs-requires
 put-epochs-requires c κs = search needs

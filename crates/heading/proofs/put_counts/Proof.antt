@@ -1,4 +1,4 @@
--- `head::putting::put_counts` meets its contract. The loop's invariant: the counts for boards 1 to k are written, up to
+-- `heading::put_counts` meets its contract. The loop's invariant: the counts for boards 1 to k are written, up to
 -- place p. Assumes nothing.
 use mathlib.Core.List.{List}
 use mathlib.Core.Path.{_≡_, ap, _∙_}
@@ -10,9 +10,9 @@ use Rattle.cluster.proofs.Ranging.{at-pair}
 use Rattle.fields.specs.Fields.{two}
 use Rattle.text.specs.Text.{Text, Wrote, eachOf}
 use Rattle.text.proofs.Laws.{nothing, wrote-length}
-use Rattle.head.proofs.Eights.{upTo, eight-room, eight-more, eight-all}
-use Rattle.head.proofs.putting.put_counts.Statement.{statement}
-use Rattle.head.proofs.putting.put_counts.Tie as tie
+use Rattle.heading.proofs.Eights.{upTo, eight-room, eight-more, eight-all}
+use Rattle.heading.proofs.put_counts.Statement.{statement}
+use Rattle.heading.proofs.put_counts.Tie as tie
 
 abbrev count : List ℕ → ℕ → ℕ → Text
 count acked i b = two (atPair acked (suc i) b)

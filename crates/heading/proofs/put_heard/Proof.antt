@@ -1,9 +1,9 @@
--- `head::putting::put_heard` meets its contract. Assumes nothing.
+-- `heading::put_heard` meets its contract. Assumes nothing.
 use mathlib.Core.Path.{sym}
 use Rattle.text.proofs.Laws.{then}
 use borrow.Author.Needs.{needs}
-use Rattle.head.proofs.putting.put_heard.Statement.{statement}
-use Rattle.head.proofs.putting.put_heard.Tie as tie
+use Rattle.heading.proofs.put_heard.Statement.{statement}
+use Rattle.heading.proofs.put_heard.Tie as tie
 
 heard-number-requires : tie.Need-heard-number-requires
 heard-number-requires c κs = search needs

@@ -1,8 +1,8 @@
--- `head::putting::put_epochs` meets its contract. Assumes nothing.
+-- `heading::put_epochs` meets its contract. Assumes nothing.
 use Rattle.text.proofs.Laws.{then}
 use borrow.Author.Needs.{needs}
-use Rattle.head.proofs.putting.put_epochs.Statement.{statement}
-use Rattle.head.proofs.putting.put_epochs.Tie as tie
+use Rattle.heading.proofs.put_epochs.Statement.{statement}
+use Rattle.heading.proofs.put_epochs.Tie as tie
 
 put-two-requires : tie.Need-put-two-requires
 put-two-requires c κs = search needs

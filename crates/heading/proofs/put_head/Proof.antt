@@ -1,11 +1,11 @@
--- `head::putting::put_head` meets its contract. Assumes nothing.
+-- `heading::put_head` meets its contract. Assumes nothing.
 use mathlib.Core.Path.{ap}
 use Rattle.cluster.specs.Layout.{viewOf}
 use Rattle.text.proofs.Laws.{then, wrote-as}
 use Rattle.head.specs.Head.{viewBytes, headBytes}
 use borrow.Author.Needs.{needs}
-use Rattle.head.proofs.putting.put_head.Statement.{statement}
-use Rattle.head.proofs.putting.put_head.Tie as tie
+use Rattle.heading.proofs.put_head.Statement.{statement}
+use Rattle.heading.proofs.put_head.Tie as tie
 
 status-number-requires : tie.Need-status-number-requires
 status-number-requires c κs = search needs

@@ -1,14 +1,14 @@
--- `head::putting::put_boards` meets its contract. The loop's invariant: what boards 1 to i have is written, up to place
+-- `heading::put_boards` meets its contract. The loop's invariant: what boards 1 to i have is written, up to place
 -- p. Assumes nothing.
 use Prim.Native.Nat.{ℕ, _-_, _≤_}
 use native.Mathlib.Omega.{arith}
 use Rattle.cluster.specs.Layout.{outlineOf}
 use Rattle.text.specs.Text.{Text, Wrote, eachOf}
 use Rattle.text.proofs.Laws.{nothing, wrote-length}
 use Rattle.head.specs.Head.{boardBytes}
-use Rattle.head.proofs.Eights.{upTo, eight-room, eight-more, eight-all}
-use Rattle.head.proofs.putting.put_boards.Statement.{statement}
-use Rattle.head.proofs.putting.put_boards.Tie as tie
+use Rattle.heading.proofs.Eights.{upTo, eight-room, eight-more, eight-all}
+use Rattle.heading.proofs.put_boards.Statement.{statement}
+use Rattle.heading.proofs.put_boards.Tie as tie
 
 abbrev Inv-loop : tie.InvT-loop
 Inv-loop out₀ at row firsts p₀ i₀ out p i = (i ≤ 8) × Wrote out₀ at (upTo (boardBytes (outlineOf row) firsts) i) out p

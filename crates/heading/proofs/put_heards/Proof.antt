@@ -1,4 +1,4 @@
--- `head::putting::put_heards` meets its contract. The loop's invariant: what was heard of boards 1 to i is written, up
+-- `heading::put_heards` meets its contract. The loop's invariant: what was heard of boards 1 to i is written, up
 -- to place p. Assumes nothing.
 use mathlib.Core.List.{List, _++_}
 use Prim.Native.Nat.{ℕ, _-_, _≤_}
@@ -7,10 +7,10 @@ use Rattle.cluster.specs.Layout.{at}
 use Rattle.fields.specs.Fields.{two}
 use Rattle.text.specs.Text.{Text, Wrote, eachOf}
 use Rattle.text.proofs.Laws.{nothing, wrote-length}
 use Rattle.head.specs.Head.{heardNumber}
-use Rattle.head.proofs.Eights.{upTo, eight-room, eight-more, eight-all}
-use Rattle.head.proofs.putting.put_heards.Statement.{statement}
-use Rattle.head.proofs.putting.put_heards.Tie as tie
+use Rattle.heading.proofs.Eights.{upTo, eight-room, eight-more, eight-all}
+use Rattle.heading.proofs.put_heards.Statement.{statement}
+use Rattle.heading.proofs.put_heards.Tie as tie
 
 abbrev told : List ℕ → List ℕ → ℕ → Text
 told heard joined b = two (heardNumber (at 0 heard b)) ++ two (at 0 joined b)

@@ -1,5 +1,5 @@
-// The head of an image, written. Each writer stores its bytes in out from place at on and answers the place after them.
-// Inner layer: callers see to the room.
+// The head of an image (document 02, Paper 7), written; crate `head` has what it is, and reads it. Each writer stores
+// its bytes in out from place at on and answers the place after them. Inner layer: callers see to the room.
 
 ghost use mathlib.Core.List.{[], _∷_, _++_};
 ghost use mathlib.Core.Path.{_≡_};

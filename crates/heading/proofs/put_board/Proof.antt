@@ -1,8 +1,8 @@
--- `head::putting::put_board` meets its contract. Assumes nothing.
+-- `heading::put_board` meets its contract. Assumes nothing.
 use Rattle.text.proofs.Laws.{then}
 use borrow.Author.Needs.{needs}
-use Rattle.head.proofs.putting.put_board.Statement.{statement}
-use Rattle.head.proofs.putting.put_board.Tie as tie
+use Rattle.heading.proofs.put_board.Statement.{statement}
+use Rattle.heading.proofs.put_board.Tie as tie
 
 mul-v : tie.Need-mul-v
 mul-v c = search needs
