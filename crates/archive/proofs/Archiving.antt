@@ -20,8 +20,8 @@ use Rattle.shown.proofs.Valid.{all-tests, fits-full, valid-range}
 use Rattle.records.specs.Bytes.{isSheet}
 use Rattle.listing.specs.Listing.{ending}
 use Rattle.marks.specs.Marks.{room}
-use Rattle.sheet.specs.Running.{stateAt, Ran}
-use Rattle.sheet.proofs.Playing.{ran-fits, kept-fits}
+use Rattle.running.specs.Running.{stateAt, Ran}
+use Rattle.running.proofs.Playing.{ran-fits, kept-fits}
 use Rattle.image.specs.declared.Loaded.{Loaded}
 use Rattle.image.specs.Image.{imageOf, verdict, rowIn, placesIn}
 use Rattle.image.specs.Keeping.{Saves, Loads, taken, TakenFits}

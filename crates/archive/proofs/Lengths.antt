@@ -32,9 +32,9 @@ use Rattle.head.specs.Head.{headBytes, rowAt}
 use Rattle.head.proofs.Back.{head-length}
 use Rattle.saving.specs.Saved.{firstsFor, recordsFor, recordsAll, bytesOf, sumOf}
 use Rattle.saving.proofs.Bytes.{bytes-length}
-use Rattle.sheet.specs.Sheet.{sampleSheet}
-use Rattle.sheet.proofs.Playing.{sheet-real}
-use Rattle.sheet.proofs.Listings.{within, kept-length}
+use Rattle.running.specs.Sample.{sampleSheet}
+use Rattle.running.proofs.Playing.{sheet-real}
+use Rattle.running.proofs.Results.{within, kept-length}
 use Rattle.marks.specs.Marks.{room}
 use borrow.Author.Tests.{leb-true}
 use Rattle.chains.specs.Chain.{chain, chainsOf, wellLinked, joined, has, distinct, upTo}

@@ -16,7 +16,7 @@ use Rattle.text.specs.Text.{Text, over}
 use Rattle.records.specs.Bytes.{recordAt, records, isSheet}
 use Rattle.lines.specs.Lines.{word}
 use Rattle.listing.specs.Listing.{ending}
-use Rattle.sheet.specs.Sheet.{sampleSheet}
+use Rattle.running.specs.Sample.{sampleSheet}
 use Rattle.marks.specs.Marks.{room}
 use Rattle.chains.specs.Image.{valuesOf, epochsOf}
 use Rattle.loading.specs.Read.{receiptsOf}

@@ -27,7 +27,7 @@ pub fn save_sheet(sheet: &[u8], out: &mut [u8]) -> usize
     let mut list2 = [0u16; 512];
     let mut answers = [0u8; 4096];
     let mut sets = [0u8; 4096];
-    let row = sheet::running::play(
+    let row = running::play(
         sheet,
         &mut store,
         &mut store2,

@@ -16,9 +16,9 @@ use Rattle.phrases.specs.Phrases.{isListed}
 use Rattle.phrases.specs.Line.{line}
 use Rattle.phrases.proofs.Listed.{covers}
 use Rattle.phrases.proofs.Lengths.{line-most, line-least, value-small}
-use Rattle.sheet.specs.Sheet.{answersOf}
-use Rattle.sheet.proofs.Playing.{sheet-whole}
-use Rattle.sheet.proofs.Listings.{answers-most, within, kept-length}
+use Rattle.running.specs.Running.{answersOf}
+use Rattle.running.proofs.Playing.{sheet-whole, answers-most}
+use Rattle.running.proofs.Results.{within, kept-length}
 use Rattle.explain.specs.Explain.{lineAt, explained, result, left, LengthsTell}
 
 -- An answer up to 16 is on the list.

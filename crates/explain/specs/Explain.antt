@@ -11,7 +11,8 @@ use Rattle.model.specs.Records.{bare, of, ofValue}
 use Rattle.records.specs.Bytes.{recordAt, sheetBytes, isSheet}
 use Rattle.lines.specs.Lines.{word}
 use Rattle.phrases.specs.Line.{line}
-use Rattle.sheet.specs.Sheet.{answersOf, sampleSheet, slice}
+use Rattle.running.specs.Running.{answersOf}
+use Rattle.running.specs.Sample.{sampleSheet, slice}
 
 -- The line of the record after i others of the sheet s, with its answer of ns.
 abbrev pub lineAt : Text → List ℕ → ℕ → Text

@@ -101,6 +101,6 @@ pub fn explain_sheet(sheet: &[u8], text: &mut [u8]) -> usize
     if !records::is_sheet(sheet) {
         return 2;
     }
-    let answers = sheet::answers(sheet);
+    let answers = running::answers(sheet);
     deliver(sheet, &answers, text)
 }

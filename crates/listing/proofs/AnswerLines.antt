@@ -7,7 +7,7 @@ use native.Mathlib.Nat.{add-zero, add-suc}
 use native.Mathlib.Numerals.{add-one}
 use native.Mathlib.Omega.{arith}
 use lib.ListN.{length, take, drop, getD, length-append, length-map}
-use lib.Seq.{take-suc, length-take-le, getD-drop, getD-take, drop-drop}
+use lib.Seq.{take-suc, length-take-le, getD-drop, getD-take}
 use Rattle.model.specs.Members.{Members}
 use Rattle.model.specs.Records.{Record}
 use Rattle.cluster.specs.Layout.{bits}
@@ -15,18 +15,10 @@ use Rattle.model.proofs.Made.{All}
 use Rattle.text.specs.Text.{Text, digits}
 use Rattle.text.proofs.Laws.{digits-most, digits-most-4, digits-most-10}
 use Rattle.records.specs.Bytes.{recordAt, records}
+use Rattle.records.proofs.Decoding.{records-suc, records-length}
 use Rattle.lines.specs.Lines.{hasFourth, answerLine}
 use Rattle.lines.proofs.Lengths.{line-length, members-most, fourth-of, fourth-none, fourth-some}
 use Rattle.listing.specs.Listing.{answerLines, lines}
-
--- One record more.
-pub records-suc : (k : ℕ) (s : Text) → records (suc k) s ≡ records k s ++ (recordAt (drop (8 * k) s) ∷ [])
-unfolding records
-records-suc zero s = refl
-records-suc (suc k) s =
-    let n : 8 + 8 * k ≡ 8 * suc k = omega arith in
-    let d : drop (8 * k) (drop 8 s) ≡ drop (8 * suc k) s = drop-drop (8 * k) 8 s ∙ ap (λ m. drop m s) n in
-    ap (λ rs. recordAt s ∷ rs) (records-suc k (drop 8 s) ∙ ap (λ t. records k (drop 8 s) ++ (recordAt t ∷ [])) d)
 
 -- One record, one answer and one set more are one line more.
 answerLines-suc : (k : ℕ) (rs : List Record) (ns : List ℕ) (qs : List Members) → length rs ≡ length ns
@@ -47,11 +39,6 @@ answerLines-suc k [] [] (p ∷ qs) e f r n q = absurd (omega (arith, f))
 answerLines-suc k [] (m ∷ ns) qs e f r n q = absurd (omega (arith, e))
 answerLines-suc k (t ∷ rs) [] qs e f r n q = absurd (omega (arith, e))
 answerLines-suc k (t ∷ rs) (m ∷ ns) [] e f r n q = absurd (omega (arith, f))
-
-pub records-length : (n : ℕ) (s : Text) → length (records n s) ≡ n
-unfolding records
-records-length zero s = refl
-records-length (suc n) s = ap suc (records-length n (drop 8 s))
 
 -- The line of the record after i others.
 abbrev pub lineAt : Text → List ℕ → List ℕ → ℕ → Text

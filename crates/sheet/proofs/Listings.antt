@@ -7,7 +7,6 @@ use native.Mathlib.Omega.{arith}
 use lib.Dec.{leb}
 use lib.ListN.{length, take, drop, getD, length-append}
 use lib.Seq.{getD-drop}
-use borrow.Author.Tests.{leb-true}
 use Rattle.model.specs.Members.{none}
 use Rattle.model.specs.State.{entries, outline, Opening, opened}
 use Rattle.model.specs.Records.{openingOf, Record}
@@ -24,17 +23,18 @@ use Rattle.cluster.specs.declared.Cluster.{Cluster}
 use Rattle.cluster.specs.Layout.{outlineOf}
 use Rattle.refinement.specs.Refinement.{Places, listed}
 use Rattle.text.specs.Text.{Text, over, Delivered}
-use Rattle.text.proofs.Laws.{over-length, digits-one-length}
+use Rattle.text.proofs.Laws.{digits-one-length}
 use Rattle.records.specs.Bytes.{recordAt, records, wholeRecords, isSheet}
 use Rattle.lines.specs.Lines.{answerLine}
 use Rattle.listing.specs.Listing.{answerLines, lines, ending}
 use Rattle.lines.proofs.Lengths.{line-length}
-use Rattle.listing.proofs.AnswerLines.{records-length, line-most, each-most, records-small}
+use Rattle.listing.proofs.AnswerLines.{line-most, each-most, records-small}
 use Rattle.listing.proofs.Endings.{ending-most}
-use Rattle.sheet.specs.Sheet.{listingOf, listing, answersOf, result, left, openingBytes, Refused, RefusedHolds, LengthsTell}
-use Rattle.sheet.specs.Running.{following, stateAt, Ran}
-use Rattle.records.proofs.Decoding.{room}
-use Rattle.sheet.proofs.Playing.{sheet-whole, sheet-most, sheet-step, sheet-real, all-most}
+use Rattle.sheet.specs.Sheet.{listingOf, listing, result, left, openingBytes, Refused, RefusedHolds, LengthsTell}
+use Rattle.running.specs.Running.{following, stateAt, Ran}
+use Rattle.records.proofs.Decoding.{room, records-length}
+use Rattle.running.proofs.Results.{within, kept-length}
+use Rattle.running.proofs.Playing.{sheet-whole, sheet-some, sheet-most, sheet-step, sheet-real, all-most}
 
 -- The first lines of the listing.
 pub lines-are : (s : Text) (k : ℕ) (row : Cluster) (p : Places) (ns ms : List ℕ) → isSheet s ≡ true
@@ -149,14 +149,6 @@ module _ (s : Text) (e : isSheet s ≡ true) (row : Cluster) (p : Places) (ns ms
   abbrev past : List Step
   past = stepsOf (following s k)
 
-  some : suc k ≡ length s / 8
-  some = omega (arith, room (length s) (sheet-whole s e))
-
-  -- The answers that were kept are those of the run.
-  pub answers-are : take (length s / 8) ns ≡ answersOf s
-  unfolding answersOf
-  answers-are = ap (λ n. take n ns) (sym some) ∙ h .answered
-
   -- The list holds the receipts given.
   kept : take (row .issued) (listed p) ≡ receipts entries opening past
   kept = ap (λ x. x .committed) (h .state) ∙ safe entries opening (sheet-real s e) past .kept
@@ -164,7 +156,7 @@ module _ (s : Text) (e : isSheet s ≡ true) (row : Cluster) (p : Places) (ns ms
   pub whole : lines s ns ms (length s / 8) ++ ending (outlineOf row) (take (row .issued) (listed p)) ≡ listing s
   unfolding listing listingOf
   whole =
-      ap₂ (λ x y. x ++ y) (ap (lines s ns ms) (sym some) ∙ lines-are s k row p ns ms e h)
+      ap₂ (λ x y. x ++ y) (ap (lines s ns ms) (sym (sheet-some s e)) ∙ lines-are s k row p ns ms e h)
       (ap₂ ending (h .outlined) kept)
       ∙ append-assoc (answerLine 1 0 0 none)
       (answerLines 2 (following s k) (answers entries (opened opening) past) (setsBehind entries (opened opening) past))
@@ -182,28 +174,13 @@ module _ (s : Text) (e : isSheet s ≡ true) (row : Cluster) (p : Places) (ns ms
             ∙ ap (λ t. cond (t && leb (length (listing s)) (length out)) (over out 0 (listing s)) out) (sym e),
       )
 
--- No answer of a sheet is above 16.
-pub answers-most : (s : Text) (i : ℕ) → getD (answersOf s) i 0 ≤ 16
-unfolding answersOf
-answers-most s i =
-    all-most (opened (openingOf (recordAt s))) (stepsOf (records (length s / 8 - 1) (drop 8 s))) i
-
 -- A result that is no refusal is a length within the slice,
-pub within : (a t : Bool) (n m : ℕ) → leb n m ≡ t → 3 < cond a (cond t n 3) 2 → cond a (cond t n 3) 2 ≤ m
-within true true n m e h = leb-true n m e
-within true false n m e h = absurd (omega (arith, h))
-within false t n m e h = absurd (omega (arith, h))
-
 result-within : (s out : Text) → 3 < result s out → result s out ≤ length out
 unfolding result
 result-within s out h =
     within (isSheet s) (leb (length (listing s)) (length out)) (length (listing s)) (length out) refl h
 
 -- and the slice is as long as it was.
-pub kept-length : (t : Bool) (out xs : Text) → length (cond t (over out 0 xs) out) ≡ length out
-kept-length true out xs = over-length out 0 xs
-kept-length false out xs = refl
-
 left-length : (s out : Text) → length (left s out) ≡ length out
 unfolding left
 left-length s out = kept-length (isSheet s && leb (length (listing s)) (length out)) out (listing s)

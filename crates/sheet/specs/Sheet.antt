@@ -6,7 +6,7 @@ use mathlib.Core.List.{List, [], _∷_, _++_}
 use mathlib.Core.Path.{_≡_}
 use Prim.Native.Nat.{ℕ, _+_, _-_, _*_, _/_, _≤_}
 use lib.Dec.{leb}
-use lib.ListN.{length, getD, drop, replicate}
+use lib.ListN.{length, getD, drop}
 use Rattle.model.specs.Members.{none}
 use Rattle.model.specs.State.{entries, outline, Opening, opened}
 use Rattle.model.specs.Records.{openingOf, Record, bare, of, ofBoth, ofValue}
@@ -16,6 +16,7 @@ use Rattle.text.specs.Text.{Text, over}
 use Rattle.records.specs.Bytes.{recordAt, records, sheetBytes, isSheet}
 use Rattle.lines.specs.Lines.{word, answerLine}
 use Rattle.listing.specs.Listing.{answerLines, ending}
+use Rattle.running.specs.Sample.{sampleSheet, slice}
 
 -- The listing
 
@@ -32,11 +33,6 @@ unfoldable pub listing : Text → Text
 unfolding records listingOf
 listing s = listingOf (openingOf (recordAt s)) (records (length s / 8 - 1) (drop 8 s))
 
--- The answers of its records, the opening's first.
-unfoldable pub answersOf : Text → List ℕ
-unfolding records
-answersOf s = 0 ∷ answers entries (opened (openingOf (recordAt s))) (stepsOf (records (length s / 8 - 1) (drop 8 s)))
-
 -- The call, with the sheet s and a slice whose bytes are `out`
 
 -- "... one number, the listing's length, or 2 or 3 if refused"; "for a sheet 2, then 3."
@@ -52,15 +48,8 @@ left s out = cond (isSheet s && leb (length (listing s)) (length out)) (over out
 
 -- Trials
 
--- The sample of document 01: opening 1; append 1, 41; receipt by 1; add 2. Its listing as document 02 has it: boards
--- `late` (Paper 1), the receipt `41@1` (Paper 4), board 1 behind it (Paper 6).
-abbrev pub sampleSheet : Text
-sampleSheet =
-    0 ∷ 1 ∷ 0 ∷ 0 ∷ 0 ∷ 0 ∷ 0 ∷ 0
-    ∷ 1 ∷ 1 ∷ 0 ∷ 0 ∷ 41 ∷ 0 ∷ 0 ∷ 0
-    ∷ 2 ∷ 1 ∷ 0 ∷ 0 ∷ 0 ∷ 0 ∷ 0 ∷ 0
-    ∷ 3 ∷ 2 ∷ 0 ∷ 0 ∷ 0 ∷ 0 ∷ 0 ∷ 0 ∷ []
-
+-- The sample's listing as document 02 has it: boards `late` (Paper 1), the receipt `41@1` (Paper 4), board 1 behind it
+-- (Paper 6).
 abbrev pub sampleListing : Text
 sampleListing =
     word "1 0 0\n2 1 0\n3 2 0 1\n4 3 0\nregistry 2 1 1 12 waiting\ncontrol 1 1 1 1 idle\nboard 1 1 1 1 1 1 1 late\nboard 2 1 1 1 1 1 0 late\n"
@@ -98,10 +87,6 @@ setsListing =
 
 unfoldable pub SetsHold : Type 0
 SetsHold = (isSheet setsSheet ≡ true) × (listing setsSheet ≡ setsListing)
-
--- A slice of n bytes.
-abbrev pub slice : ℕ → Text
-slice n = replicate n 255
 
 -- A slice one byte short is refused and keeps its bytes; one of the listing's length is enough; a longer one keeps
 -- those past the listing.

@@ -1,44 +1,14 @@
 // A sheet and its listing: the call behind the entry for the hub's firmware (crate row) and the program `runsheet`.
 
-ghost use mathlib.Core.Bool.{true};
 ghost use mathlib.Core.Path.{_≡_};
-ghost use Prim.Native.Nat.{_/_};
-ghost use lib.ListN.{length, take};
 ghost use Rattle.model.specs.Trials.{TrialsHold};
-ghost use Rattle.records.specs.Bytes.{isSheet};
-ghost use Rattle.sheet.specs.Sheet.{answersOf, SampleHolds, SetsHold, RoomHolds, RefusedHolds, LengthsTell, result, left};
-
-pub mod running;
+ghost use Rattle.sheet.specs.Sheet.{SampleHolds, SetsHold, RoomHolds, RefusedHolds, LengthsTell, result, left};
 
 // The papers' sample sheet has the papers' listing, byte for byte, and a sheet with large sets its own; short slices
 // and bad openings are refused; a listing of n records has 4 to 19 n + 8,650 bytes. By the definitions: nothing to run.
 pub fn sample()
     ensures { λ r. ⌜ SampleHolds × SetsHold × RoomHolds × RefusedHolds × LengthsTell × TrialsHold ⌝ }
 {}
-
-// The answers of a sheet's records, in an array whose further bytes are free. Inner layer: callers see to it that
-// refusal 2 lets the sheet through. The sheet is run in places of this call's own.
-pub fn answers(sheet: &[u8]) -> [u8; 4096]
-    requires { ⌜ isSheet (now sheet) ≡ true ⌝ }
-    ensures { λ r. ⌜ take (length (now (sheet .entry)) / 8) r ≡ answersOf (now (sheet .entry)) ⌝ }
-{
-    let mut store = [0u32; 4096];
-    let mut store2 = [0u16; 4096];
-    let mut list = [0u32; 512];
-    let mut list2 = [0u16; 512];
-    let mut answers = [0u8; 4096];
-    let mut sets = [0u8; 4096];
-    running::play(
-        sheet,
-        &mut store,
-        &mut store2,
-        &mut list,
-        &mut list2,
-        &mut answers,
-        &mut sets,
-    );
-    answers
-}
 
 // Sheet in, listing out. It returns the listing's length, 2 for a sheet of wrong length or without
 // a valid opening, 3 for a slice that is shorter than the listing. Nothing is written before both are decided: the

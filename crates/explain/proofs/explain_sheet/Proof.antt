@@ -6,7 +6,7 @@ use denote.Ref.{now}
 use borrow.Author.Tests.{not-true, not-false}
 use Rattle.records.specs.Bytes.{isSheet}
 use Rattle.text.specs.Text.{Text}
-use Rattle.sheet.proofs.Playing.{sheet-most}
+use Rattle.running.proofs.Playing.{sheet-most}
 use Rattle.explain.proofs.Explaining.{no-sheet, all-listed, delivered}
 use borrow.Author.Needs.{needs}
 use Rattle.explain.proofs.explain_sheet.Statement.{statement}

@@ -6,7 +6,7 @@ use Rattle.records.specs.Bytes.{records, recordBytes, sheetBytes}
 use Rattle.hex.specs.Hex.{hexes}
 use Rattle.phrases.specs.Phrases.{phraseIn}
 use Rattle.phrases.specs.Line.{stepText, rawText, headText, verdictText, line}
-use Rattle.sheet.specs.Sheet.{answersOf}
+use Rattle.running.specs.Running.{answersOf}
 use Rattle.explain.specs.Explain.{trialSheet, SampleHolds, RoomHolds, explained, result, left}
 use Rattle.explain.proofs.Explaining.{lengths-tell}
 use Rattle.explain.proofs.sample.Statement.{statement}

@@ -10,7 +10,7 @@ use borrow.Author.Tests.{not-true, not-false}
 use Rattle.records.specs.Bytes.{isSheet}
 use Rattle.text.specs.Text.{Text}
 use Rattle.text.proofs.Laws.{wrote-length, read-back}
-use Rattle.sheet.proofs.Playing.{sheet-most, ran-fits, ran-terms, ran-issued, ran-most}
+use Rattle.running.proofs.Playing.{sheet-most, ran-fits, ran-terms, ran-issued, ran-most}
 use Rattle.sheet.proofs.Listings.{no-sheet, delivered}
 use borrow.Author.Needs.{needs}
 use Rattle.sheet.proofs.run_sheet.Statement.{statement}

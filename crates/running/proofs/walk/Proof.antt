@@ -1,4 +1,4 @@
--- `sheet::running::walk` meets its contract. The loop's invariant: the sheet was run up to k. Assumes nothing.
+-- `running::walk` meets its contract. The loop's invariant: the sheet was run up to k. Assumes nothing.
 use mathlib.Core.Path.{_≡_, subst, _∙_}
 use Prim.Native.Nat.{_+_, _-_, _/_, _≤_, _<_}
 use native.Mathlib.Omega.{arith}
@@ -7,11 +7,11 @@ use denote.Ref.{now}
 use borrow.Author.Needs.{needs}
 use Rattle.cluster.specs.declared.Cluster.{Cluster}
 use Rattle.refinement.specs.Refinement.{Places, lent, rowOf, Shape}
-use Rattle.sheet.specs.Running.{Ran}
+use Rattle.running.specs.Running.{Ran}
 use Rattle.records.proofs.Decoding.{room}
-use Rattle.sheet.proofs.Playing.{sheet-whole, sheet-most, ran-ready, ran-more}
-use Rattle.sheet.proofs.running.walk.Statement.{statement}
-use Rattle.sheet.proofs.running.walk.Tie as tie
+use Rattle.running.proofs.Playing.{sheet-whole, sheet-most, ran-ready, ran-more}
+use Rattle.running.proofs.walk.Statement.{statement}
+use Rattle.running.proofs.walk.Tie as tie
 
 abbrev Inv-loop : tie.InvT-loop
 Inv-loop sheet joined₀ acked₀ len₀ store₀ store2₀ list₀ list2₀ answers₀ sets₀ n g₀ c₀ views₀ issued₀ k₀

@@ -1,12 +1,12 @@
--- `sheet::running::play` meets its contract. Assumes nothing.
+-- `running::play` meets its contract. Assumes nothing.
 use mathlib.Core.Path.{sym, _∙_}
 use lib.ListN.{length-map, length-set}
 use denote.Ref.{now}
 use borrow.Author.Needs.{needs}
 use Rattle.refinement.specs.Refinement.{Shape}
-use Rattle.sheet.proofs.Playing.{ran-none}
-use Rattle.sheet.proofs.running.play.Statement.{statement}
-use Rattle.sheet.proofs.running.play.Tie as tie
+use Rattle.running.proofs.Playing.{ran-none}
+use Rattle.running.proofs.play.Statement.{statement}
+use Rattle.running.proofs.play.Tie as tie
 
 -- The ways back: from the opening to the start, to the opening, to the walk.
 abbrev start : tie.After-begin → tie.Start

@@ -1,4 +1,5 @@
--- One record more of a sheet that is run: the call's promise is the model's step. Assumes nothing.
+-- One record more of a sheet that is run: the call's promise is the model's step. The answers of a whole run. Assumes
+-- nothing.
 use mathlib.Core.Bool.{true, cond, _&&_}
 use mathlib.Core.List.{List, [], _∷_, _++_, map, map-append}
 use mathlib.Core.Path.{_≡_, refl, sym, subst, ap, ap₂, _∙_}
@@ -32,8 +33,8 @@ use Rattle.shown.proofs.Valid.{ready, all-tests}
 use Rattle.steps.proofs.Calling.{did-step, did-full}
 use Rattle.text.specs.Text.{Text}
 use Rattle.records.specs.Bytes.{recordAt, records, wholeRecords, isOpening, isSheet}
-use Rattle.listing.proofs.AnswerLines.{records-suc}
-use Rattle.sheet.specs.Running.{following, stateAt, Ran}
+use Rattle.records.proofs.Decoding.{room, records-suc}
+use Rattle.running.specs.Running.{following, stateAt, answersOf, Ran}
 
 -- What refusal 2 has seen.
 module _ (s : Text) (e : isSheet s ≡ true) where
@@ -42,6 +43,9 @@ module _ (s : Text) (e : isSheet s ≡ true) where
 
   pub sheet-whole : wholeRecords (length s) ≡ true
   sheet-whole = is-true (wholeRecords (length s)) (parts .0)
+
+  pub sheet-some : suc (length s / 8 - 1) ≡ length s / 8
+  sheet-some = omega (arith, room (length s) sheet-whole)
 
   pub sheet-most : length s / 8 ≤ 4095
   sheet-most =
@@ -98,15 +102,20 @@ sets-suc s [] st = refl
 sets-suc s (q ∷ sts) st = ap (λ qs. behind (outline s) q ∷ qs) (sets-suc (step entries s q) sts st)
 
 -- No answer is above 16.
-answers-most : (t : RowState) (sts : List Step) (i : ℕ) → getD (answers entries t sts) i 0 ≤ 16
+later-most : (t : RowState) (sts : List Step) (i : ℕ) → getD (answers entries t sts) i 0 ≤ 16
 unfolding answers
-answers-most t [] i = omega arith
-answers-most t (st ∷ sts) zero = omega (arith, answer-most (outline t) st)
-answers-most t (st ∷ sts) (suc i) = answers-most (step entries t st) sts i
+later-most t [] i = omega arith
+later-most t (st ∷ sts) zero = omega (arith, answer-most (outline t) st)
+later-most t (st ∷ sts) (suc i) = later-most (step entries t st) sts i
 
 pub all-most : (t : RowState) (sts : List Step) (i : ℕ) → getD (0 ∷ answers entries t sts) i 0 ≤ 16
 all-most t sts zero = omega arith
-all-most t sts (suc i) = answers-most t sts i
+all-most t sts (suc i) = later-most t sts i
+
+pub answers-most : (s : Text) (i : ℕ) → getD (answersOf s) i 0 ≤ 16
+unfolding answersOf
+answers-most s i =
+    all-most (opened (openingOf (recordAt s))) (stepsOf (records (length s / 8 - 1) (drop 8 s))) i
 
 module _ (s : Text) (sheet : isSheet s ≡ true) (k : ℕ) (row : Cluster) (p : Places) (ns ms : List ℕ)
     (h : Ran s k row p ns ms) where
@@ -196,3 +205,9 @@ ran-none s row o p full ns ms room sets = record {
   room = length-set ns 0 0 ∙ room;
   setRoom = length-set ms 0 0 ∙ sets;
 }
+
+-- The answers that were kept are those of the run.
+pub answers-are : (s : Text) → isSheet s ≡ true → (row : Cluster) (p : Places) (ns ms : List ℕ)
+    → Ran s (length s / 8 - 1) row p ns ms → take (length s / 8) ns ≡ answersOf s
+unfolding answersOf
+answers-are s e row p ns ms h = ap (λ n. take n ns) (sym (sheet-some s e)) ∙ h .answered

@@ -1,14 +1,15 @@
-// Running a sheet, record by record.
+// The run of a sheet, record by record: the row that it ends with, its answers and the sets behind them. For `sheet`,
+// `explain` and `archive`.
 
 ghost use mathlib.Core.Path.{_≡_};
 ghost use mathlib.Core.Bool.{true};
 ghost use Prim.Native.Nat.{_-_, _/_};
-ghost use lib.ListN.{length};
+ghost use lib.ListN.{length, take};
 ghost use Rattle.model.specs.Records.{openingOf};
 ghost use Rattle.refinement.specs.Refinement.{lent, Full, rowOf, Shape};
 ghost use Rattle.steps_central.specs.Opening.{OpenedWith};
 ghost use Rattle.records.specs.Bytes.{recordAt, isSheet};
-ghost use Rattle.sheet.specs.Running.{Ran};
+ghost use Rattle.running.specs.Running.{Ran, answersOf};
 use cluster::Cluster;
 use cluster::Controller;
 use cluster::Registry;
@@ -162,4 +163,28 @@ pub fn play(
         len: len,
         issued: x.issued,
     }
+}
+
+// The answers of a sheet's records, in an array whose further bytes are free. Inner layer: callers see to it that
+// refusal 2 lets the sheet through. The sheet is run in places of this call's own.
+pub fn answers(sheet: &[u8]) -> [u8; 4096]
+    requires { ⌜ isSheet (now sheet) ≡ true ⌝ }
+    ensures { λ r. ⌜ take (length (now (sheet .entry)) / 8) r ≡ answersOf (now (sheet .entry)) ⌝ }
+{
+    let mut store = [0u32; 4096];
+    let mut store2 = [0u16; 4096];
+    let mut list = [0u32; 512];
+    let mut list2 = [0u16; 512];
+    let mut answers = [0u8; 4096];
+    let mut sets = [0u8; 4096];
+    play(
+        sheet,
+        &mut store,
+        &mut store2,
+        &mut list,
+        &mut list2,
+        &mut answers,
+        &mut sets,
+    );
+    answers
 }

@@ -1,9 +1,9 @@
--- `sheet::answers` meets its contract. Assumes nothing.
+-- `running::answers` meets its contract. Assumes nothing.
 use mathlib.Core.Path.{refl}
 use borrow.Author.Needs.{needs}
-use Rattle.sheet.proofs.Listings.{answers-are}
-use Rattle.sheet.proofs.answers.Statement.{statement}
-use Rattle.sheet.proofs.answers.Tie as tie
+use Rattle.running.proofs.Playing.{answers-are}
+use Rattle.running.proofs.answers.Statement.{statement}
+use Rattle.running.proofs.answers.Tie as tie
 
 slice-aggregate-play : tie.Need-slice-aggregate-play
 slice-aggregate-play c = search needs

@@ -1,7 +1,8 @@
--- How far a sheet has been run. Cited by the contracts of the runner. Assumes nothing.
+-- How far a sheet has been run, and the answers of its run. Cited by the contracts of running, and by the definitions
+-- of explain. Assumes nothing.
 use mathlib.Core.List.{List, _∷_, map}
 use mathlib.Core.Path.{_≡_}
-use Prim.Native.Nat.{ℕ, suc}
+use Prim.Native.Nat.{ℕ, suc, _-_, _/_}
 use lib.ListN.{length, take, drop}
 use Rattle.model.specs.Members.{none}
 use Rattle.model.specs.State.{RowState, entries, outline, opened}
@@ -21,6 +22,11 @@ following s k = records k (drop 8 s)
 -- The model's state after the opening of s and k records more.
 abbrev pub stateAt : Text → ℕ → RowState
 stateAt s k = after entries (openingOf (recordAt s)) (stepsOf (following s k))
+
+-- The answers of the records of a sheet that refusal 2 lets through, the opening's first.
+unfoldable pub answersOf : Text → List ℕ
+unfolding records
+answersOf s = 0 ∷ answers entries (opened (openingOf (recordAt s))) (stepsOf (records (length s / 8 - 1) (drop 8 s)))
 
 -- The sheet s was run up to there: the row and the lent places stand for the model's state, and from their first places
 -- on ns has the answers and qs the masks of the sets behind them. (The opening asks no majority.)

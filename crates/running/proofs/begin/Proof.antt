@@ -1,11 +1,11 @@
--- `sheet::running::begin` meets its contract. Assumes nothing.
+-- `running::begin` meets its contract. Assumes nothing.
 use mathlib.Core.Path.{ap}
 use denote.Ref.{now}
 use Rattle.records.proofs.Decoding.{room}
-use Rattle.sheet.proofs.Playing.{sheet-whole, begun}
+use Rattle.running.proofs.Playing.{sheet-whole, begun}
 use borrow.Author.Needs.{needs}
-use Rattle.sheet.proofs.running.begin.Statement.{statement}
-use Rattle.sheet.proofs.running.begin.Tie as tie
+use Rattle.running.proofs.begin.Statement.{statement}
+use Rattle.running.proofs.begin.Tie as tie
 
 decode-requires : tie.Need-decode-requires
 decode-requires c κs = room _ (sheet-whole (now (c .before .args .sheet)) (c .before .pre))
