@@ -4,9 +4,6 @@ use cluster::Cluster;
 use cluster::Outcome;
 use records::Record;
 
-mod lend;
-mod whole;
-
 // The answer n and a space.
 fn show(n: u8) {
     let tens = 48 + n / 10 % 10;
@@ -45,10 +42,10 @@ fn turn(
     let k = r.step;
     let b = cluster::seat(r.board);
     match k {
-        10 => whole::refresh_controller(row),
-        11 => whole::read_leader(row),
-        12 => whole::read(row, b),
-        14 => whole::hear(row, b),
+        10 => lending::refresh_controller(row),
+        11 => lending::read_leader(row),
+        12 => lending::read(row, b),
+        14 => lending::hear(row, b),
         _ => steps::step(row, &mut *store, &mut *store2, &mut *list, &mut *list2, r),
     }
 }

@@ -1,13 +1,13 @@
--- `lent_trials::lend::read_leader` meets its contract: the walk of `Walk`, at its names. Assumes nothing.
+-- `lending::lend::read_leader` meets its contract: the walk of `Walk`, at its names. Assumes nothing.
 use Rattle.hub.specs.Lent.{ReadsLeader}
 use Rattle.hub.proofs.Report as Rep
 use Rattle.hub.proofs.Report.Laws as Rep′
-use Rattle.lent_trials.proofs.Walk.{met}
+use Rattle.lending.proofs.Walk.{met}
 use Rattle.hub.proofs.read_leader.Symbol as called
 use Rattle.hub.proofs.read_leader.Met as thm
-use Rattle.lent_trials.proofs.lend.read_leader.Key as key
-use Rattle.lent_trials.proofs.lend.read_leader.Statement.{statement}
-use Rattle.lent_trials.proofs.lend.read_leader.Code as code
+use Rattle.lending.proofs.lend.read_leader.Key as key
+use Rattle.lending.proofs.lend.read_leader.Statement.{statement}
+use Rattle.lending.proofs.lend.read_leader.Code as code
 
 pub read-leader-spec : {M : Type 1} → statement M
 unfolding code.routine

@@ -1,13 +1,13 @@
--- `lent_trials::lend::read` meets its contract: the walk of `Walk`, at its names. Assumes nothing.
+-- `lending::lend::read` meets its contract: the walk of `Walk`, at its names. Assumes nothing.
 use Rattle.hub.specs.Lent.{Reads}
 use Rattle.hub.proofs.Report as Rep
 use Rattle.hub.proofs.Report.Laws as Rep′
-use Rattle.lent_trials.proofs.Walk.{met}
+use Rattle.lending.proofs.Walk.{met}
 use Rattle.hub.proofs.read.Symbol as called
 use Rattle.hub.proofs.read.Met as thm
-use Rattle.lent_trials.proofs.lend.read.Key as key
-use Rattle.lent_trials.proofs.lend.read.Statement.{statement}
-use Rattle.lent_trials.proofs.lend.read.Code as code
+use Rattle.lending.proofs.lend.read.Key as key
+use Rattle.lending.proofs.lend.read.Statement.{statement}
+use Rattle.lending.proofs.lend.read.Code as code
 
 pub read-spec : {M : Type 1} → statement M
 unfolding code.routine

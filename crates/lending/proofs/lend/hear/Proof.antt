@@ -1,13 +1,13 @@
--- `lent_trials::lend::hear` meets its contract: the walk of `Walk`, at its names. Assumes nothing.
+-- `lending::lend::hear` meets its contract: the walk of `Walk`, at its names. Assumes nothing.
 use Rattle.hub.specs.Lent.{Hears}
 use Rattle.hub.proofs.Report as Rep
 use Rattle.hub.proofs.Report.Laws as Rep′
-use Rattle.lent_trials.proofs.Walk.{met}
+use Rattle.lending.proofs.Walk.{met}
 use Rattle.hub.proofs.hear.Symbol as called
 use Rattle.hub.proofs.hear.Met as thm
-use Rattle.lent_trials.proofs.lend.hear.Key as key
-use Rattle.lent_trials.proofs.lend.hear.Statement.{statement}
-use Rattle.lent_trials.proofs.lend.hear.Code as code
+use Rattle.lending.proofs.lend.hear.Key as key
+use Rattle.lending.proofs.lend.hear.Statement.{statement}
+use Rattle.lending.proofs.lend.hear.Code as code
 
 pub hear-spec : {M : Type 1} → statement M
 unfolding code.routine

@@ -1,10 +1,10 @@
--- `lent_trials::whole::report` meets its contract. Assumes nothing.
+-- `lending::report` meets its contract. Assumes nothing.
 use mathlib.Core.Path.{sym}
 use borrow.Author.Needs.{needs}
 use Rattle.cluster.specs.Layout.{noView}
 use Rattle.cluster.proofs.Laws.{at-index}
-use Rattle.lent_trials.proofs.whole.report.Statement.{statement}
-use Rattle.lent_trials.proofs.whole.report.Tie as tie
+use Rattle.lending.proofs.report.Statement.{statement}
+use Rattle.lending.proofs.report.Tie as tie
 
 sub-i : tie.Need-sub-i
 sub-i c = search needs

@@ -1,9 +1,9 @@
--- `lent_trials::whole::refresh_controller` meets its contract. Assumes nothing.
+-- `lending::refresh_controller` meets its contract. Assumes nothing.
 use borrow.Author.Needs.{needs}
 use Rattle.hub.specs.Whole.{Link}
-use Rattle.lent_trials.proofs.Linking.{linked}
-use Rattle.lent_trials.proofs.whole.refresh_controller.Statement.{statement}
-use Rattle.lent_trials.proofs.whole.refresh_controller.Tie as tie
+use Rattle.lending.proofs.Linking.{linked}
+use Rattle.lending.proofs.refresh_controller.Statement.{statement}
+use Rattle.lending.proofs.refresh_controller.Tie as tie
 
 refresh-controller-requires : tie.Need-refresh-controller-requires
 refresh-controller-requires c κs = search needs

@@ -1,13 +1,13 @@
--- `lent_trials::lend::refresh_controller` meets its contract: the walk of `Walk`, at its names. Assumes nothing.
+-- `lending::lend::refresh_controller` meets its contract: the walk of `Walk`, at its names. Assumes nothing.
 use Rattle.hub.specs.Lent.{TakesNews}
 use Rattle.cluster.proofs.Registry as Reg
 use Rattle.cluster.proofs.Registry.Laws as Reg′
-use Rattle.lent_trials.proofs.Walk.{met}
+use Rattle.lending.proofs.Walk.{met}
 use Rattle.hub.proofs.refresh_controller.Symbol as called
 use Rattle.hub.proofs.refresh_controller.Met as thm
-use Rattle.lent_trials.proofs.lend.refresh_controller.Key as key
-use Rattle.lent_trials.proofs.lend.refresh_controller.Statement.{statement}
-use Rattle.lent_trials.proofs.lend.refresh_controller.Code as code
+use Rattle.lending.proofs.lend.refresh_controller.Key as key
+use Rattle.lending.proofs.lend.refresh_controller.Statement.{statement}
+use Rattle.lending.proofs.lend.refresh_controller.Code as code
 
 pub refresh-controller-spec : {M : Type 1} → statement M
 unfolding code.routine

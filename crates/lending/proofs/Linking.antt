@@ -13,7 +13,7 @@ use Rattle.steps.specs.Calls.{Held}
 use Rattle.shown.proofs.Valid.{ready, valid-range}
 use Rattle.hub.specs.declared.Returned.{Returned}
 use Rattle.hub.specs.Whole.{putInto, TellsOfLeader, Link}
-use Rattle.lent_trials.specs.Put.{putTo}
+use Rattle.lending.specs.Put.{putTo}
 
 abbrev pub held : Cluster → Places → Held
 held row p = record { row = row; places = p }

@@ -1,4 +1,4 @@
--- What a step over the lent controller, put back, promises of the row. Cited by the contracts of lent_trials.
+-- What a step over the lent controller, put back, promises of the row. Cited by the contracts of lending.
 -- Assumes nothing.
 use mathlib.Core.Bool.{true}
 use mathlib.Core.Path.{_≡_}

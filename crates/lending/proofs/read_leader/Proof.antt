@@ -1,11 +1,11 @@
--- `lent_trials::whole::read_leader` meets its contract. Assumes nothing.
+-- `lending::read_leader` meets its contract. Assumes nothing.
 use mathlib.Core.Path.{subst}
 use borrow.Author.Needs.{needs}
 use Rattle.hub.specs.Lent.{ReadsLeader}
 use Rattle.hub.specs.Whole.{Link}
-use Rattle.lent_trials.proofs.Linking.{linked, tells-leader}
-use Rattle.lent_trials.proofs.whole.read_leader.Statement.{statement}
-use Rattle.lent_trials.proofs.whole.read_leader.Tie as tie
+use Rattle.lending.proofs.Linking.{linked, tells-leader}
+use Rattle.lending.proofs.read_leader.Statement.{statement}
+use Rattle.lending.proofs.read_leader.Tie as tie
 
 seat-requires : tie.Need-seat-requires
 seat-requires c κs = search needs

@@ -1,11 +1,11 @@
--- `lent_trials::whole::read` meets its contract. Assumes nothing.
+-- `lending::read` meets its contract. Assumes nothing.
 use mathlib.Core.Path.{subst}
 use borrow.Author.Needs.{needs}
 use Rattle.hub.specs.Lent.{Reads}
 use Rattle.hub.specs.Whole.{Link}
-use Rattle.lent_trials.proofs.Linking.{linked}
-use Rattle.lent_trials.proofs.whole.read.Statement.{statement}
-use Rattle.lent_trials.proofs.whole.read.Tie as tie
+use Rattle.lending.proofs.Linking.{linked}
+use Rattle.lending.proofs.read.Statement.{statement}
+use Rattle.lending.proofs.read.Tie as tie
 
 report-requires : tie.Need-report-requires
 report-requires c κs = search needs

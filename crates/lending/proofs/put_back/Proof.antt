@@ -1,9 +1,9 @@
--- `lent_trials::whole::put_back` meets its contract. Assumes nothing.
+-- `lending::put_back` meets its contract. Assumes nothing.
 use mathlib.Core.Path.{refl, sym, _∙_}
 use lib.ListN.{length-map}
 use Rattle.refinement.specs.Refinement.{Shape}
-use Rattle.lent_trials.proofs.whole.put_back.Statement.{statement}
-use Rattle.lent_trials.proofs.whole.put_back.Tie as tie
+use Rattle.lending.proofs.put_back.Statement.{statement}
+use Rattle.lending.proofs.put_back.Tie as tie
 
 shape : (c : tie.Start) → Shape (c .args .row)
 shape c =

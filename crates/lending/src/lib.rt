@@ -1,16 +1,17 @@
-// The controller's steps of a whole row: its controller is lent to the hub's call, and put back.
+// Steps 10, 11, 12 and 14 of a whole row: its controller is lent to the call of `hub`, and put back.
 
 ghost use mathlib.Core.Path.{_≡_};
 ghost use Prim.Native.Nat.{_≤_};
 ghost use Rattle.model.specs.Steps as S;
 ghost use Rattle.refinement.specs.Refinement.{Shape};
 ghost use Rattle.hub.specs.Whole.{reportOf};
-ghost use Rattle.lent_trials.specs.Put.{putTo, IsLink};
-use crate::lend;
+ghost use Rattle.lending.specs.Put.{putTo, IsLink};
 use cluster::Cluster;
 use cluster::Outcome;
 use hub::Report;
 use hub::Returned;
+
+mod lend;
 
 // What board b of the row tells.
 fn report(row: Cluster, b: u8) -> Report
