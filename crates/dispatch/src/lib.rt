@@ -74,7 +74,7 @@ pub fn send(
         2..=4 => {
             let b = board(r.board, r.other, r.spare, r.value);
             if step == 2 {
-                let x = steps_leader::commit(
+                let x = steps_receipt::commit(
                     views,
                     issued,
                     &*acked,

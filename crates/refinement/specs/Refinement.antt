@@ -1,5 +1,6 @@
 -- A row together with the lent places as a state of the model, and what a step makes of them. Cited by the contracts of
--- steps_leader, steps_follower, steps_central, dispatch, kept, shown, steps, hub and sheet. Assumes nothing.
+-- steps_leader, steps_receipt, steps_follower, steps_central, dispatch, kept, shown, steps, hub and sheet. Assumes
+-- nothing.
 use mathlib.Core.Bool.{cond}
 use mathlib.Core.List.{List}
 use mathlib.Core.Logic.{_≢_}

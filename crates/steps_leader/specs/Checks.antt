@@ -6,7 +6,7 @@ use mathlib.Core.List.{List, [], _∷_}
 use Prim.Native.Nat.{ℕ}
 use lib.Dec.{eqb, ltb}
 use Rattle.model.specs.Prelude.{Check, _else_}
-use Rattle.model.specs.Members.{isReplica, isQuorum}
+use Rattle.model.specs.Members.{isReplica}
 use Rattle.members.specs.Mask.{bits}
 use Rattle.cluster.specs.declared.View.{View}
 
@@ -15,15 +15,6 @@ abbrev pub appendChecks : View → ℕ → ℕ → List Check
 appendChecks v n b = (isReplica b else 1)
     ∷ (eqb (v .leader) b else 8)
     ∷ (ltb n 512 else 13) ∷ []
-
--- Step 2, by b: its view v, the length n of its log, the number of receipts issued, the members q that it has counted
--- above that. "b's leader is b [8]; b's log is longer than the receipts [12]; a majority of b's members have counts in
--- b above the receipts' length [14]".
-abbrev pub commitChecks : View → ℕ → ℕ → ℕ → ℕ → List Check
-commitChecks v n issued q b = (isReplica b else 1)
-    ∷ (eqb (v .leader) b else 8)
-    ∷ (ltb issued n else 12)
-    ∷ (isQuorum (bits (v .members)) (bits q) else 14) ∷ []
 
 -- Step 9, by a about b, whose seat is k: their views v and w, b's joined epoch t, the count c that a has of b, the
 -- length n of b's log. "a's leader is a [8]; b is in its own members [5]; equal leader epochs [10]; b's joined equals

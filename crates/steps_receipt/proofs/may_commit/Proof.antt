@@ -1,8 +1,8 @@
--- `steps_leader::may_commit` meets its contract. Assumes nothing.
+-- `steps_receipt::may_commit` meets its contract. Assumes nothing.
 use mathlib.Core.Path.{_∙_}
 use borrow.Author.Needs.{needs}
-use Rattle.steps_leader.proofs.may_commit.Statement.{statement}
-use Rattle.steps_leader.proofs.may_commit.Tie as tie
+use Rattle.steps_receipt.proofs.may_commit.Statement.{statement}
+use Rattle.steps_receipt.proofs.may_commit.Tie as tie
 
 is-quorum-requires : tie.Need-is-quorum-requires
 is-quorum-requires c κs = search needs

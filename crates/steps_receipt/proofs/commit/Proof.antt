@@ -1,4 +1,4 @@
--- `steps_leader::commit` meets its contract. Assumes nothing.
+-- `steps_receipt::commit` meets its contract. Assumes nothing.
 use mathlib.Core.List.{List}
 use mathlib.Core.Path.{_≡_, sym, subst, ap, _∙_}
 use Prim.Native.Nat.{ℕ, _<_}
@@ -14,10 +14,10 @@ use Rattle.cluster.specs.declared.Cluster.{Cluster}
 use Rattle.cluster.specs.Layout.{outlineOf}
 use Rattle.refinement.specs.Refinement.{lent, rowOf}
 use Rattle.refinement.proofs.Turning.{turns-refused, turns-accepted, short-at}
-use Rattle.steps_leader.proofs.Answers.{commit-room, commit-answer, commit-set}
-use Rattle.steps_leader.proofs.Afters.{commit-after, commit-places}
-use Rattle.steps_leader.proofs.commit.Statement.{statement}
-use Rattle.steps_leader.proofs.commit.Tie as tie
+use Rattle.steps_receipt.proofs.Answers.{commit-room, commit-answer, commit-set}
+use Rattle.steps_receipt.proofs.Afters.{commit-after, commit-places}
+use Rattle.steps_receipt.proofs.commit.Statement.{statement}
+use Rattle.steps_receipt.proofs.commit.Tie as tie
 
 -- the entry, and where b is found
 abbrev entry : tie.After-may-commit → tie.Start
@@ -124,7 +124,7 @@ returns-2 c g k joined =
     (commit-set r (a .b) _ (own d .seat .ensures .2) _ _ (d .before .before .before .before .view .ensures)
     (d .before .before .counted .ensures) (d .before .both .ensures)
     (zero-accepted (outlineOf r) (commit (a .b)) (sym e ∙ z)))
-    (commit-after r (p .2) q (p .3) (a .b) _ w n) (p .2) (omega (arith, n)) w
+    (commit-after r q (p .3) (a .b) _ w n) (p .2) (omega (arith, n)) w
 
 pub commit-spec : {M : Type 1} → statement M
 commit-spec =

@@ -1,4 +1,4 @@
--- `steps_leader::counted` meets its contract. Assumes nothing.
+-- `steps_receipt::counted` meets its contract. Assumes nothing.
 use mathlib.Core.Path.{_≡_, ap, _∙_}
 use Prim.Native.Nat.{_-_, _≤_}
 use native.Mathlib.Omega.{arith}
@@ -12,8 +12,8 @@ use Rattle.members.specs.Mask.{bits, under}
 use Rattle.members.proofs.Laws.{under-none}
 use Rattle.cluster.specs.Layout.{atPair}
 use Rattle.refinement.proofs.Turning.{counted-more}
-use Rattle.steps_leader.proofs.counted.Statement.{statement}
-use Rattle.steps_leader.proofs.counted.Tie as tie
+use Rattle.steps_receipt.proofs.counted.Statement.{statement}
+use Rattle.steps_receipt.proofs.counted.Tie as tie
 
 abbrev Inv-loop : tie.InvT-loop
 Inv-loop acked b n q₀ x₀ q x = (1 ≤ x) × (x ≤ 9) × (bits q ≡ under x (countedAbove (atPair acked b) n))
