@@ -1,3 +1,3 @@
-pub mod Drawing
+pub mod Later
 pub mod Sheets
 pub mod WellFormed

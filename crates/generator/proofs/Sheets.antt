@@ -14,9 +14,9 @@ use Rattle.text.specs.Text.{Text, Wrote, over}
 use Rattle.text.proofs.Laws.{then}
 use Rattle.records.specs.Bytes.{recordBytes, sheetBytes}
 use Rattle.records.proofs.Encoding.{sheet-length}
-use Rattle.generator.specs.Draws.{advance, boardFrom, Drawn, drawn, later, seedRecords}
+use Rattle.draws.specs.Draws.{advance, boardFrom, Drawn, drawn, later, seedRecords}
 use Rattle.generator.specs.Seeded.{seedSheet, isCount, result, left}
-use Rattle.generator.proofs.Drawing.{later-length}
+use Rattle.generator.proofs.Later.{later-length}
 
 pub seed-length : (s n : ℕ) → length (seedRecords s n) ≡ n
 unfolding seedRecords
@@ -44,9 +44,6 @@ opening-first s (suc k) h = let e : suc k - 1 ≡ k = omega arith in rw e
 -- The opening as it is drawn, and the state after it.
 abbrev pub opening : ℕ → Drawn
 opening s = drawn (of 0 (boardFrom (advance s))) (advance s)
-
-pub opening-drawn : (s : ℕ) {t b : ℕ} → t ≡ advance s → b ≡ boardFrom t → drawn (of 0 b) t ≡ opening s
-opening-drawn s e f = rw (f, e)
 
 -- The opening is written, then the other records.
 pub all-written : (s n : ℕ) {out d e : Text} {p r : ℕ} (x : Drawn) → 1 ≤ n → x ≡ opening s

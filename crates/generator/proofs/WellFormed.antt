@@ -21,9 +21,9 @@ use Rattle.model.proofs.Forms.{forms}
 use Rattle.members.proofs.Laws.{replica}
 use Rattle.records.specs.Bytes.{recordAt, sheetBytes, wholeRecords, isSheet}
 use Rattle.records.proofs.Encoding.{Words, record-back, records-back}
-use Rattle.generator.specs.Draws.{advance, draw, stepFrom, boardFrom, secondBoard, Drawn, drawRecord, later, seedRecords}
+use Rattle.draws.specs.Draws.{advance, draw, stepFrom, boardFrom, secondBoard, Drawn, drawRecord, later, seedRecords}
 use Rattle.generator.specs.Seeded.{seedSheet, isCount, notOpening, notOne, WellMade, SheetsWellMade}
-use Rattle.generator.proofs.Drawing.{draw-small}
+use Rattle.draws.proofs.Drawing.{draw-small}
 use Rattle.generator.proofs.Sheets.{seed-length, sheet-bytes, opening-first}
 
 -- A number that a test tells apart from k.

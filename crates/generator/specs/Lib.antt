@@ -1,4 +1,2 @@
-pub mod Draws
 pub mod Seeded
-pub mod Drawn
 pub mod Trials

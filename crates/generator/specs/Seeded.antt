@@ -12,7 +12,7 @@ use Rattle.model.specs.Runs.{stepsOf, answers}
 use Rattle.model.specs.Ranges.{every}
 use Rattle.text.specs.Text.{Text, over}
 use Rattle.records.specs.Bytes.{records, sheetBytes, isSheet}
-use Rattle.generator.specs.Draws.{seedRecords}
+use Rattle.draws.specs.Draws.{seedRecords}
 
 -- The sheet of the seed s and n records.
 unfoldable pub seedSheet : ℕ → ℕ → Text

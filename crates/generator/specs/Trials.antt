@@ -6,7 +6,7 @@ use Prim.Native.Nat.{ℕ}
 use lib.ListN.{length}
 use Rattle.model.specs.Records.{bare, of, ofBoth, ofValue}
 use Rattle.text.specs.Text.{Text}
-use Rattle.generator.specs.Draws.{advance, draw, secondBoard, seedRecords}
+use Rattle.draws.specs.Draws.{advance, draw, secondBoard, seedRecords}
 use Rattle.generator.specs.Seeded.{result, left}
 
 -- In hexadecimal: the state 9e3779b9 shifted right 16 places is 00009e37, the exclusive-or 9e37e78e; that shifted left

@@ -1,4 +1,4 @@
--- What a record stands for. Cited by the contracts of dispatch, steps, sheet and generator. Assumes nothing.
+-- What a record stands for. Cited by the contracts of dispatch, steps, sheet and draws. Assumes nothing.
 use Rattle.model.specs.Records as R
 use Rattle.records.specs.declared.Record.{Record}
 

@@ -9,9 +9,9 @@ use Rattle.text.proofs.Laws.{wrote-length}
 use Rattle.records.specs.Record.{recordOf}
 use Rattle.records.specs.Bytes.{sheetBytes}
 use Rattle.records.proofs.Encoding.{bytes-length}
-use Rattle.generator.specs.Draws.{later}
-use Rattle.generator.specs.Drawn.{drawnOf}
-use Rattle.generator.proofs.Drawing.{later-bytes, one-less, none-left}
+use Rattle.draws.specs.Draws.{later}
+use Rattle.draws.specs.Drawn.{drawnOf}
+use Rattle.generator.proofs.Later.{later-bytes, one-less, none-left}
 use Rattle.generator.proofs.put_later.Statement.{statement}
 use Rattle.generator.proofs.put_later.Tie as tie
 

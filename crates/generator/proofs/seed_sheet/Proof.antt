@@ -1,13 +1,12 @@
 -- `generator::seed_sheet` meets its contract. Assumes nothing.
-use mathlib.Core.Path.{_≡_, _∙_}
 use native.Mathlib.Omega.{arith}
 use denote.Ref.{now}
 use borrow.Author.Needs.{needs}
 use Rattle.records.specs.Record.{recordOf}
 use Rattle.records.proofs.Encoding.{bytes-length}
 use Rattle.text.proofs.Laws.{wrote-length}
-use Rattle.generator.specs.Drawn.{drawnOf}
-use Rattle.generator.proofs.Sheets.{opening, opening-drawn, all-written, none, too-many, short, written}
+use Rattle.draws.specs.Drawn.{drawnOf}
+use Rattle.generator.proofs.Sheets.{all-written, none, too-many, short, written}
 use Rattle.generator.proofs.seed_sheet.Statement.{statement}
 use Rattle.generator.proofs.seed_sheet.Tie as tie
 
@@ -27,33 +26,18 @@ returns-3 c =
     let a = c .before .before .before .before .args in
     short (a .seed) (a .count) (now (a .sheet)) (c .before .before .if1 .left) (c .before .if2 .left) (c .if3 .taken)
 
-advance-requires : tie.Need-advance-requires
-advance-requires c κs = search needs
-
-board-from-requires : tie.Need-board-from-requires
-board-from-requires c κs = search needs
-
-with-fields-requires : tie.Need-with-fields-requires
-with-fields-requires c κs = search needs
+draw-opening-requires : tie.Need-draw-opening-requires
+draw-opening-requires c κs = search needs
 
 encode-requires : tie.Need-encode-requires
 encode-requires c κs = search needs
 
 -- From the opening's record back to the tests, and to the start.
 abbrev tested : tie.After-encode → tie.Else3
-tested c = c .before .before .before .before .before
+tested c = c .before .before .before
 
 abbrev start : tie.Else3 → tie.Start
 start c = c .before .before .before .before
-
--- The opening was drawn.
-drawn : (c : tie.After-encode)
-    → drawnOf (c .before .before .with-fields .result) ≡ opening (start (tested c) .args .seed)
-drawn c =
-    let w = c .before .before in
-    w .with-fields .ensures
-    ∙ opening-drawn (start (tested c) .args .seed) (w .before .before .advance .ensures)
-    (w .before .board-from .ensures)
 
 put-later-requires : tie.Need-put-later-requires
 put-later-requires c κs =
@@ -64,7 +48,7 @@ put-later-requires c κs =
       arith,
       w .next,
       wrote-length w,
-      bytes-length (recordOf (e .before .before .with-fields .result .made)),
+      bytes-length (recordOf (e .before .before .draw-opening .result .made)),
       t .if3 .left,
       t .before .before .if1 .left,
     )
@@ -79,8 +63,8 @@ returns-4 c =
     let a = start t .args in
     let low = t .before .before .if1 .left in
     written (a .seed) (a .count) (now (a .sheet)) low (t .before .if2 .left) (t .if3 .left)
-    (all-written (a .seed) (a .count) (drawnOf (e .before .before .with-fields .result)) low (drawn e)
-    (e .encode .ensures) (c .before .before .put-later .ensures))
+    (all-written (a .seed) (a .count) (drawnOf (e .before .before .draw-opening .result)) low
+    (e .before .before .draw-opening .ensures) (e .encode .ensures) (c .before .before .put-later .ensures))
 
 pub seed-sheet-spec : {M : Type 1} → statement M
 seed-sheet-spec =
@@ -90,9 +74,7 @@ seed-sheet-spec =
     returns-2
     mul-if3
     returns-3
-    advance-requires
-    board-from-requires
-    with-fields-requires
+    draw-opening-requires
     encode-requires
     put-later-requires
     same-length

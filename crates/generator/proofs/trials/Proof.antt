@@ -4,7 +4,7 @@ use native.Mathlib.Omega.{arith}
 use lib.ListN.{length}
 use Rattle.text.specs.Text.{over}
 use Rattle.records.specs.Bytes.{recordBytes, sheetBytes}
-use Rattle.generator.specs.Draws.{advance, draw, drawRecord, later, seedRecords}
+use Rattle.draws.specs.Draws.{advance, draw, drawRecord, later, seedRecords}
 use Rattle.generator.specs.Seeded.{seedSheet, result, left}
 use Rattle.generator.specs.Trials.{DrawsHold, StatesHold, BoardsHold, RecordsHold, CountsHold, LongestHolds, SlicesHold}
 use Rattle.generator.proofs.Sheets.{none, too-many, short, passed}

@@ -1,5 +1,5 @@
--- The generator of document 02, Paper 2, from the single draw up to the records of a sheet. Cited by Drawn, Seeded,
--- Trials and the contracts of generator. Assumes nothing.
+-- The generator of document 02, Paper 2, from the single draw up to the records of a sheet. Cited by Drawn, the
+-- contracts of draws and generator, and generator's Seeded and Trials. Assumes nothing.
 use mathlib.Core.Bool.{cond}
 use mathlib.Core.List.{List, [], _∷_}
 use Prim.Native.Nat.{ℕ, zero, suc, _+_, _*_, _/_, _%_, _^_}

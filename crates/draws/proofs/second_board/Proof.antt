@@ -1,8 +1,8 @@
--- `generator::second_board` meets its contract. Assumes nothing.
+-- `draws::second_board` meets its contract. Assumes nothing.
 use borrow.Author.Tests.{eq-eqb, ne-eqb}
 use borrow.Author.Needs.{needs}
-use Rattle.generator.proofs.second_board.Statement.{statement}
-use Rattle.generator.proofs.second_board.Tie as tie
+use Rattle.draws.proofs.second_board.Statement.{statement}
+use Rattle.draws.proofs.second_board.Tie as tie
 
 returns : tie.Need-returns
 returns c = rw (ne-eqb _ _ (c .if1 .taken))

@@ -1,8 +1,8 @@
--- `generator::advance` meets its contract. Assumes nothing.
+-- `draws::advance` meets its contract. Assumes nothing.
 use borrow.Author.Needs.{needs}
-use Rattle.generator.specs.Draws.{advance}
-use Rattle.generator.proofs.advance.Statement.{statement}
-use Rattle.generator.proofs.advance.Tie as tie
+use Rattle.draws.specs.Draws.{advance}
+use Rattle.draws.proofs.advance.Statement.{statement}
+use Rattle.draws.proofs.advance.Tie as tie
 
 wrapping-add-u32-requires : tie.Need-wrapping-add-u32-requires
 wrapping-add-u32-requires c κs = search needs

@@ -1,10 +1,10 @@
--- `generator::draw_record` meets its contract: a return for each form of a record. Assumes nothing.
+-- `draws::draw_record` meets its contract: a return for each form of a record. Assumes nothing.
 use mathlib.Core.Path.{sym, _∙_}
 use borrow.Author.Needs.{needs}
 use borrow.Author.Tests.{eq-eqb, ne-eqb}
-use Rattle.generator.proofs.Drawing.{of-none, of-both, of-value, of-one}
-use Rattle.generator.proofs.draw_record.Statement.{statement}
-use Rattle.generator.proofs.draw_record.Tie as tie
+use Rattle.draws.proofs.Drawing.{of-none, of-both, of-value, of-one}
+use Rattle.draws.proofs.draw_record.Statement.{statement}
+use Rattle.draws.proofs.draw_record.Tie as tie
 
 advance-requires : tie.Need-advance-requires
 advance-requires c κs = search needs

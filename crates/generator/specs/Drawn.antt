@@ -1,8 +1,0 @@
--- The record and the state that a function returns, as the definitions have them. Cited by the contracts of generator.
--- Assumes nothing.
-use Rattle.records.specs.Record.{recordOf}
-use Rattle.generator.specs.Draws as Draws
-use Rattle.generator.specs.declared.Drawn.{Drawn}
-
-abbrev pub drawnOf : Drawn → Draws.Drawn
-drawnOf d = record { made = recordOf (d .made); state = d .state }
