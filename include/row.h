@@ -274,7 +274,7 @@ size_t explain_sheet(const uint8_t *sheet, size_t sheet_len,
 #define ROW_IMAGE_HEAD_LEN 258  /* of every image, and all of one with empty lists */
 #define ROW_IMAGE_LEN 37122     /* of the longest: 4,608 entries, 8 bytes each */
 #define ROW_IMAGE_TEXT_LEN 8650 /* the longest registry, control, board and receipts lines */
-#define ROW_SCRATCH_LEN 4608    /* the least that show_image is to be lent */
+#define ROW_SCRATCH_LEN 576     /* the least that show_image is to be lent; more is taken too */
 
 /* save_sheet is refused with ROW_BAD_SHEET, or with this. */
 #define ROW_SHORT_IMAGE 3 /* the image slice is shorter than the image */

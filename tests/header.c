@@ -31,8 +31,8 @@ enum { TEXT_LEN = ROW_TEXT_LEN(1 + 1) };
 #error "the refusals of a line are 1 and 3, and that of a text, beside 2 for the sheet, is 3"
 #endif
 
-#if ROW_IMAGE_HEAD_LEN != 258 || ROW_IMAGE_LEN != 258 + 8 * 4608 || ROW_SCRATCH_LEN != 4608
-#error "an image has 258 bytes and 8 times 0 to 4,608, a scratch 4,608"
+#if ROW_IMAGE_HEAD_LEN != 258 || ROW_IMAGE_LEN != 258 + 8 * 4608 || ROW_SCRATCH_LEN != 576
+#error "an image has 258 bytes and 8 times 0 to 4,608, a scratch 576"
 #endif
 #if ROW_IMAGE_TEXT_LEN != ROW_LISTING_LEN(0)
 #error "the lines of an image are a listing's after its records"

@@ -121,7 +121,7 @@ unsafe extern "C" fn peer_show(
 }
 
 /// What `show_image` is lent.
-const SCRATCH: usize = 4608;
+const SCRATCH: usize = 576;
 
 /// What both programs are given.
 pub enum Input {

@@ -25,7 +25,7 @@ pub record Saves (row : Cluster) (p : Places) (out : Text) (n : ℕ) (out′ : T
   pub left : out′ ≡ cond (valid row p && leb (length (imageOf (abs row p))) (length out))
       (over out 0 (imageOf (abs row p))) out
 
--- Past "refusal 1, in reading for the lent lengths alone", and 3: "a scratch slice of at least 4,608 bytes" (`room`).
+-- Past "refusal 1, in reading for the lent lengths alone", and 3: "576 bytes of scratch or more" (Paper 8; `room`).
 abbrev pub lentEnough : Places → Text → Bool
 lentEnough p scratch = lengthsFit p && leb room (length scratch)
 

@@ -1,8 +1,8 @@
 -- The set of record numbers that a scratch marks. Cited by the contracts of marks, chains, loading,
 -- image and archive. Assumes nothing.
-use mathlib.Core.Bool.{Bool, false, not, _||_}
+use mathlib.Core.Bool.{Bool, false, _||_}
 use mathlib.Core.List.{List}
-use Prim.Native.Nat.{ℕ, zero, suc}
+use Prim.Native.Nat.{ℕ, zero, suc, _/_, _%_, _^_}
 use lib.Dec.{eqb}
 use lib.ListN.{getD}
 
@@ -22,11 +22,12 @@ adding k m = λ j. eqb j k || m j
 abbrev pub most : ℕ
 most = 4608
 
--- The bytes that a scratch must have, one for each number: "a scratch slice of at least 4,608 bytes".
+-- The bytes that a scratch must have, a bit for each number: Paper 8, "with 576 bytes of scratch or more, 3 with fewer".
 abbrev pub room : ℕ
-room = 4608
+room = 576
 
--- The marked numbers of a scratch: k, 1 or more, whose byte k - 1 is not 0.
+-- The marked numbers of a scratch: k, 1 or more, whose bit is 1. The bits are counted from 0, eight to a byte, the lowest
+-- first, and k has the bit k - 1.
 unfoldable pub marked : List ℕ → Numbers
 marked s zero = false
-marked s (suc i) = not (eqb (getD s i 0) 0)
+marked s (suc i) = eqb (getD s (i / 8) 0 / 2 ^ (i % 8) % 2) 1

@@ -1,5 +1,6 @@
-// Marks of record numbers in a lent scratch (document 02, Paper 7: "a scratch slice of at least 4,608 bytes"). What a
-// mark is in bytes is known here alone. Inner layer: callers see to it that a scratch is long enough for a mark.
+// Marks of record numbers in a lent scratch (document 02, Paper 8: "with 576 bytes of scratch or more"): one bit for each
+// number. What a mark is in bytes is known here alone. Inner layer: callers see to it that a scratch is long enough for
+// a mark.
 
 ghost use mathlib.Core.Path.{_≡_};
 ghost use Prim.Native.Nat.{_≤_};
@@ -11,7 +12,7 @@ ghost use Rattle.marks.specs.Marks.{most, room, marked, adding};
 pub fn enough(n: usize) -> bool
     ensures { λ r. ⌜ r ≡ leb room n ⌝ }
 {
-    4608 <= n
+    576 <= n
 }
 
 // All bytes of a scratch become zeros, so that nothing is marked.
@@ -25,12 +26,14 @@ pub fn clear(s: &mut [u8])
     }
 }
 
-// Whether k is marked. Inner layer: callers see to the scratch's length and to k.
+// Whether k is marked. A byte is a mask, as for sets of boards. Inner layer: callers see to the scratch's length and to k.
 pub fn is_marked(s: &[u8], k: usize) -> bool
     requires { ⌜ (room ≤ length (now s)) × (1 ≤ k) × (k ≤ most) ⌝ }
     ensures { λ r. ⌜ r ≡ marked (now (s .entry)) k ⌝ }
 {
-    s[k - 1] != 0
+    let i = (k - 1) / 8;
+    let b = ((k - 1) % 8) as u8 + 1;
+    members::has(s[i], b)
 }
 
 // k is marked too. Inner layer: callers see to the scratch's length and to k.
@@ -38,5 +41,7 @@ pub fn mark(s: &mut [u8], k: usize)
     requires { ⌜ (room ≤ length (now s)) × (1 ≤ k) × (k ≤ most) ⌝ }
     ensures { λ r. ⌜ marked (now (s .exit)) ≡ adding k (marked (now (s .entry))) ⌝ }
 {
-    s[k - 1] = 1;
+    let at = (k - 1) / 8;
+    let b = ((k - 1) % 8) as u8 + 1;
+    s[at] = members::insert(s[at], b);
 }

@@ -73,7 +73,7 @@ fn go_on(image: &[u8], records: &[u8]) {
     let mut store2 = [65535u16; 4096];
     let mut list = [4294967295u32; 512];
     let mut list2 = [65535u16; 512];
-    let mut scratch = [255u8; 4608];
+    let mut scratch = [255u8; 576];
     let given = steps::opening(1);
     let x = image::load(
         given.row,

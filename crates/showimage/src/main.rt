@@ -24,7 +24,7 @@ fn refuse(n: usize) {
 fn main() {
     let mut image = [0u8; 37130];
     let mut text = [0u8; 8650];
-    let mut scratch = [0u8; 4608];
+    let mut scratch = [0u8; 576];
     let n = io::read_full(STDIN_FILENO, &mut image);
     let m = archive::show_image(&image[..n], &mut text, &mut scratch);
     if m < 20 {

@@ -1,5 +1,5 @@
-//! Images of rows (document 02, Paper 7): the C entries `save_sheet` and `show_image` and the
-//! programs `savesheet`, `showimage` and `resumesheet`, beside the second program.
+//! Images of rows (document 02, Papers 7 and 8): the C entries `save_sheet` and `show_image`
+//! and the programs `savesheet`, `showimage` and `resumesheet`, beside the second program.
 
 use crate::both::{differs, in_slices, whole, writes, Fault};
 use crate::damage::{
@@ -10,6 +10,7 @@ use generate::{record, Rng};
 use peer::image::{read, resume_sheet, HEAD};
 use peer::listing::LENGTH_MAX;
 use peer::row::{has, Board, Row, Stage, Status, EPOCH_MAX, LOG_MAX};
+use peer::scratch::{show_in, SCRATCH_MIN};
 use std::ops::Range;
 use std::path::PathBuf;
 use std::{env, fmt, fs, iter};
@@ -26,11 +27,10 @@ extern "C" {
     ) -> usize;
 }
 
-/// The shortest scratch that is long enough.
-const SCRATCH: usize = 4608;
 /// The length of the longest lines.
 const TEXT: usize = 8650;
-const SCRATCHES: [usize; 5] = [SCRATCH, SCRATCH + 1, 5000, SCRATCH - 1, 0];
+/// Scratches that are long enough, Paper 7's among them, and too short ones.
+const SCRATCHES: [usize; 5] = [576, 577, 4608, 575, 0];
 /// How often each of what is counted should be met.
 const ENOUGH: u64 = 5;
 /// Of every so many images each byte of the head is damaged.
@@ -159,6 +159,7 @@ pub struct Images {
     /// How many images of sheets were taken.
     taken: u64,
     refusals: [u64; REFUSALS.len()],
+    scratches: [u64; SCRATCHES.len()],
     rows: [u64; ROWS.len()],
     done: [u64; DONE.len()],
 }
@@ -209,6 +210,7 @@ impl Images {
             pool,
             taken: 0,
             refusals: [0; REFUSALS.len()],
+            scratches: [0; SCRATCHES.len()],
             rows: [0; ROWS.len()],
             done: [0; DONE.len()],
         }
@@ -284,7 +286,7 @@ impl Images {
         self.taken += 1;
         self.show_fully(&image)?;
         let other = self.renumber(&image);
-        self.show(&other, SCRATCH)?;
+        self.show(&other, SCRATCH_MIN)?;
         for n in 0..DAMAGED {
             let from = if n % 2 == 0 { &image } else { &other };
             let damaged = damaged(from, &mut self.rng);
@@ -402,7 +404,9 @@ impl Images {
         let exact = peer::image::show_image(image).map_or(300, |lines| lines.len());
         let text = self.rng.one_of(&[exact, exact, exact + 1, exact - 1]);
         let scratch = self.rng.one_of(&SCRATCHES);
-        let scratch = self.rng.one_of(&[scratch, SCRATCH, SCRATCH, SCRATCH]);
+        let scratch = self
+            .rng
+            .one_of(&[scratch, SCRATCH_MIN, SCRATCH_MIN, SCRATCH_MIN]);
         self.show_in(image, text, scratch)?;
         self.note(image);
         Ok(())
@@ -419,23 +423,22 @@ impl Images {
     }
 
     fn show_in(&mut self, image: &[u8], text: usize, scratch: usize) -> Result<(), Fault> {
-        let shown = peer::image::show_image(image);
-        // What is written, or the refusal.
-        let expected = match &shown {
-            _ if scratch < SCRATCH => Err(3),
-            Err(refusal) => Err(*refusal),
-            Ok(lines) if text < lines.len() => Err(3),
-            Ok(lines) => Ok(lines.as_bytes()),
-        };
+        let at = SCRATCHES.iter().position(|&length| length == scratch);
+        self.scratches[at.expect("a scratch that is counted")] += 1;
         let given = image.to_vec();
         let (mut text, mut scratch) = (self.place(text), self.place(scratch));
         let mut texts = text.bytes.clone();
         let mut scratches = scratch.bytes.clone();
+        // The second program is lent a scratch that is as dirty.
+        let shown = show_in(image, &mut scratches[scratch.slice.clone()]);
+        // What is written, or the refusal.
+        let expected = match &shown {
+            Err(refusal) => Err(*refusal),
+            Ok(lines) if text.slice.len() < lines.len() => Err(3),
+            Ok(lines) => Ok(lines.as_bytes()),
+        };
         if let Ok(lines) = expected {
             texts[text.slice.start..][..lines.len()].copy_from_slice(lines);
-        }
-        if scratch.slice.len() >= SCRATCH {
-            scratches[scratch.slice.clone()].fill(0);
         }
         let result = show(&given, text.lent(), scratch.lent());
         let expected = match expected {
@@ -465,6 +468,10 @@ impl Images {
         }
         if given != image {
             return kept(image, "show_image changed the image".into());
+        }
+        // It has a reader without a scratch too, and their answers are the same, but for 3.
+        if shown != Err(3) && shown != peer::image::show_image(image) {
+            return kept(image, "the second program's two readers differ".into());
         }
         Ok(())
     }
@@ -559,7 +566,7 @@ impl Images {
         }
         let after = resumed.image.unwrap_or_default();
         listing.extend(library(LENGTH_MAX, |slice| {
-            show(&after, slice, &mut [7; SCRATCH])
+            show(&after, slice, &mut [7; SCRATCH_MIN])
         })?);
         let uncut = library(LENGTH_MAX, |slice| sheets::run(sheet, slice))?;
         if listing != uncut {
@@ -582,7 +589,7 @@ impl Images {
         let others = [record(3, 2, 0, 0), record(10, 0, 0, 0), record(0, 1, 0, 0)];
         for leader in 1..=8 {
             let image = leaderless(chained([2; 9]), leader);
-            self.show(&image, SCRATCH)?;
+            self.show(&image, SCRATCH_MIN)?;
             for more in 0..others.len() {
                 let records = [&[set_normal], &others[..more]].concat();
                 let Ok(resumed) = resumed(&image, records.as_flattened()) else {
@@ -610,9 +617,12 @@ impl Images {
     fn counts(&self) -> impl Iterator<Item = (String, u64)> + '_ {
         let refusals = REFUSALS.map(|n| format!("refusal {n} of images"));
         let rows = ROWS.map(|(name, _)| format!("image of {name}"));
+        let scratches = SCRATCHES.map(|n| format!("dirty scratches of {n} bytes"));
         let refusals = refusals.into_iter().zip(self.refusals);
+        let scratches = scratches.into_iter().zip(self.scratches);
         let done = DONE.map(String::from).into_iter().zip(self.done);
-        done.chain(refusals).chain(rows.into_iter().zip(self.rows))
+        let seen = done.chain(refusals).chain(scratches);
+        seen.chain(rows.into_iter().zip(self.rows))
     }
 
     /// What was not met often enough.

@@ -20,7 +20,7 @@ const NONE: u16 = 65_535;
 
 /// Where the nine first records stand in the head: at the end of each board, and last the
 /// receipts'.
-const FIRSTS: [usize; 9] = [72, 98, 124, 150, 176, 202, 228, 254, 256];
+pub(crate) const FIRSTS: [usize; 9] = [72, 98, 124, 150, 176, 202, 228, 254, 256];
 
 /// A row taken up from an image, after further records.
 pub struct Resumed {
@@ -63,7 +63,18 @@ pub fn saved(row: &Row) -> Result<Vec<u8>, u8> {
 }
 
 /// The row of an image, or 17, 18 or 19, in that order. Its records may have any numbering.
+/// It knows of no scratch: `scratch::read_in` does.
 pub fn read(image: &[u8]) -> Result<Row, u8> {
+    read_by(image, chains)
+}
+
+/// The same, by any way to follow the chains: it gives the logs and the receipts, or none
+/// for 19. Inlined, so that `read`, which is measured, is no slower for it.
+#[inline(always)]
+pub(crate) fn read_by(
+    image: &[u8],
+    follow: impl FnOnce(&[u8; HEAD], &[[u8; 8]]) -> Option<[Log; 9]>,
+) -> Result<Row, u8> {
     // [17] the length is not 258 plus 8 times 0 to 4,608
     let (head, records) = parts(image).ok_or(17)?;
     // [18] a number outside its range, a zero byte that is not 0
@@ -76,7 +87,7 @@ pub fn read(image: &[u8]) -> Result<Row, u8> {
     if row.turned_away() {
         return Err(18);
     }
-    let logs = chains(head, records).ok_or(19)?;
+    let logs = follow(head, records).ok_or(19)?;
     let [boards @ .., receipts] = logs;
     for (board, log) in row.boards.iter_mut().zip(boards) {
         board.log = log;
@@ -147,7 +158,7 @@ pub fn renumbered(image: &[u8], permutation: &[u16]) -> Vec<u8> {
 }
 
 /// The listing of these records on a row.
-fn list(records: &[[u8; 8]], outcomes: &[Outcome], row: &Row) -> String {
+pub(crate) fn list(records: &[[u8; 8]], outcomes: &[Outcome], row: &Row) -> String {
     let mut slice = vec![0; listing::length(records, outcomes, row)];
     listing::write(&mut slice, records, outcomes, row);
     String::from_utf8(slice).expect("a listing is ASCII")
@@ -161,7 +172,7 @@ fn parts(image: &[u8]) -> Option<(&[u8; HEAD], &[[u8; 8]])> {
 }
 
 /// The two bytes at a place, low byte first.
-fn two(bytes: &[u8], place: usize) -> u16 {
+pub(crate) fn two(bytes: &[u8], place: usize) -> u16 {
     u16::from_le_bytes([bytes[place], bytes[place + 1]])
 }
 
@@ -209,17 +220,24 @@ fn chains(head: &[u8; HEAD], records: &[[u8; 8]]) -> Option<[Log; 9]> {
     let mut met = vec![false; records.len()];
     let mut logs = [const { Log::EMPTY }; 9];
     for (log, place) in logs.iter_mut().zip(FIRSTS) {
-        chain(log, two(head, place), records, &mut met)?;
+        let meet = |record: usize| mem::replace(&mut met[record], true);
+        chain(log, two(head, place), records, meet)?;
     }
     met.iter().all(|&met| met).then_some(logs)
 }
 
-/// Follows one chain from its first record, and marks what it meets.
-fn chain(log: &mut Log, first: u16, records: &[[u8; 8]], met: &mut [bool]) -> Option<()> {
+/// Follows one chain from its first record. What it meets is marked with `meet`, which gets
+/// the record's place, from 0, and says whether it was met before.
+pub(crate) fn chain(
+    log: &mut Log,
+    first: u16,
+    records: &[[u8; 8]],
+    mut meet: impl FnMut(usize) -> bool,
+) -> Option<()> {
     let mut number = usize::from(first);
     while number != 0 {
         let record = records.get(number - 1)?;
-        let twice = mem::replace(&mut met[number - 1], true);
+        let twice = meet(number - 1);
         // 512 entries are fine, the 513th is not.
         if twice || log.len() == LOG_MAX {
             return None;

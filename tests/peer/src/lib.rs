@@ -1,4 +1,4 @@
-//! A second program for document 01 and Papers 1 to 7 of document 02: it turns a
+//! A second program for document 01 and Papers 1 to 8 of document 02: it turns a
 //! sheet into its listing, its lines in words or the image of its row, or into the
 //! number of the refusal, an image into its row again, and a seed and a count of
 //! records into a bench sheet.
@@ -12,6 +12,7 @@ pub mod image;
 pub mod listing;
 pub mod ranges;
 pub mod row;
+pub mod scratch;
 pub mod seed;
 pub mod tally;
 pub mod words;

@@ -1,29 +1,10 @@
-//! The errors of reading an image: document 02, Paper 7. Places are counted in the head by
-//! hand: the registry from 0, the controller from 8, what is heard from 16 in 4 bytes a
-//! board, the boards from 48 in 26 bytes each, the receipts' first at 256, records from 258.
+//! The errors of reading an image: document 02, Paper 7.
+
+mod places;
 
 use peer::image::{read, save_sheet};
 use peer::row::{Row, Status};
-
-/// Opening with board 1, append 41 and 42, receipt: log of records 1 and 2, receipt 3.
-fn image() -> Vec<u8> {
-    let append = |value| [1, 1, 0, 0, value, 0, 0, 0];
-    let opening = [0, 1, 0, 0, 0, 0, 0, 0];
-    let receipt = [2, 1, 0, 0, 0, 0, 0, 0];
-    let image = save_sheet(&[opening, append(41), append(42), receipt].concat()).unwrap();
-    assert_eq!(image.len(), 258 + 8 * 3);
-    image
-}
-
-/// An image with other bytes at a place.
-fn with(mut image: Vec<u8>, place: usize, bytes: &[u8]) -> Vec<u8> {
-    image[place..place + bytes.len()].copy_from_slice(bytes);
-    image
-}
-
-fn with_two(image: Vec<u8>, place: usize, n: u16) -> Vec<u8> {
-    with(image, place, &n.to_le_bytes())
-}
+use places::{board, chain_of, firsts, image, record, with, with_two};
 
 #[track_caller]
 fn accepted(image: Vec<u8>) -> Row {
@@ -33,16 +14,6 @@ fn accepted(image: Vec<u8>) -> Row {
 #[track_caller]
 fn error(image: Vec<u8>, number: u8) {
     assert_eq!(read(&image).map(|_| ()), Err(number));
-}
-
-/// The place of board b in the head.
-fn board(b: usize) -> usize {
-    48 + 26 * (b - 1)
-}
-
-/// The place of record k.
-fn record(k: usize) -> usize {
-    258 + 8 * (k - 1)
 }
 
 /// The image's two bytes at a place may be these numbers, and not those [18].
@@ -233,20 +204,9 @@ fn not_met_19() {
     assert_eq!((&*moved.board(6).log, moved.receipts.len()), (&[41][..], 0));
 }
 
-/// A chain of n records from a first, all epochs 1, on an opened row.
-fn chain_of(n: u16, first: usize) -> Vec<u8> {
-    let head = save_sheet(&[0, 1, 0, 0, 0, 0, 0, 0]).unwrap();
-    let mut image = with_two(head, first, 1);
-    for number in 1..=n {
-        let [n0, n1] = (if number == n { 0 } else { number + 1 }).to_le_bytes();
-        image.extend([7, 0, 0, 0, 1, 0, n0, n1]);
-    }
-    image
-}
-
 #[test]
 fn more_than_512_entries_19() {
-    for first in (1..=8).map(|b| board(b) + 24).chain([256]) {
+    for first in firsts() {
         accepted(chain_of(512, first));
         error(chain_of(513, first), 19);
         error(chain_of(4608, first), 19);
