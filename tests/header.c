@@ -214,7 +214,15 @@ static int explain(void)
     return memcmp(text, words, len) == 0 && text[len] == 0 ? 0 : 46;
 }
 
-/* A row opened with board 1 is kept and shown, document 02, Paper 7. Returns as above. */
+/* Are all of these bytes this one? */
+static int all(const uint8_t *bytes, size_t len, uint8_t byte)
+{
+    while (len > 0 && bytes[len - 1] == byte)
+        len--;
+    return len == 0;
+}
+
+/* A row opened with board 1 is kept and shown, document 02, Papers 7 and 8. Returns as above. */
 static int keep(void)
 {
     static const uint8_t sheet[ROW_RECORD_LEN] = {ROW_STEP_OPENING, 1, 0, 0, 0, 0, 0, 0};
@@ -224,7 +232,7 @@ static int keep(void)
     static const char last[] = "board 8 1 1 1 1 1 0 current\nreceipts 0\n";
     static uint8_t image[ROW_IMAGE_LEN], text[ROW_IMAGE_TEXT_LEN], scratch[ROW_SCRATCH_LEN + 1];
     const size_t len = ROW_IMAGE_HEAD_LEN, last_len = sizeof last - 1;
-    size_t n, i;
+    size_t n;
 
     if (save_sheet(sheet, 0, image, sizeof image) != ROW_BAD_SHEET)
         return 51;
@@ -233,29 +241,35 @@ static int keep(void)
     if (save_sheet(sheet, sizeof sheet, image, len) != len || memcmp(image, start, sizeof start) != 0)
         return 53;
     memset(scratch, 7, sizeof scratch);
-    if (show_image(image, 0, text, 0, scratch, ROW_SCRATCH_LEN - 1) != ROW_SHORT_SCRATCH || scratch[0] != 7)
+    n = show_image(image, 0, text, 0, scratch, ROW_SCRATCH_LEN - 1);
+    if (n != ROW_SHORT_SCRATCH || !all(scratch, sizeof scratch, 7))
         return 54;
     if (show_image(image, len + 1, text, sizeof text, scratch, ROW_SCRATCH_LEN) != ROW_REFUSED_IMAGE_LENGTH)
         return 55;
-    if (scratch[0] != 0 || scratch[ROW_SCRATCH_LEN] != 7)
+    if (!all(scratch, ROW_SCRATCH_LEN, 0) || scratch[ROW_SCRATCH_LEN] != 7)
         return 56;
     image[7] = 1;
-    if (show_image(image, len, text, sizeof text, scratch, sizeof scratch) != ROW_REFUSED_IMAGE_NUMBER)
+    memset(scratch, 7, sizeof scratch);
+    n = show_image(image, len, text, sizeof text, scratch, sizeof scratch);
+    if (n != ROW_REFUSED_IMAGE_NUMBER || !all(scratch, sizeof scratch, 0))
         return 57;
     image[7] = 0;
     image[256] = 1;
-    if (show_image(image, len, text, sizeof text, scratch, sizeof scratch) != ROW_REFUSED_IMAGE_LINKS)
+    memset(scratch, 7, sizeof scratch);
+    n = show_image(image, len, text, sizeof text, scratch, sizeof scratch);
+    if (n != ROW_REFUSED_IMAGE_LINKS || !all(scratch, sizeof scratch, 0))
         return 58;
     image[256] = 0;
-    if (show_image(image, len, text, sizeof first, scratch, sizeof scratch) != ROW_SHORT_TEXT || text[0] != 0)
+    memset(scratch, 7, sizeof scratch);
+    n = show_image(image, len, text, sizeof first, scratch, sizeof scratch);
+    if (n != ROW_SHORT_TEXT || text[0] != 0 || !all(scratch, sizeof scratch, 0))
         return 59;
     memset(scratch, 7, sizeof scratch);
     n = show_image(image, len, text, sizeof text, scratch, sizeof scratch);
     if (n < 20 || memcmp(text, first, sizeof first - 1) != 0 || memcmp(text + n - last_len, last, last_len) != 0)
         return 60;
-    for (i = 0; i < sizeof scratch; i++)
-        if (scratch[i] != 0)
-            return 61;
+    if (!all(scratch, sizeof scratch, 0))
+        return 61;
     return text[n] == 0 ? 0 : 62;
 }
 

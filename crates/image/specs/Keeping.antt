@@ -1,5 +1,5 @@
--- The calls that keep a row (document 02, Paper 7): what the writer and the reader hand back and leave, and that a
--- written row reads back as the same row. Cited by the contracts of image and by the links of runs. Assumes nothing.
+-- The calls that keep a row (document 02, Papers 7 and 8): what the writer and the reader hand back and leave, and that
+-- a written row reads back as the same row. Cited by the contracts of image and by the links of runs. Assumes nothing.
 use mathlib.Core.Bool.{Bool, true, cond, _&&_}
 use mathlib.Core.Logic.{_≢_}
 use mathlib.Core.Path.{_≡_}

@@ -1,5 +1,5 @@
-// Marks of record numbers in a lent scratch (document 02, Paper 8: "with 576 bytes of scratch or more"): one bit for each
-// number. What a mark is in bytes is known here alone. Inner layer: callers see to it that a scratch is long enough for
+// Marks of record numbers in a lent scratch, one bit for each (document 02, Paper 8: "with 576 bytes of scratch or
+// more"). What a mark is in bytes is known here alone. Inner layer: callers see to it that a scratch is long enough for
 // a mark.
 
 ghost use mathlib.Core.Path.{_≡_};
@@ -26,7 +26,8 @@ pub fn clear(s: &mut [u8])
     }
 }
 
-// Whether k is marked. A byte is a mask, as for sets of boards. Inner layer: callers see to the scratch's length and to k.
+// Whether k is marked. A byte is a mask of eight numbers, as one of boards is. Inner layer: callers see to the scratch's
+// length and to k.
 pub fn is_marked(s: &[u8], k: usize) -> bool
     requires { ⌜ (room ≤ length (now s)) × (1 ≤ k) × (k ≤ most) ⌝ }
     ensures { λ r. ⌜ r ≡ marked (now (s .entry)) k ⌝ }

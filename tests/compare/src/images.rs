@@ -31,6 +31,23 @@ extern "C" {
 const TEXT: usize = 8650;
 /// Scratches that are long enough, Paper 7's among them, and too short ones.
 const SCRATCHES: [usize; 5] = [576, 577, 4608, 575, 0];
+/// Dirty scratches by their length and what is answered, 0 for an image that is shown.
+const LENT: [(usize, u8); 14] = [
+    (576, 0),
+    (576, 17),
+    (576, 18),
+    (576, 19),
+    (577, 0),
+    (577, 17),
+    (577, 18),
+    (577, 19),
+    (4608, 0),
+    (4608, 17),
+    (4608, 18),
+    (4608, 19),
+    (575, 3),
+    (0, 3),
+];
 /// How often each of what is counted should be met.
 const ENOUGH: u64 = 5;
 /// Of every so many images each byte of the head is damaged.
@@ -159,7 +176,7 @@ pub struct Images {
     /// How many images of sheets were taken.
     taken: u64,
     refusals: [u64; REFUSALS.len()],
-    scratches: [u64; SCRATCHES.len()],
+    lent: [u64; LENT.len()],
     rows: [u64; ROWS.len()],
     done: [u64; DONE.len()],
 }
@@ -210,7 +227,7 @@ impl Images {
             pool,
             taken: 0,
             refusals: [0; REFUSALS.len()],
-            scratches: [0; SCRATCHES.len()],
+            lent: [0; LENT.len()],
             rows: [0; ROWS.len()],
             done: [0; DONE.len()],
         }
@@ -423,8 +440,6 @@ impl Images {
     }
 
     fn show_in(&mut self, image: &[u8], text: usize, scratch: usize) -> Result<(), Fault> {
-        let at = SCRATCHES.iter().position(|&length| length == scratch);
-        self.scratches[at.expect("a scratch that is counted")] += 1;
         let given = image.to_vec();
         let (mut text, mut scratch) = (self.place(text), self.place(scratch));
         let mut texts = text.bytes.clone();
@@ -441,6 +456,10 @@ impl Images {
             texts[text.slice.start..][..lines.len()].copy_from_slice(lines);
         }
         let result = show(&given, text.lent(), scratch.lent());
+        let lent = (scratch.slice.len(), expected.err().unwrap_or(0));
+        if let Some(at) = LENT.iter().position(|&met| met == lent) {
+            self.lent[at] += 1;
+        }
         let expected = match expected {
             Ok(lines) => lines.len(),
             Err(refusal) => {
@@ -468,10 +487,6 @@ impl Images {
         }
         if given != image {
             return kept(image, "show_image changed the image".into());
-        }
-        // It has a reader without a scratch too, and their answers are the same, but for 3.
-        if shown != Err(3) && shown != peer::image::show_image(image) {
-            return kept(image, "the second program's two readers differ".into());
         }
         Ok(())
     }
@@ -617,11 +632,11 @@ impl Images {
     fn counts(&self) -> impl Iterator<Item = (String, u64)> + '_ {
         let refusals = REFUSALS.map(|n| format!("refusal {n} of images"));
         let rows = ROWS.map(|(name, _)| format!("image of {name}"));
-        let scratches = SCRATCHES.map(|n| format!("dirty scratches of {n} bytes"));
+        let lent = LENT.map(|(n, answer)| format!("dirty scratches of {n} bytes, answer {answer}"));
         let refusals = refusals.into_iter().zip(self.refusals);
-        let scratches = scratches.into_iter().zip(self.scratches);
+        let lent = lent.into_iter().zip(self.lent);
         let done = DONE.map(String::from).into_iter().zip(self.done);
-        let seen = done.chain(refusals).chain(scratches);
+        let seen = done.chain(refusals).chain(lent);
         seen.chain(rows.into_iter().zip(self.rows))
     }
 

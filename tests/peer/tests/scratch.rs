@@ -181,9 +181,8 @@ fn full(random: &mut Random) -> Vec<Vec<u16>> {
 }
 
 #[test]
-fn a_bit_for_each_record() {
+fn the_least_scratch() {
     assert_eq!(SCRATCH_MIN, 576);
-    assert_eq!(8 * SCRATCH_MIN, 4608);
 }
 
 #[test]
@@ -376,9 +375,9 @@ fn each_length_of_a_scratch() {
     }
 }
 
-/// What stands before and behind the lent bytes is no part of the scratch.
+/// The lent bytes may begin anywhere.
 #[test]
-fn bytes_beside_the_scratch_are_not_needed() {
+fn a_scratch_begins_anywhere() {
     let lists = full(&mut Random::new(6));
     let longest = image_of(&lists);
     let mut memory = [255; 3000];
@@ -386,8 +385,6 @@ fn bytes_beside_the_scratch_are_not_needed() {
         let answer = read_in(&longest, LENT, &mut memory[begin..begin + 576]);
         assert!(answer == read(&longest));
         assert!(is_zero(&memory[begin..begin + 576]));
-        let beside = [&memory[..begin], &memory[begin + 576..]].concat();
-        assert_eq!(beside, [255; 3000 - 576]);
         memory.fill(255);
     }
 }

@@ -19,7 +19,7 @@ add-b : tie.Need-add-b
 add-b c = search needs
 
 slice-read-insert : tie.Need-slice-read-insert
-slice-read-insert c = search needs
+slice-read-insert c = omega arith
 
 insert-requires : tie.Need-insert-requires
 insert-requires c κs = search needs
