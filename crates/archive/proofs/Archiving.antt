@@ -18,7 +18,7 @@ use Rattle.refinement.specs.Refinement.{Places, Full, listed, abs}
 use Rattle.shown.specs.Shown.{lengthsFit, valid}
 use Rattle.shown.proofs.Valid.{all-tests, fits-full, valid-range}
 use Rattle.records.specs.Bytes.{isSheet}
-use Rattle.listing.specs.Listing.{ending}
+use Rattle.ending.specs.Ending.{ending}
 use Rattle.marks.specs.Marks.{room}
 use Rattle.running.specs.Running.{stateAt, Ran}
 use Rattle.running.proofs.Playing.{ran-fits, kept-fits}

@@ -22,8 +22,8 @@ use Rattle.members.specs.Mask.{bits}
 use Rattle.cluster.specs.Layout.{outlineOf}
 use Rattle.records.specs.Bytes.{recordAt, records, isSheet}
 use Rattle.lines.specs.Lines.{registryLine, controlLine, boardText, receiptText, viewText, membersText}
-use Rattle.listing.specs.Listing.{ending, boardLines, boardLine, receiptsLine, receiptsText}
-use Rattle.listing.proofs.Endings.{ending-most}
+use Rattle.ending.specs.Ending.{ending, boardLines, boardLine, receiptsLine, receiptsText}
+use Rattle.ending.proofs.Endings.{ending-most}
 use Rattle.logstore.specs.Log.{pairs}
 use Rattle.logstore.proofs.Laws.{pairs-length}
 use Rattle.refinement.specs.Refinement.{Places, lent, abs}

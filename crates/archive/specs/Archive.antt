@@ -15,7 +15,7 @@ use Rattle.cluster.specs.Layout.{outlineOf}
 use Rattle.text.specs.Text.{Text, over}
 use Rattle.records.specs.Bytes.{recordAt, records, isSheet}
 use Rattle.lines.specs.Lines.{word}
-use Rattle.listing.specs.Listing.{ending}
+use Rattle.ending.specs.Ending.{ending}
 use Rattle.running.specs.Sample.{sampleSheet}
 use Rattle.marks.specs.Marks.{room}
 use Rattle.chains.specs.Image.{valuesOf, epochsOf}

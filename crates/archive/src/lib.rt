@@ -77,6 +77,6 @@ pub fn show_image(image: &[u8], out: &mut [u8], scratch: &mut [u8]) -> usize
     }
     let row = x.row;
     let mut end = [0u8; 8704];
-    let n = listing::ending::put_ending(&mut end, row, &list, &list2);
+    let n = ending::put_ending(&mut end, row, &list, &list2);
     deliver(&end[..n], &mut *out)
 }

@@ -1,5 +1,5 @@
--- The papers' sample sheet, and slices, for the trials of its listing (sheet), its lines in words (explain) and its image
--- (archive). Assumes nothing.
+-- The papers' sample sheet, and slices, for the trials of its listing (sheet), its lines in words (explain) and its
+-- image (archive). Assumes nothing.
 use mathlib.Core.List.{[], _∷_}
 use Prim.Native.Nat.{ℕ}
 use lib.ListN.{replicate}

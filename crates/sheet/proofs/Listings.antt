@@ -26,10 +26,11 @@ use Rattle.text.specs.Text.{Text, over, Delivered}
 use Rattle.text.proofs.Laws.{digits-one-length}
 use Rattle.records.specs.Bytes.{recordAt, records, wholeRecords, isSheet}
 use Rattle.lines.specs.Lines.{answerLine}
-use Rattle.listing.specs.Listing.{answerLines, lines, ending}
+use Rattle.listing.specs.Listing.{answerLines, lines}
+use Rattle.ending.specs.Ending.{ending}
 use Rattle.lines.proofs.Lengths.{line-length}
 use Rattle.listing.proofs.AnswerLines.{line-most, each-most, records-small}
-use Rattle.listing.proofs.Endings.{ending-most}
+use Rattle.ending.proofs.Endings.{ending-most}
 use Rattle.sheet.specs.Sheet.{listingOf, listing, result, left, openingBytes, Refused, RefusedHolds, LengthsTell}
 use Rattle.running.specs.Running.{following, stateAt, Ran}
 use Rattle.records.proofs.Decoding.{room, records-length}

@@ -15,7 +15,8 @@ use Rattle.model.specs.Claim.{after, receipts}
 use Rattle.text.specs.Text.{Text, over}
 use Rattle.records.specs.Bytes.{recordAt, records, sheetBytes, isSheet}
 use Rattle.lines.specs.Lines.{word, answerLine}
-use Rattle.listing.specs.Listing.{answerLines, ending}
+use Rattle.listing.specs.Listing.{answerLines}
+use Rattle.ending.specs.Ending.{ending}
 use Rattle.running.specs.Sample.{sampleSheet, slice}
 
 -- The listing
@@ -61,8 +62,8 @@ SampleHolds = (isSheet sampleSheet ≡ true) × (listing sampleSheet ≡ sampleL
 
 -- Document 02, Paper 6: a receipt, set normal and installing, each with more members behind it than a majority needs.
 -- Board 1 has counted board 6 too, which is a member in the registry but not in board 1's view, and so is not in the
--- set; board 5 is heard below the leader, board 3 above it and, for installing, ranked above board 2. One of each of the
--- three is refused, with no field.
+-- set; board 5 is heard below the leader, board 3 above it and, for installing, ranked above board 2. One of each of
+-- the three is refused, with no field.
 unfoldable pub setsSheet : Text
 unfolding sheetBytes
 setsSheet = sheetBytes

@@ -36,6 +36,6 @@ pub fn run_sheet(sheet: &[u8], listing: &mut [u8]) -> usize
         &mut sets,
     );
     let mut end = [0u8; 8704];
-    let n = listing::ending::put_ending(&mut end, row, &list, &list2);
-    listing::answers::deliver(sheet, &answers, &sets, &end[..n], listing)
+    let n = ending::put_ending(&mut end, row, &list, &list2);
+    listing::deliver(sheet, &answers, &sets, &end[..n], listing)
 }

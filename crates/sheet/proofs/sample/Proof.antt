@@ -8,7 +8,8 @@ use Rattle.text.specs.Text.{digits, digitsWithin, over}
 use Rattle.sheet.proofs.Listings.{refused-holds, lengths-tell}
 use Rattle.records.specs.Bytes.{records, sheetBytes}
 use Rattle.lines.specs.Lines.{answerLine, fourthField, registryLine, controlLine, viewText, membersText, receiptText}
-use Rattle.listing.specs.Listing.{answerLines, boardLine, boardLines, receiptsLine, receiptsText, ending}
+use Rattle.listing.specs.Listing.{answerLines}
+use Rattle.ending.specs.Ending.{boardLine, boardLines, receiptsLine, receiptsText, ending}
 use Rattle.sheet.specs.Sheet.{SampleHolds, setsSheet, SetsHold, RoomHolds, result, left, listing, listingOf}
 
 returns : tie.Need-returns

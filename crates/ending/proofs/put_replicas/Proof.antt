@@ -1,4 +1,4 @@
--- `listing::ending::put_replicas` meets its contract. The loop's invariant: the texts of 1 to b are written, up to
+-- `ending::put_replicas` meets its contract. The loop's invariant: the texts of 1 to b are written, up to
 -- place p. Assumes nothing.
 use mathlib.Core.Path.{_≡_, subst, ap, _∙_}
 use Prim.Native.Nat.{ℕ, _+_, _-_, _≤_}
@@ -8,11 +8,11 @@ use denote.Ref.{now}
 use Rattle.cluster.specs.declared.Cluster.{Cluster}
 use Rattle.text.specs.Text.{Text, Wrote}
 use Rattle.text.proofs.Laws.{nothing, then, wrote-length}
-use Rattle.listing.specs.Listing.{boardLine, boardLines}
+use Rattle.ending.specs.Ending.{boardLine, boardLines}
 use Rattle.lines.proofs.Eights.{upTo, upTo-next, upTo-eight, upTo-fits}
-use Rattle.listing.proofs.Endings.{replica, replica-is}
-use Rattle.listing.proofs.ending.put_replicas.Statement.{statement}
-use Rattle.listing.proofs.ending.put_replicas.Tie as tie
+use Rattle.ending.proofs.Endings.{replica, replica-is}
+use Rattle.ending.proofs.put_replicas.Statement.{statement}
+use Rattle.ending.proofs.put_replicas.Tie as tie
 
 abbrev line : Cluster → ℕ → Text
 line row = replica (row .views) (row .joined) (row .len) (row .registry .view)

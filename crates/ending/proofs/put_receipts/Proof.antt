@@ -1,4 +1,4 @@
--- `listing::ending::put_receipts` meets its contract. Assumes nothing.
+-- `ending::put_receipts` meets its contract. Assumes nothing.
 use mathlib.Core.List.{List, _++_}
 use mathlib.Core.Path.{sym, subst}
 use Prim.Native.Nat.{_+_, _≤_}
@@ -10,11 +10,11 @@ use Rattle.logstore.proofs.Laws.{pairs-length}
 use Rattle.text.specs.Text.{Text, Wrote, digits}
 use Rattle.text.proofs.Laws.{fits, byte, rest, then}
 use Rattle.lines.specs.Lines.{word, newline}
-use Rattle.listing.specs.Listing.{receiptsText}
-use Rattle.listing.proofs.Endings.{receipts-is}
+use Rattle.ending.specs.Ending.{receiptsText}
+use Rattle.ending.proofs.Endings.{receipts-is}
 use borrow.Author.Needs.{needs}
-use Rattle.listing.proofs.ending.put_receipts.Statement.{statement}
-use Rattle.listing.proofs.ending.put_receipts.Tie as tie
+use Rattle.ending.proofs.put_receipts.Statement.{statement}
+use Rattle.ending.proofs.put_receipts.Tie as tie
 
 -- The receipts, of which there are n.
 abbrev all : tie.Start → List Entry

@@ -1,9 +1,9 @@
--- `listing::ending::put_replica` meets its contract. By hand, as the search takes long to refuse an edit.
+-- `ending::put_replica` meets its contract. By hand, as the search takes long to refuse an edit.
 -- Assumes nothing.
 use borrow.Author.Needs.{needs}
 use mathlib.Core.Path.{sym}
-use Rattle.listing.proofs.ending.put_replica.Statement.{statement}
-use Rattle.listing.proofs.ending.put_replica.Tie as tie
+use Rattle.ending.proofs.put_replica.Statement.{statement}
+use Rattle.ending.proofs.put_replica.Tie as tie
 
 abbrev start : tie.After-is-late → tie.Start
 start c = c .before .before .before

@@ -1,4 +1,4 @@
--- `listing::ending::put_entries` meets its contract. The loop's invariant: the first i receipts are written, up to
+-- `ending::put_entries` meets its contract. The loop's invariant: the first i receipts are written, up to
 -- place p. Assumes nothing.
 use mathlib.Core.List.{List, _++_}
 use mathlib.Core.Path.{_≡_, sym, subst}
@@ -12,11 +12,11 @@ use Rattle.logstore.proofs.Laws.{pairs-length, pairs-at}
 use Rattle.text.specs.Text.{Text, Wrote}
 use Rattle.text.proofs.Laws.{nothing, fits, byte, rest, then, wrote-length}
 use Rattle.lines.specs.Lines.{space, receiptText}
-use Rattle.listing.specs.Listing.{receiptsText}
-use Rattle.listing.proofs.Endings.{receipts-next, receiptsLeft, receipts-room}
+use Rattle.ending.specs.Ending.{receiptsText}
+use Rattle.ending.proofs.Endings.{receipts-next, receiptsLeft, receipts-room}
 use borrow.Author.Needs.{needs}
-use Rattle.listing.proofs.ending.put_entries.Statement.{statement}
-use Rattle.listing.proofs.ending.put_entries.Tie as tie
+use Rattle.ending.proofs.put_entries.Statement.{statement}
+use Rattle.ending.proofs.put_entries.Tie as tie
 
 abbrev Inv-loop : tie.InvT-loop
 Inv-loop out₀ at list list2 n i₀ p₀ out i p = (i ≤ n) × Wrote out₀ at (receiptsText (take i (pairs list list2))) out p

@@ -1,4 +1,4 @@
--- `listing::answers::has_room` meets its contract. Assumes nothing.
+-- `listing::has_room` meets its contract. Assumes nothing.
 use mathlib.Core.Path.{sym, ap}
 use Prim.Native.Nat.{_+_, _/_}
 use native.Mathlib.Omega.{arith}
@@ -9,8 +9,8 @@ use borrow.Author.Needs.{needs}
 use borrow.Author.Tests.{le-leb}
 use Rattle.listing.specs.Listing.{lines}
 use Rattle.listing.proofs.AnswerLines.{lines-most}
-use Rattle.listing.proofs.answers.has_room.Statement.{statement}
-use Rattle.listing.proofs.answers.has_room.Tie as tie
+use Rattle.listing.proofs.has_room.Statement.{statement}
+use Rattle.listing.proofs.has_room.Tie as tie
 
 mul-if1 : tie.Need-mul-if1
 mul-if1 c = search needs

@@ -1,4 +1,4 @@
--- `listing::answers::deliver` meets its contract. Assumes nothing.
+-- `listing::deliver` meets its contract. Assumes nothing.
 use mathlib.Core.Path.{sym, _∙_}
 use Prim.Native.Nat.{_+_, _/_, _≤_}
 use native.Mathlib.Omega.{arith}
@@ -9,8 +9,8 @@ use borrow.Author.Tests.{leb-true, leb-false, not-true, not-false}
 use Rattle.text.specs.Text.{Text}
 use Rattle.text.proofs.Laws.{then, too-long, fitting}
 use Rattle.listing.specs.Listing.{lines}
-use Rattle.listing.proofs.answers.deliver.Statement.{statement}
-use Rattle.listing.proofs.answers.deliver.Tie as tie
+use Rattle.listing.proofs.deliver.Statement.{statement}
+use Rattle.listing.proofs.deliver.Tie as tie
 
 abbrev start : tie.After-has-room → tie.Start
 start c = c .before .before .before .before .before .before

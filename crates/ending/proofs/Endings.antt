@@ -25,7 +25,7 @@ use Rattle.text.proofs.Laws.{rest, digits-most-4, digits-most-10}
 use Rattle.lines.specs.Lines.{word, space, newline, boardText, receiptText}
 use Rattle.lines.proofs.Lengths.{three-digits, eight-most, registry-most, control-most, board-most}
 use Rattle.mark.specs.Mark.{late, lateIn}
-use Rattle.listing.specs.Listing.{boardLine, boardLines, receiptsText, receiptsLine, ending}
+use Rattle.ending.specs.Ending.{boardLine, boardLines, receiptsText, receiptsLine, ending}
 
 -- The line of the replica b, from the row's parts and the registry's view.
 abbrev pub replica : List View → List ℕ → List ℕ → View → ℕ → Text

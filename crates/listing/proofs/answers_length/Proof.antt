@@ -1,4 +1,4 @@
--- `listing::answers::answers_length` meets its contract. Assumes nothing.
+-- `listing::answers_length` meets its contract. Assumes nothing.
 use mathlib.Core.Path.{_≡_, sym, ap, _∙_}
 use Prim.Native.Nat.{_-_, _*_, _/_, _≤_}
 use native.Mathlib.Omega.{arith}
@@ -7,8 +7,8 @@ use denote.Ref.{now}
 use Rattle.listing.specs.Listing.{lines}
 use Rattle.listing.proofs.AnswerLines.{lines-none, lineAt, one-more}
 use borrow.Author.Needs.{needs}
-use Rattle.listing.proofs.answers.answers_length.Statement.{statement}
-use Rattle.listing.proofs.answers.answers_length.Tie as tie
+use Rattle.listing.proofs.answers_length.Statement.{statement}
+use Rattle.listing.proofs.answers_length.Tie as tie
 
 abbrev Inv-loop : tie.InvT-loop
 Inv-loop sheet answers sets n total₀ i₀ total i =

@@ -1,4 +1,4 @@
--- `listing::answers::put_answers` meets its contract. Assumes nothing.
+-- `listing::put_answers` meets its contract. Assumes nothing.
 use mathlib.Core.Path.{_≡_, refl}
 use Prim.Native.Nat.{_-_, _/_, _≤_}
 use native.Mathlib.Omega.{arith}
@@ -8,8 +8,8 @@ use Rattle.text.specs.Text.{Wrote}
 use Rattle.text.proofs.Laws.{nothing, then}
 use Rattle.listing.specs.Listing.{lines}
 use Rattle.listing.proofs.AnswerLines.{lines-none, one-more, lines-room}
-use Rattle.listing.proofs.answers.put_answers.Statement.{statement}
-use Rattle.listing.proofs.answers.put_answers.Tie as tie
+use Rattle.listing.proofs.put_answers.Statement.{statement}
+use Rattle.listing.proofs.put_answers.Tie as tie
 
 abbrev Inv-loop : tie.InvT-loop
 Inv-loop out₀ sheet answers sets n at₀ i₀ out at i =

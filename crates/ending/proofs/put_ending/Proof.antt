@@ -1,4 +1,4 @@
--- `listing::ending::put_ending` meets its contract: no ending is longer than the slice. Assumes nothing.
+-- `ending::put_ending` meets its contract: no ending is longer than the slice. Assumes nothing.
 use mathlib.Core.List.{List, _++_}
 use Prim.Native.Nat.{_+_, _≤_}
 use native.Mathlib.Omega.{arith}
@@ -12,11 +12,11 @@ use Rattle.cluster.specs.Layout.{registryOf, controllerOf, outlineOf}
 use Rattle.text.specs.Text.{Text}
 use Rattle.text.proofs.Laws.{fits, rest, then}
 use Rattle.lines.specs.Lines.{registryLine, controlLine}
-use Rattle.listing.specs.Listing.{boardLines, receiptsLine, ending}
-use Rattle.listing.proofs.Endings.{ending-most, words-taken}
+use Rattle.ending.specs.Ending.{boardLines, receiptsLine, ending}
+use Rattle.ending.proofs.Endings.{ending-most, words-taken}
 use borrow.Author.Needs.{needs}
-use Rattle.listing.proofs.ending.put_ending.Statement.{statement}
-use Rattle.listing.proofs.ending.put_ending.Tie as tie
+use Rattle.ending.proofs.put_ending.Statement.{statement}
+use Rattle.ending.proofs.put_ending.Tie as tie
 
 abbrev all : tie.Start → List Entry
 all e = pairs (now (e .args .list)) (now (e .args .list2))

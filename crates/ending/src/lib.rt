@@ -1,5 +1,5 @@
-// The lines after the answers, from the row, the committed list and its terms. Inner layer: callers see to the room,
-// and that b is a replica.
+// The ending of a listing, the lines after the answers, from the row, the committed list and its terms. Inner layer:
+// callers see to the room, and that b is a replica.
 
 ghost use mathlib.Core.Bool.{true};
 ghost use mathlib.Core.Path.{_≡_};
@@ -11,7 +11,7 @@ ghost use Rattle.cluster.specs.Layout.{viewOf, noView, outlineOf};
 ghost use Rattle.text.specs.Text.{Wrote};
 ghost use Rattle.lines.specs.Lines.{boardText};
 ghost use Rattle.mark.specs.Mark.{late};
-ghost use Rattle.listing.specs.Listing.{boardLines, receiptsText, receiptsLine, ending};
+ghost use Rattle.ending.specs.Ending.{boardLines, receiptsText, receiptsLine, ending};
 use cluster::Cluster;
 use cluster::View;
 

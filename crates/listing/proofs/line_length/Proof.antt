@@ -1,12 +1,12 @@
--- `listing::answers::line_length` meets its contract. Assumes nothing.
+-- `listing::line_length` meets its contract. Assumes nothing.
 use Prim.Native.Nat.{_+_, _≤_}
 use native.Mathlib.Omega.{arith}
 use Rattle.cluster.specs.Layout.{bits}
 use Rattle.lines.proofs.Lengths.{line-length}
 use Rattle.listing.proofs.AnswerLines.{few}
 use borrow.Author.Needs.{needs}
-use Rattle.listing.proofs.answers.line_length.Statement.{statement}
-use Rattle.listing.proofs.answers.line_length.Tie as tie
+use Rattle.listing.proofs.line_length.Statement.{statement}
+use Rattle.listing.proofs.line_length.Tie as tie
 
 -- The three numbers have at most ten digits each.
 few1 : (c : tie.After-number-length) → c .number-length .result ≤ 10
