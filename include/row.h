@@ -22,7 +22,7 @@
  * their first call, that call took 48,552). No proof bounds it. The pages are
  * touched in order, so a guard page is met before anything below it. A call of
  * explain_sheet took at most 39,368 bytes, one of describe_record 3,320, one of
- * save_sheet 37,904, one of show_image 13,056, one of seed_sheet 32,
+ * save_sheet 37,904, one of show_image 13,072, one of seed_sheet 32,
  * one of look_up_majority 528.
  *
  * Reentrant. Nothing is kept between calls: calls may run in several threads,
