@@ -1,6 +1,7 @@
 /*
- * A host to start from: builds the sample sheet in memory, runs it, and prints
- * its listing; then says why a record is refused.
+ * A host to start from: prints the listing of a day without a sheet, builds the
+ * sample sheet in memory, runs it, and prints its listing; then says why a record
+ * is refused.
  *
  *   gcc -std=c99 -Iinclude examples/host.c target/staticlib/librow.a -o host
  */
@@ -78,13 +79,17 @@ int main(void)
     static uint8_t sheet[RECORDS * ROW_RECORD_LEN];
     static uint8_t listing[ROW_LISTING_LEN(RECORDS)];
 
+    /* No record yet: the listing is one line, "unopened". */
+    if (run(sheet, 0, listing, sizeof listing) != 0)
+        return 1;
+
     put(sheet, 0, ROW_STEP_OPENING, 1, 0, 0);
     put(sheet, 1, ROW_STEP_APPEND, 1, 0, 41);
     put(sheet, 2, ROW_STEP_RECEIPT, 1, 0, 0);
     put(sheet, 3, ROW_STEP_ADD, 2, 0, 0);
 
-    /* Both refusals of a sheet, on purpose: no records, and no room. */
-    run(sheet, 0, listing, sizeof listing);
+    /* Both refusals of a sheet, on purpose: half a record, and no room. */
+    run(sheet, ROW_RECORD_LEN / 2, listing, sizeof listing);
     run(sheet, sizeof sheet, listing, 16);
 
     if (run(sheet, sizeof sheet, listing, sizeof listing) != 0)

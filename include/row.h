@@ -39,7 +39,7 @@ extern "C" {
 #endif
 
 /*
- * A sheet is 1 to 4,095 records of 8 bytes:
+ * A sheet is 1 to 4,095 records of 8 bytes (run_sheet also takes one with none):
  *
  *   byte 0       the step
  *   byte 1       the board, 1 to 8; in ROW_STEP_COUNT the leader that counts
@@ -112,6 +112,9 @@ enum row_answer {
 #define ROW_BAD_SHEET 2     /* wrong length, or no valid opening */
 #define ROW_SHORT_LISTING 3 /* the listing slice is shorter than the listing */
 
+/* The length of the empty sheet's listing, and of no other: every other one is longer. */
+#define ROW_UNOPENED_LEN 9
+
 /*
  * The listing is ASCII. Each line ends in byte 10, fields are parted by one
  * space, numbers are in base ten, members are digits (124 is 1, 2 and 4):
@@ -124,6 +127,10 @@ enum row_answer {
  *                                8 lines, boards 1 to 8
  *   receipts N VALUE@EPOCH ...   how many, then the value and the epoch of each,
  *                                as in 41@1
+ *
+ * That of a sheet with no records, of length 0, is one line and nothing else:
+ *
+ *   unopened
  *
  * BEHIND is a set of boards, 1 to 8 digits in rising order: in the line 3 2 0 1 it
  * is the last 1, board 1. The line of a ROW_STEP_RECEIPT, ROW_STEP_SET_NORMAL or
@@ -145,7 +152,8 @@ enum row_answer {
  * is a beginning of the log of the registry's LEADER, if that is not 0; the log
  * of one that is late may hold other entries.
  *
- * ROW_LISTING_LEN(n) bytes suffice for the listing of any sheet of n records:
+ * ROW_LISTING_LEN(n) bytes suffice for the listing of any sheet of n records, and
+ * ROW_UNOPENED_LEN for that of none:
  *
  *     19 n  n record lines of at most 4 + 2 + 1 + 8 digits, 3 spaces and byte 10
  *           (one without BEHIND has at most 4 + 3 + 2, 2 spaces and byte 10)
@@ -169,7 +177,8 @@ enum row_answer {
  *   listing_len  the length of that slice in bytes
  *
  * Returns the listing's length in bytes, or ROW_BAD_SHEET, or, for a sheet that
- * is not refused so, ROW_SHORT_LISTING.
+ * is not refused so, ROW_SHORT_LISTING. A sheet_len of 0 is not refused: its listing
+ * has ROW_UNOPENED_LEN bytes. explain_sheet and save_sheet refuse it, ROW_BAD_SHEET.
  *
  * Both refusals leave the listing slice untouched. Bytes of it past the end of
  * a listing keep their values.

@@ -18,6 +18,9 @@ enum { SEEDED_LEN = ROW_SHEET_LEN(1 + 2) };
 #if ROW_BAD_SHEET != 2 || ROW_SHORT_LISTING != 3
 #error "the refusals of a sheet are 2 and 3"
 #endif
+#if ROW_UNOPENED_LEN != 9
+#error "the empty sheet's listing is a word of 8 letters and byte 10"
+#endif
 #if ROW_BAD_COUNT != 2 || ROW_SHORT_SLICE != 3
 #error "the refusals of a seed are 2 and 3"
 #endif
@@ -105,7 +108,7 @@ static int run_sample(void)
     /* A length of another type is as good. */
     if (ROW_LISTING_LEN(n) != sizeof listing)
         return 1;
-    if (run_sheet(sheet, 0, listing, sizeof listing) != ROW_BAD_SHEET)
+    if (run_sheet(sheet, sizeof sheet - 1, listing, sizeof listing) != ROW_BAD_SHEET)
         return 2;
     if (run_sheet(sheet, sizeof sheet, listing, SAMPLE_LISTING - 1) != ROW_SHORT_LISTING)
         return 3;
@@ -116,6 +119,31 @@ static int run_sample(void)
     if (memcmp(listing, records, sizeof records - 1) != 0)
         return 6;
     return memcmp(listing + SAMPLE_LISTING - receipts_len, receipts, receipts_len) == 0 ? 0 : 7;
+}
+
+/* The empty sheet has a listing, document 02, Paper 9; a part of a record has none. Returns as above. */
+static int run_empty(void)
+{
+    static const uint8_t sheet[ROW_RECORD_LEN - 1] = {0};
+    static const char line[] = "unopened\n";
+    static uint8_t listing[ROW_UNOPENED_LEN + 1];
+
+    if (run_sheet(sheet, 0, listing, 0) != ROW_SHORT_LISTING)
+        return 71;
+    if (run_sheet(sheet, 0, listing, ROW_UNOPENED_LEN - 1) != ROW_SHORT_LISTING || listing[0] != 0)
+        return 72;
+    if (run_sheet(sheet, sizeof sheet, listing, sizeof listing) != ROW_BAD_SHEET || listing[0] != 0)
+        return 73;
+    if (run_sheet(sheet, 0, listing, ROW_UNOPENED_LEN) != ROW_UNOPENED_LEN)
+        return 74;
+    if (memcmp(listing, line, ROW_UNOPENED_LEN) != 0)
+        return 75;
+    memset(listing, 7, sizeof listing);
+    if (run_sheet(sheet, 0, listing, sizeof listing) != ROW_UNOPENED_LEN)
+        return 76;
+    if (memcmp(listing, line, ROW_UNOPENED_LEN) != 0 || listing[ROW_UNOPENED_LEN] != 7)
+        return 77;
+    return explain_sheet(sheet, 0, listing, sizeof listing) == ROW_BAD_SHEET ? 0 : 78;
 }
 
 /* The first three records of seed 0 are made and run. Returns as above. */
@@ -277,6 +305,8 @@ int main(void)
 {
     int wrong = run_sample();
 
+    if (wrong == 0)
+        wrong = run_empty();
     if (wrong == 0)
         wrong = run_seeded();
     if (wrong == 0)

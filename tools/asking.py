@@ -75,7 +75,8 @@ class Session:
             say("there is no step to take back")
 
     def show(self):
-        say(listing.in_words(self.steps, self.now).rstrip("\n") if self.steps else "no step so far")
+        shown = listing.in_words(self.steps, self.now) if self.steps else listing.UNOPENED_IN_WORDS
+        say(shown.rstrip("\n"))
 
     def help(self):
         say(HELP.format(steps=steps_help()).rstrip("\n"))

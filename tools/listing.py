@@ -12,6 +12,9 @@ BOARD = ["board", *VIEW, "joined", "length", "mark"]
 SETS = ["members", "behind"]
 # The steps that ask for a majority. The line of one that is accepted has the boards behind it.
 MAJORITIES = ["2", "13", "15"]
+# The whole listing of a sheet with no records, and what people see of it.
+UNOPENED = "unopened\n"
+UNOPENED_IN_WORDS = "unopened: no step so far\n"
 
 
 class Listing(NamedTuple):

@@ -242,10 +242,9 @@ class Refused(InFolder):
 
     def test_why(self):
         add = bytes([3, 2, 0, 0, 0, 0, 0, 0])
-        self.refused(b"", "the sheet is empty")
-        self.refused(b"# nothing\n\n", "the sheet is empty")
         self.refused(RECORDS[:-1], "31 bytes are no whole records of 8 bytes")
         self.refused(b"open 1\nraw 1 2 3\n", "11 bytes are no whole records of 8 bytes")
+        self.refused(bytes(7), "7 bytes are no whole records of 8 bytes")
         self.refused(RECORDS[8:], "no opening first: record 1 is 'append 1 41'")
         self.refused(b"# late\nappend 1 41\nopen 1\n", "no opening first: line 2 is 'append 1 41'")
         self.refused(bytes([0, 9, 0, 0, 0, 0, 0, 0]), "no opening first: record 1 is 'raw 0 9 0 0 0 0 0 0'")
@@ -258,6 +257,60 @@ class Refused(InFolder):
         # Adding a member again is refused 5.
         answers = LISTING.partition(b"registry")[0] + b"".join(b"%d 3 5\n" % n for n in range(5, 4096))
         self.listed(done, answers + LISTING[LISTING.index(b"registry") :])
+
+
+class Unopened(InFolder):
+    """The empty sheet, document 02, Paper 9: the listing alone takes it."""
+
+    # No byte, no line with a step, and the mark of UTF-8 by itself.
+    EMPTY = [b"", b"\n", b"# Monday\n\n", b"\xef\xbb\xbf"]
+    WHY = "run-sheet: refused 2: the sheet is empty"
+
+    def test_the_listing(self):
+        for data in self.EMPTY:
+            self.listed(run("-", given=data), b"unopened\n")
+            self.listed(run(self.file("friday", data)), b"unopened\n")
+
+    def test_for_people(self):
+        for data in self.EMPTY:
+            self.listed(run("--words", "-", given=data), b"unopened: no step so far\n")
+
+    def test_no_line_in_words(self):
+        for data in self.EMPTY:
+            done = run("--explain", "-", given=data)
+            self.assertEqual((done.stdout, done.returncode), (b"refused 2\n", REFUSED))
+            self.assertEqual(done.stderr, f"{self.WHY}\n")
+
+    def test_no_row_to_save(self):
+        image = self.folder / "row.image"
+        for words, shown in [([], b"unopened\n"), (["--words"], b"unopened: no step so far\n")]:
+            done = run(*words, "--save", image, "-")
+            self.assertEqual((done.stdout, done.returncode), (shown, REFUSED))
+            self.assertEqual(done.stderr, f"{self.WHY}: there is no row to save\n")
+        done = run("--explain", "--save", image, "-")
+        self.assertEqual((done.stdout, done.returncode, done.stderr), (b"refused 2\n", REFUSED, f"{self.WHY}\n"))
+        self.assertFalse(image.exists())
+        # Nor is an older image written over.
+        image.write_bytes(IMAGE)
+        self.assertEqual(run("--save", image, "-").returncode, REFUSED)
+        self.assertEqual(image.read_bytes(), IMAGE)
+
+    def test_a_prompt_after_it(self):
+        done = run("--ask", self.file("friday", b"# nothing yet\n"), given=b"show\nopen 1\nundo\nshow\n")
+        self.assertEqual((done.returncode, done.stderr), (LISTED, ""))
+        said = done.stdout.decode().splitlines()
+        self.assertEqual([line for line in said if line.startswith("unopened")], ["unopened: no step so far"] * 2)
+
+    def test_programs_that_say_something_else(self):
+        # A listing of no records is no listing of steps, nor the other way round.
+        unopened = self.script("unopened", "echo unopened")
+        for given in [WORDS, RECORDS]:
+            done = run("--words", "-", given=given, program=unopened)
+            self.assertEqual((done.stdout, done.returncode), (b"", FAILED))
+            self.assertIn("what the program printed is no listing", done.stderr)
+        opened = self.script("opened", f"cat {self.file('listing', LISTING)}")
+        done = run("--words", "-", program=opened)
+        self.assertEqual((done.stdout, done.returncode), (b"", FAILED))
 
 
 class Seeded(InFolder):
@@ -998,7 +1051,7 @@ class Asking(InFolder):
         said = self.ask(["undo", "open 1", "add 2", "undo", "add 2", "undo", "undo", "show"])
         self.assertEqual(said[0], "there is no step to take back")
         self.assertEqual(said.count("  registry: epoch 2 -> 1, members 1 2 -> 1, status waiting -> normal"), 2)
-        self.assertEqual(said[-2:], ["taken back: open 1", "no step so far"])
+        self.assertEqual(said[-2:], ["taken back: open 1", "unopened: no step so far"])
 
     def test_no_opening_first(self):
         said = self.ask(["add 2", "open 9", "open 1", "open 1"])

@@ -23,7 +23,7 @@ use Rattle.cluster.specs.Layout.{outlineOf}
 use Rattle.records.specs.Bytes.{recordAt, records, isSheet}
 use Rattle.lines.specs.Lines.{registryLine, controlLine, boardText, receiptText, viewText, membersText}
 use Rattle.ending.specs.Ending.{ending, boardLines, boardLine, receiptsLine, receiptsText}
-use Rattle.ending.proofs.Endings.{ending-most}
+use Rattle.ending.proofs.Endings.{ending-least, ending-most}
 use Rattle.logstore.specs.Log.{pairs}
 use Rattle.logstore.proofs.Laws.{pairs-length}
 use Rattle.refinement.specs.Refinement.{Places, lent, abs}
@@ -60,10 +60,9 @@ module _ (o : Opening) (real : T (canOpen o)) (sts : List Step) where
   run-most : length (imageOf (after entries o sts)) ≤ 37122
   run-most = image-most (after entries o sts) (ranged .logs) (ranged .committed)
 
--- The words that begin three of the lines are 26 bytes.
 text-least : (image : Text) → 20 ≤ length (imageText image)
-unfolding imageText ending registryLine controlLine receiptsLine
-text-least image = simp length-append (omega arith)
+unfolding imageText
+text-least image = ending-least (outlineOf (rowIn image)) (receiptsIn image)
 
 -- A value of four bytes has 32 bits.
 word-at : (image : Text) → ((i : ℕ) → getD image i 0 ≤ 255) → (ks : List ℕ) (i : ℕ)

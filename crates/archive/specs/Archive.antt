@@ -30,8 +30,7 @@ unfolding records
 sheetImage s =
     imageOf (after entries (openingOf (recordAt s)) (stepsOf (records (length s / 8 - 1) (drop 8 s))))
 
--- The call, with the sheet s and a slice whose bytes are `out`: refusal 2 as for a listing, then 3; "both change
--- nothing".
+-- The call, with the sheet s and a slice whose bytes are `out`: document 01's refusal 2, then 3; "both change nothing".
 unfoldable pub saveResult : Text → Text → ℕ
 saveResult s out = cond (isSheet s) (cond (leb (length (sheetImage s)) (length out)) (length (sheetImage s)) 3) 2
 
@@ -75,6 +74,10 @@ LengthsTell =
     ((s : Text) → isSheet s ≡ true → (258 ≤ length (sheetImage s)) × (length (sheetImage s) ≤ 37122))
     × ((image : Text) → (20 ≤ length (imageText image))
     × (((i : ℕ) → getD image i 0 ≤ 255) → verdict image ≡ 0 → length (imageText image) ≤ 8650))
+
+-- The empty sheet, which has a listing (document 02, Paper 9), has no row: 2, whatever the slice holds.
+unfoldable pub EmptyRefused : Type 0
+EmptyRefused = (out : Text) → (saveResult [] out ≡ 2) × (saveLeft [] out ≡ out)
 
 -- The lines of document 01's sample after the answers.
 abbrev pub sampleEnding : Text

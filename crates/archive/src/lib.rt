@@ -4,12 +4,12 @@
 ghost use mathlib.Core.Path.{_≡_};
 ghost use lib.ListN.{length};
 ghost use Rattle.text.specs.Text.{Delivered};
-ghost use Rattle.archive.specs.Archive.{saveResult, saveLeft, showResult, showLeft, scratchLeft, SampleHolds, LengthsTell};
+ghost use Rattle.archive.specs.Archive.{saveResult, saveLeft, showResult, showLeft, scratchLeft, SampleHolds, EmptyRefused, LengthsTell};
 
-// The image of document 01's sample, byte for byte, its lines, and bent images with their errors; an image has 258 to
-// 37,122 bytes, its lines 20 to 8,650. By the definitions: nothing to run.
+// The image of document 01's sample, byte for byte, its lines, and bent images with their errors; the empty sheet is
+// refused; an image has 258 to 37,122 bytes, its lines 20 to 8,650. By the definitions: nothing to run.
 pub fn sample()
-    ensures { λ r. ⌜ SampleHolds × LengthsTell ⌝ }
+    ensures { λ r. ⌜ SampleHolds × EmptyRefused × LengthsTell ⌝ }
 {}
 
 // Runs a sheet and writes the image of its row. It returns the image's length, 2 for a sheet of wrong length or without

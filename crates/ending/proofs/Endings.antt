@@ -1,4 +1,4 @@
--- The ending of a listing: its parts from the row and the list, and how long it is at most. Assumes nothing.
+-- The ending of a listing: its parts from the row and the list, and how long it is. Assumes nothing.
 use mathlib.Core.Bool.{true}
 use mathlib.Core.List.{List, [], _∷_, _++_, append-nil, append-assoc}
 use mathlib.Core.Path.{_≡_, refl, ap, subst, _∙_}
@@ -22,7 +22,7 @@ use Rattle.cluster.specs.Layout.{viewOf, at, noView}
 use Rattle.cluster.proofs.Laws.{at-index}
 use Rattle.text.specs.Text.{Text, Wrote, digits}
 use Rattle.text.proofs.Laws.{rest, digits-most-4, digits-most-10}
-use Rattle.lines.specs.Lines.{word, space, newline, boardText, receiptText}
+use Rattle.lines.specs.Lines.{word, space, newline, boardText, receiptText, registryLine, controlLine}
 use Rattle.lines.proofs.Lengths.{three-digits, eight-most, registry-most, control-most, board-most}
 use Rattle.mark.specs.Mark.{late, lateIn}
 use Rattle.ending.specs.Ending.{boardLine, boardLines, receiptsText, receiptsLine, ending}
@@ -86,7 +86,12 @@ pub receipts-is : (s : List Entry) (n : ℕ) → n ≤ length s
 unfolding receiptsLine
 receipts-is s n h = rw (length-take-le n s h)
 
--- How long it is at most
+-- How long it is
+
+-- The words that begin three of its lines are 26 bytes.
+pub ending-least : (m : M.Outline) (xs : List Entry) → 20 ≤ length (ending m xs)
+unfolding ending registryLine controlLine receiptsLine
+ending-least m xs = simp length-append (omega arith)
 
 -- A receipt has at most sixteen bytes: a space, ten digits, `@`, four digits.
 receipts-most : (xs : List Entry) → All Word xs → T (termsInRange xs) → length (receiptsText xs) ≤ 16 * length xs

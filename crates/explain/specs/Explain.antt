@@ -27,7 +27,7 @@ unfoldable pub explained : Text → Text
 unfolding answersOf line eachOf
 explained s = linesOf s (answersOf s)
 
--- The call, with the sheet s and a slice whose bytes are `out`: refusals 2 and 3 are those of a listing.
+-- The call, with the sheet s and a slice whose bytes are `out`: document 01's refusals 2 and 3.
 unfoldable pub result : Text → Text → ℕ
 unfolding explained
 result s out = cond (isSheet s) (cond (leb (length (explained s)) (length out)) (length (explained s)) 3) 2
@@ -80,6 +80,10 @@ RoomHolds =
     × (result sampleSheet (slice 121) ≡ 3) × (left sampleSheet (slice 121) ≡ slice 121)
     × (result sampleSheet (slice 122) ≡ 122) × (left sampleSheet (slice 122) ≡ sampleText)
     × (result sampleSheet (slice 124) ≡ 122) × (left sampleSheet (slice 124) ≡ sampleText ++ slice 2)
+
+-- The empty sheet, which has a listing (document 02, Paper 9), has no text: 2, whatever the slice holds.
+unfoldable pub EmptyRefused : Type 0
+EmptyRefused = (out : Text) → (result [] out ≡ 2) × (left [] out ≡ out)
 
 -- No text is so short that its length could be taken for a refusal, and none of n records has more than 96 n bytes.
 unfoldable pub LengthsTell : Type 0

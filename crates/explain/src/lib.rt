@@ -8,12 +8,12 @@ ghost use lib.Dec.{leb};
 ghost use lib.ListN.{length, getD};
 ghost use Rattle.text.specs.Text.{Wrote, Delivered};
 ghost use Rattle.phrases.specs.Phrases.{isListed};
-ghost use Rattle.explain.specs.Explain.{linesOf, result, left, SampleHolds, RoomHolds, LengthsTell};
+ghost use Rattle.explain.specs.Explain.{linesOf, result, left, SampleHolds, RoomHolds, EmptyRefused, LengthsTell};
 
-// The papers' sample and P3 to P9 in words; a slice at its limits; a text of n records has 4 to 96 n bytes. By the
-// definitions: nothing to run.
+// The papers' sample and P3 to P9 in words; a slice at its limits; the empty sheet is refused; a text of n records has
+// 4 to 96 n bytes. By the definitions: nothing to run.
 pub fn sample()
-    ensures { λ r. ⌜ SampleHolds × RoomHolds × LengthsTell ⌝ }
+    ensures { λ r. ⌜ SampleHolds × RoomHolds × EmptyRefused × LengthsTell ⌝ }
 {}
 
 // How long the lines of a sheet's records are, where there is an answer for each.

@@ -11,7 +11,7 @@ ghost use Rattle.members.specs.Mask.{bits};
 ghost use Rattle.archive.specs.Archive as Archive;
 
 // Sheet in, listing out: the listing's length, 2 for a sheet of wrong length or without a valid opening, 3 for a slice
-// that is shorter than the listing.
+// that is shorter than the listing; the empty sheet has a listing, of one line (document 02, Paper 9).
 #[no_mangle]
 pub extern "C" fn run_sheet(sheet: &[u8], listing: &mut [u8]) -> usize
     ensures { λ r. ⌜ (r ≡ Sheet.result (now (sheet .entry)) (now (listing .entry)))

@@ -12,8 +12,8 @@ fn refuse(n: usize) {
 }
 
 // The longest sheet has 32,760 bytes: of a longer one so much is read that it is seen to be too long. A listing of n
-// records has at most 19 n + 8,650 bytes (`LengthsTell`, sheet::sample), so 86,455 are enough for 4,095 of them, and
-// refusal 3 does not happen here; and none has fewer than four.
+// records, none included, has at most 19 n + 8,650 bytes (`LengthsTell`, sheet::sample), so 86,455 are enough for 4,095
+// of them, and refusal 3 does not happen here; and none has fewer than four.
 fn main() {
     let mut sheet = [0u8; 32768];
     let mut listing = [0u8; 86455];

@@ -1,5 +1,5 @@
 -- A sheet that was run, and its listing: what was written is what the definition says. Assumes nothing.
-use mathlib.Core.Bool.{Bool, true, false, cond, _&&_}
+use mathlib.Core.Bool.{Bool, true, false, cond, _&&_, true≢false}
 use mathlib.Core.List.{List, [], _∷_, _++_, append-assoc}
 use mathlib.Core.Path.{_≡_, refl, sym, subst, ap, ap₂, _∙_}
 use Prim.Native.Nat.{ℕ, suc, _+_, _-_, _*_, _/_, _^_, _<_, _≤_}
@@ -7,6 +7,7 @@ use native.Mathlib.Omega.{arith}
 use lib.Dec.{leb}
 use lib.ListN.{length, take, drop, getD, length-append}
 use lib.Seq.{getD-drop}
+use borrow.Author.Tests.{eq-eqb, ne-eqb}
 use Rattle.model.specs.Members.{none}
 use Rattle.model.specs.State.{entries, outline, Opening, opened}
 use Rattle.model.specs.Records.{openingOf, Record}
@@ -23,15 +24,13 @@ use Rattle.cluster.specs.declared.Cluster.{Cluster}
 use Rattle.cluster.specs.Layout.{outlineOf}
 use Rattle.refinement.specs.Refinement.{Places, listed}
 use Rattle.text.specs.Text.{Text, over, Delivered}
-use Rattle.text.proofs.Laws.{digits-one-length}
-use Rattle.records.specs.Bytes.{recordAt, records, wholeRecords, isSheet}
+use Rattle.records.specs.Bytes.{recordAt, records, wholeRecords, isOpening, isSheet}
 use Rattle.lines.specs.Lines.{answerLine}
 use Rattle.listing.specs.Listing.{answerLines, lines}
 use Rattle.ending.specs.Ending.{ending}
-use Rattle.lines.proofs.Lengths.{line-length}
 use Rattle.listing.proofs.AnswerLines.{line-most, each-most, records-small}
-use Rattle.ending.proofs.Endings.{ending-most}
-use Rattle.sheet.specs.Sheet.{listingOf, listing, result, left, openingBytes, Refused, RefusedHolds, LengthsTell}
+use Rattle.ending.proofs.Endings.{ending-least, ending-most}
+use Rattle.sheet.specs.Sheet.{listingOf, isEmpty, unopened, listing, hasListing, result, left, openingBytes, Refused, RefusedHolds, LengthsTell}
 use Rattle.running.specs.Running.{following, stateAt, Ran}
 use Rattle.records.proofs.Decoding.{room, records-length}
 use Rattle.running.proofs.Results.{within, kept-length}
@@ -51,20 +50,45 @@ lines-are s k row p ns ms e h =
     (answers entries (opened (openingOf (recordAt s))) (stepsOf (following s k)))
     (setsBehind entries (opened (openingOf (recordAt s))) (stepsOf (following s k)))) (sheet-step s e)
 
--- Whatever stands after it, a text is no shorter: so the listing's first line is enough to know that it is long.
-longer : (n : ℕ) (xs ys : Text) → n ≤ length xs → n ≤ length (xs ++ ys)
-longer n xs ys h = omega (arith, length-append xs ys)
-
--- The opening's line alone has six bytes.
-long-enough : (s : Text) → 4 ≤ length (listing s)
-unfolding listing listingOf
-long-enough s =
-    longer 4 (answerLine 1 0 0 none) _ (omega (
+-- How long a listing is: that of records, by its ending alone.
+opened-long : (o : Opening) (rs : List Record) → 20 ≤ length (listingOf o rs)
+unfolding listingOf
+opened-long o rs =
+    let end = ending (outline (after entries o (stepsOf rs))) (receipts entries o (stepsOf rs)) in
+    let lines = answerLines 2 rs (answers entries (opened o) (stepsOf rs)) (setsBehind entries (opened o) (stepsOf rs)) in
+    omega (
       arith,
-      line-length 1 0 0 none,
-      digits-one-length 1 (omega arith),
-      digits-one-length 0 (omega arith),
-    ))
+      length-append (answerLine 1 0 0 none) (lines ++ end),
+      length-append lines end,
+      ending-least (outline (after entries o (stepsOf rs))) (receipts entries o (stepsOf rs)),
+    )
+
+-- A sheet with records: its listing is theirs,
+module _ (s : Text) (some : 1 ≤ length s) where
+  not-empty : isEmpty s ≡ false
+  not-empty = ne-eqb (length s) 0 (λ (q : length s ≡ 0). omega (arith, q, some))
+
+  pub listing-is : listing s ≡ listingOf (openingOf (recordAt s)) (records (length s / 8 - 1) (drop 8 s))
+  unfolding listing
+  listing-is = rw not-empty
+
+  -- so it is longer than `unopened`,
+  records-long : 20 ≤ length (listing s)
+  records-long = rw listing-is (opened-long (openingOf (recordAt s)) (records (length s / 8 - 1) (drop 8 s)))
+
+  -- and refusal 2 is asked of them.
+  has-records : hasListing s ≡ isSheet s
+  has-records = rw not-empty
+
+long-enough : (s : Text) → 4 ≤ length (listing s)
+unfolding listing
+long-enough [] = omega arith
+long-enough (b ∷ s) = omega (arith, records-long (b ∷ s) (omega arith))
+
+-- 9 bytes are no listing of records.
+nine-is-empty : (s : Text) → length (listing s) ≡ 9 → s ≡ []
+nine-is-empty [] e = refl
+nine-is-empty (b ∷ s) e = absurd (omega (arith, records-long (b ∷ s) (omega arith), e))
 
 -- 19 bytes for each record's line, and those of the longest ending.
 module _ (s : Text) (bytes : (i : ℕ) → getD s i 0 < 256) (e : isSheet s ≡ true) where
@@ -91,8 +115,8 @@ module _ (s : Text) (bytes : (i : ℕ) → getD s i 0 < 256) (e : isSheet s ≡ 
       (ending-most m (after entries first (stepsOf rs) .committed) ok (to-ranges m (of-true ok) .committed)
       (words-run first real rs (small .1) .committed) (is-true _ kept))
 
-  short-enough : length (listing s) ≤ 19 * (length s / 8) + 8650
-  unfolding listing listingOf
+  short-enough : length (listingOf first rs) ≤ 19 * (length s / 8) + 8650
+  unfolding listingOf
   short-enough =
       let k = length s / 8 - 1 in
       let ns = answers entries (opened first) (stepsOf rs) in
@@ -113,31 +137,62 @@ module _ (s : Text) (bytes : (i : ℕ) → getD s i 0 < 256) (e : isSheet s ≡ 
         end,
       )
 
+all-short : (s : Text) → ((i : ℕ) → getD s i 0 < 256) → hasListing s ≡ true
+    → length (listing s) ≤ 19 * (length s / 8) + 8650
+unfolding listing
+all-short [] bytes e = omega arith
+all-short (b ∷ s) bytes e =
+    omega (
+      arith,
+      short-enough (b ∷ s) bytes (sym (has-records (b ∷ s) (omega arith)) ∙ e),
+      ap length (listing-is (b ∷ s) (omega arith)),
+    )
+
 pub lengths-tell : LengthsTell
 unfolding LengthsTell
-lengths-tell s = (long-enough s, λ h e. short-enough s (λ i. omega (arith, h i)) e)
+lengths-tell s = (long-enough s, nine-is-empty s, λ h e. all-short s (λ i. omega (arith, h i)) e)
 
 -- Refusal 2.
-pub no-sheet : (s out : Text) → isSheet s ≡ false → (2 ≡ result s out) × (out ≡ left s out)
+pub no-sheet : (s out : Text) → 1 ≤ length s → isSheet s ≡ false → (2 ≡ result s out) × (out ≡ left s out)
 unfolding result left
-no-sheet s out e = (rw e, rw e)
+no-sheet s out some e = let h = has-records s some ∙ e in (rw h, rw h)
 
 -- P2's sheets: the board of the first record is none, so it is no valid opening.
 and-false : (t : Bool) → (t && false) ≡ false
 and-false true = refl
 and-false false = refl
 
+refused : (s out : Text) → 1 ≤ length s → isSheet s ≡ false → Refused s out
+refused s out some e = let n = no-sheet s out some e in (sym (n .0), sym (n .1))
+
 pub refused-holds : RefusedHolds
 unfolding RefusedHolds
 refused-holds rest out = (
-  refused (openingBytes 0 ++ rest) (and-false (wholeRecords (length (openingBytes 0 ++ rest)))),
-  refused (openingBytes 9 ++ rest) (and-false (wholeRecords (length (openingBytes 9 ++ rest)))),
-  refused [] refl,
-  refused (0 ∷ 1 ∷ 0 ∷ 0 ∷ []) refl,
+  refused (openingBytes 0 ++ rest) out (omega arith) (and-false (wholeRecords (length (openingBytes 0 ++ rest)))),
+  refused (openingBytes 9 ++ rest) out (omega arith) (and-false (wholeRecords (length (openingBytes 9 ++ rest)))),
 )
-  where
-    refused : (s : Text) → isSheet s ≡ false → Refused s out
-    refused s e = let n = no-sheet s out e in (sym (n .0), sym (n .1))
+
+-- All wrong lengths but that of the empty sheet.
+pub still-refused : (s out : Text) → isEmpty s ≡ false → wholeRecords (length s) ≡ false → Refused s out
+still-refused [] out h e = absurd (true≢false h)
+still-refused (b ∷ s) out h e = refused (b ∷ s) out (omega arith) (ap (λ t. t && isOpening (recordAt (b ∷ s))) e)
+
+-- What is delivered of a listing is what the call answers and leaves.
+as-listing : (s : Text) {out out′ : Text} {r : ℕ} → hasListing s ≡ true → Delivered (listing s) out out′ r
+    → (r ≡ result s out) × (out′ ≡ left s out)
+unfolding result left
+as-listing s {out} h d = (
+  d .answer ∙ ap (λ t. cond t (cond (leb (length (listing s)) (length out)) (length (listing s)) 3) 2) (sym h),
+  d .left ∙ ap (λ t. cond (t && leb (length (listing s)) (length out)) (over out 0 (listing s)) out) (sym h),
+)
+
+-- The empty sheet.
+pub delivered-unopened : (s : Text) {out out′ : Text} {r : ℕ} → length s ≡ 0 → Delivered unopened out out′ r
+    → (r ≡ result s out) × (out′ ≡ left s out)
+unfolding listing
+delivered-unopened s {out} {out′} {r} e d =
+    let h : isEmpty s ≡ true = eq-eqb (length s) 0 e in
+    as-listing s (rw h) (subst (λ x. Delivered x out out′ r) (rw h) d)
 
 module _ (s : Text) (e : isSheet s ≡ true) (row : Cluster) (p : Places) (ns ms : List ℕ)
     (h : Ran s (length s / 8 - 1) row p ns ms) where
@@ -154,8 +209,12 @@ module _ (s : Text) (e : isSheet s ≡ true) (row : Cluster) (p : Places) (ns ms
   kept : take (row .issued) (listed p) ≡ receipts entries opening past
   kept = ap (λ x. x .committed) (h .state) ∙ safe entries opening (sheet-real s e) past .kept
 
-  pub whole : lines s ns ms (length s / 8) ++ ending (outlineOf row) (take (row .issued) (listed p)) ≡ listing s
-  unfolding listing listingOf
+  some : 1 ≤ length s
+  some = omega (arith, room (length s) (sheet-whole s e))
+
+  whole : lines s ns ms (length s / 8) ++ ending (outlineOf row) (take (row .issued) (listed p))
+      ≡ listingOf opening (following s k)
+  unfolding listingOf
   whole =
       ap₂ (λ x y. x ++ y) (ap (lines s ns ms) (sym (sheet-some s e)) ∙ lines-are s k row p ns ms e h)
       (ap₂ ending (h .outlined) kept)
@@ -165,26 +224,21 @@ module _ (s : Text) (e : isSheet s ≡ true) (row : Cluster) (p : Places) (ns ms
 
   pub delivered : {text out out′ : Text} {r : ℕ} → text ≡ ending (outlineOf row) (take (row .issued) (listed p))
       → Delivered (lines s ns ms (length s / 8) ++ text) out out′ r → (r ≡ result s out) × (out′ ≡ left s out)
-  unfolding result left
   delivered {text} {out} {out′} {r} t d =
       let l : lines s ns ms (length s / 8) ++ text ≡ listing s =
-      ap (λ x. lines s ns ms (length s / 8) ++ x) t ∙ whole in (
-        d .answer ∙ ap (λ x. cond (leb (length x) (length out)) (length x) 3) l
-            ∙ ap (λ t. cond t (cond (leb (length (listing s)) (length out)) (length (listing s)) 3) 2) (sym e),
-        d .left ∙ ap (λ x. cond (leb (length x) (length out)) (over out 0 x) out) l
-            ∙ ap (λ t. cond (t && leb (length (listing s)) (length out)) (over out 0 (listing s)) out) (sym e),
-      )
+      ap (λ x. lines s ns ms (length s / 8) ++ x) t ∙ whole ∙ sym (listing-is s some) in
+      as-listing s (has-records s some ∙ e) (subst (λ x. Delivered x out out′ r) l d)
 
 -- A result that is no refusal is a length within the slice,
 result-within : (s out : Text) → 3 < result s out → result s out ≤ length out
 unfolding result
 result-within s out h =
-    within (isSheet s) (leb (length (listing s)) (length out)) (length (listing s)) (length out) refl h
+    within (hasListing s) (leb (length (listing s)) (length out)) (length (listing s)) (length out) refl h
 
 -- and the slice is as long as it was.
 left-length : (s out : Text) → length (left s out) ≡ length out
 unfolding left
-left-length s out = kept-length (isSheet s && leb (length (listing s)) (length out)) out (listing s)
+left-length s out = kept-length (hasListing s && leb (length (listing s)) (length out)) out (listing s)
 
 -- So a caller can read the listing back.
 pub readable : (s out : Text) {r : ℕ} {out′ : Text} → (r ≡ result s out) × (out′ ≡ left s out) → 4 ≤ r → r ≤ length out′

@@ -1,11 +1,11 @@
 -- Sheets and listings of the papers, byte for byte, through the model's run; the records stand in the crate records,
--- single lines in lines, the parts of a listing in listing. Cited by the promises of `run_sheet` and `sample`.
--- Assumes nothing.
-use mathlib.Core.Bool.{true, cond, _&&_}
+-- single lines in lines, the parts of a listing in listing and ending. Cited by the promises of `run_sheet`,
+-- `put_unopened` and `sample`. Assumes nothing.
+use mathlib.Core.Bool.{Bool, true, false, cond, _&&_, _||_}
 use mathlib.Core.List.{List, [], _∷_, _++_}
 use mathlib.Core.Path.{_≡_}
 use Prim.Native.Nat.{ℕ, _+_, _-_, _*_, _/_, _≤_}
-use lib.Dec.{leb}
+use lib.Dec.{eqb, leb}
 use lib.ListN.{length, getD, drop}
 use Rattle.model.specs.Members.{none}
 use Rattle.model.specs.State.{entries, outline, Opening, opened}
@@ -13,8 +13,8 @@ use Rattle.model.specs.Records.{openingOf, Record, bare, of, ofBoth, ofValue}
 use Rattle.model.specs.Runs.{stepsOf, answers, setsBehind}
 use Rattle.model.specs.Claim.{after, receipts}
 use Rattle.text.specs.Text.{Text, over}
-use Rattle.records.specs.Bytes.{recordAt, records, sheetBytes, isSheet}
-use Rattle.lines.specs.Lines.{word, answerLine}
+use Rattle.records.specs.Bytes.{recordAt, records, sheetBytes, wholeRecords, isSheet}
+use Rattle.lines.specs.Lines.{word, newline, answerLine}
 use Rattle.listing.specs.Listing.{answerLines}
 use Rattle.ending.specs.Ending.{ending}
 use Rattle.running.specs.Sample.{sampleSheet, slice}
@@ -29,23 +29,36 @@ listingOf o rs = answerLine 1 0 0 none
     ++ (answerLines 2 rs (answers entries (opened o) (stepsOf rs)) (setsBehind entries (opened o) (stepsOf rs))
     ++ ending (outline (after entries o (stepsOf rs))) (receipts entries o (stepsOf rs)))
 
--- The listing of a sheet that refusal 2 lets through.
+-- A sheet with no records (document 02, Paper 9).
+abbrev pub isEmpty : Text → Bool
+isEmpty s = eqb (length s) 0
+
+-- "The empty sheet now gives a listing of one line, `unopened`."
+abbrev pub unopened : Text
+unopened = word "unopened" ++ newline
+
+-- The listing of a sheet that refusal 2 lets through, and of the empty one.
 unfoldable pub listing : Text → Text
 unfolding records listingOf
-listing s = listingOf (openingOf (recordAt s)) (records (length s / 8 - 1) (drop 8 s))
+listing s = cond (isEmpty s) unopened (listingOf (openingOf (recordAt s)) (records (length s / 8 - 1) (drop 8 s)))
 
 -- The call, with the sheet s and a slice whose bytes are `out`
+
+-- Refusal 2 of a listing: the empty sheet has one, and "All other wrong lengths are still 2." (`isSheet` is refusal 2 of
+-- all other calls over a sheet, for which the empty one is of a wrong length.)
+abbrev pub hasListing : Text → Bool
+hasListing s = isEmpty s || isSheet s
 
 -- "... one number, the listing's length, or 2 or 3 if refused"; "for a sheet 2, then 3."
 unfoldable pub result : Text → Text → ℕ
 unfolding listing
-result s out = cond (isSheet s) (cond (leb (length (listing s)) (length out)) (length (listing s)) 3) 2
+result s out = cond (hasListing s) (cond (leb (length (listing s)) (length out)) (length (listing s)) 3) 2
 
 -- What the slice holds then: "Refusals 2 and 3 leave the listing slice untouched; bytes past the end of a listing ...
 -- keep their values."
 unfoldable pub left : Text → Text → Text
 unfolding listing over
-left s out = cond (isSheet s && leb (length (listing s)) (length out)) (over out 0 (listing s)) out
+left s out = cond (hasListing s && leb (length (listing s)) (length out)) (over out 0 (listing s)) out
 
 -- Trials
 
@@ -105,16 +118,24 @@ openingBytes b = 0 ∷ b ∷ 0 ∷ 0 ∷ 0 ∷ 0 ∷ 0 ∷ 0 ∷ []
 abbrev pub Refused : Text → Text → Type 0
 Refused s out = (result s out ≡ 2) × (left s out ≡ out)
 
--- P2: the opening with board 0 or 9, "a sheet that begins so: 2", whatever follows and whatever the slice holds. No
--- byte at all, and half a record: 2 as well.
+-- P2: the opening with board 0 or 9, "a sheet that begins so: 2", whatever follows and whatever the slice holds.
 unfoldable pub RefusedHolds : Type 0
-RefusedHolds = (rest out : Text)
-    → Refused (openingBytes 0 ++ rest) out × Refused (openingBytes 9 ++ rest) out
-    × Refused [] out × Refused (0 ∷ 1 ∷ 0 ∷ 0 ∷ []) out
+RefusedHolds = (rest out : Text) → Refused (openingBytes 0 ++ rest) out × Refused (openingBytes 9 ++ rest) out
 
--- No listing is so short that its length could be taken for a refusal. That of n records, of a sheet of bytes that
--- refusal 2 lets through, has at most 19 n + 8,650 bytes.
+-- Document 02, Paper 9: the empty sheet's listing, byte for byte, in a slice one byte short, of its length, and longer;
+-- and "All other wrong lengths are still 2", whatever the bytes are and whatever the slice holds.
+unfoldable pub UnopenedHolds : Type 0
+unfolding listing
+UnopenedHolds =
+    (listing [] ≡ 117 ∷ 110 ∷ 111 ∷ 112 ∷ 101 ∷ 110 ∷ 101 ∷ 100 ∷ 10 ∷ [])
+    × (result [] (slice 8) ≡ 3) × (left [] (slice 8) ≡ slice 8)
+    × (result [] (slice 9) ≡ 9) × (left [] (slice 9) ≡ unopened)
+    × (result [] (slice 11) ≡ 9) × (left [] (slice 11) ≡ unopened ++ slice 2)
+    × ((s out : Text) → isEmpty s ≡ false → wholeRecords (length s) ≡ false → Refused s out)
+
+-- No listing is so short that its length could be taken for a refusal, and one of 9 bytes is the empty sheet's. That of
+-- n records, none included, of a sheet of bytes that has a listing, has at most 19 n + 8,650 bytes.
 unfoldable pub LengthsTell : Type 0
 unfolding listing
-LengthsTell = (s : Text) → (4 ≤ length (listing s))
-    × (((i : ℕ) → getD s i 0 ≤ 255) → isSheet s ≡ true → length (listing s) ≤ 19 * (length s / 8) + 8650)
+LengthsTell = (s : Text) → (4 ≤ length (listing s)) × (length (listing s) ≡ 9 → s ≡ [])
+    × (((i : ℕ) → getD s i 0 ≤ 255) → hasListing s ≡ true → length (listing s) ≤ 19 * (length s / 8) + 8650)

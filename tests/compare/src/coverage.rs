@@ -363,6 +363,29 @@ const LINES: [(&str, fn(&Line) -> bool); 5] = [
     ),
 ];
 
+/// Calls for a listing that should be made, each a sheet and the length of a slice: the
+/// empty sheet and the wrong lengths that are still refused (document 02, Paper 9).
+const CALLS: [(&str, fn(&[u8], usize) -> bool); 6] = [
+    ("empty sheet in a slice of 9 bytes", |sheet, slice| {
+        sheet.is_empty() && slice == 9
+    }),
+    ("empty sheet in a longer slice", |sheet, slice| {
+        sheet.is_empty() && slice > 9
+    }),
+    ("empty sheet in a slice of 8 bytes", |sheet, slice| {
+        sheet.is_empty() && slice == 8
+    }),
+    ("empty sheet in an empty slice", |sheet, slice| {
+        sheet.is_empty() && slice == 0
+    }),
+    ("sheet of 1 to 7 bytes in a long slice", |sheet, slice| {
+        matches!(sheet.len(), 1..=7) && slice > 9
+    }),
+    ("sheet of more bytes, no whole records", |sheet, slice| {
+        sheet.len() > 8 && sheet.len() % 8 != 0 && slice > 9
+    }),
+];
+
 /// How often each answer of each step.
 type Pairs = [[u64; ANSWERS]; STEPS];
 
@@ -375,13 +398,25 @@ pub struct Coverage {
     never: [u64; NEVER.len()],
     tallied: [u64; TALLIED.len()],
     lines: [u64; LINES.len()],
+    calls: [u64; CALLS.len()],
 }
 
 impl Coverage {
-    /// Plays a sheet that has a valid opening, and notes what it meets.
+    /// Notes the calls for the listing of a sheet in slices of these lengths.
+    pub fn call(&mut self, sheet: &[u8], slices: &[usize]) {
+        for (number, (_, is_such)) in self.calls.iter_mut().zip(CALLS) {
+            let such = slices.iter().filter(|&&slice| is_such(sheet, slice));
+            *number += such.count() as u64;
+        }
+    }
+
+    /// Plays a sheet, if it has a valid opening, and notes what it meets.
     pub fn play(&mut self, sheet: &[u8]) {
         let records = sheet.as_chunks::<8>().0;
-        let (Ok(mut row), Ok(behind)) = (Row::open(records[0][1]), behind(sheet)) else {
+        let Ok(behind) = behind(sheet) else {
+            return;
+        };
+        let Ok(mut row) = Row::open(records[0][1]) else {
             return;
         };
         // It takes each record once that was looked at: a copy for each would take longer.
@@ -440,7 +475,8 @@ impl Coverage {
         let events = EVENTS.map(|(name, _)| name).into_iter().zip(self.events);
         let tallied = TALLIED.map(|(name, _)| name).into_iter().zip(self.tallied);
         let lines = LINES.map(|(name, _)| name).into_iter().zip(self.lines);
-        events.chain(tallied).chain(lines)
+        let calls = CALLS.map(|(name, _)| name).into_iter().zip(self.calls);
+        events.chain(tallied).chain(lines).chain(calls)
     }
 
     /// What can be met and was not, and what cannot and was.

@@ -50,7 +50,8 @@ pub enum Kind {
     Logs,
     /// Guided, with epochs near 4,000.
     Epochs,
-    /// A sheet to be refused with 2.
+    /// A sheet of a wrong length or without a valid opening: to be refused with 2, but for
+    /// the listing of the empty one (document 02, Paper 9).
     Broken,
     /// The sheet of a seed (document 02, Paper 2): as it is drawn, all well formed.
     Seeded { seed: u32, count: usize },
@@ -278,11 +279,12 @@ fn uniform(rng: &mut Rng, records: usize) -> Vec<u8> {
 fn broken(rng: &mut Rng, records: usize) -> Vec<u8> {
     let mut sheet = uniform(rng, records);
     let some = 1 + rng.below(255) as u8;
-    match rng.below(5) {
-        0 => sheet.truncate(sheet.len() - 1 - rng.below(7)),
-        1 => sheet.resize(sheet.len() + 1 + rng.below(7), some),
-        2 => sheet[1] = rng.one_of(&[0, 9, some | 8 | 1]),
-        3 => sheet[0] = some,
+    match rng.below(6) {
+        0 => sheet.clear(),
+        1 => sheet.truncate(sheet.len() - 1 - rng.below(7)),
+        2 => sheet.resize(sheet.len() + 1 + rng.below(7), some),
+        3 => sheet[1] = rng.one_of(&[0, 9, some | 8 | 1]),
+        4 => sheet[0] = some,
         _ => sheet[2 + rng.below(6)] = some,
     }
     sheet

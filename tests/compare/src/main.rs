@@ -236,9 +236,7 @@ impl Comparison {
         let compared = self.agree(kind, &sheet, print);
         keep(compared, self.sheets, kind, &sheet)?;
         self.sheets += 1;
-        if peer::list(&sheet).is_ok() {
-            self.coverage.play(&sheet);
-        }
+        self.coverage.play(&sheet);
         Ok(())
     }
 
@@ -254,7 +252,7 @@ impl Comparison {
                 seeds::print(&self.seedsheet, &seeds::edited(line, &mut self.rng))?;
             }
         }
-        sheets::call(sheet, &mut self.rng)?;
+        sheets::call(sheet, &mut self.coverage, &mut self.rng)?;
         self.told
             .explain(sheet, &mut self.coverage, &mut self.rng)?;
         if print {

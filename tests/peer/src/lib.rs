@@ -1,4 +1,4 @@
-//! A second program for document 01 and Papers 1 to 8 of document 02: it turns a
+//! A second program for document 01 and Papers 1 to 9 of document 02: it turns a
 //! sheet into its listing, its lines in words or the image of its row, or into the
 //! number of the refusal, an image into its row again, and a seed and a count of
 //! records into a bench sheet.
@@ -26,6 +26,11 @@ pub const RECORDS_MAX: usize = 4095;
 /// listing's length, or 2 or 3, which leave the slice untouched; bytes past the
 /// listing keep their values. It works in place, without the heap.
 pub fn run(sheet: &[u8], slice: &mut [u8]) -> usize {
+    // A sheet with no records has a listing, and is a sheet for no other call: document 02,
+    // Paper 9.
+    if sheet.is_empty() {
+        return unopened(slice);
+    }
     let Some((records, mut row)) = opened(sheet) else {
         return 2;
     };
@@ -39,8 +44,19 @@ pub fn run(sheet: &[u8], slice: &mut [u8]) -> usize {
     length
 }
 
+/// The listing of the empty sheet, as `run` hands it out: document 02, Paper 9.
+fn unopened(slice: &mut [u8]) -> usize {
+    // [3] a listing slice shorter than the listing
+    let length = listing::UNOPENED.len();
+    if slice.len() < length {
+        return 3;
+    }
+    slice[..length].copy_from_slice(listing::UNOPENED);
+    length
+}
+
 /// The records of a sheet, and the row that the first of them opens; none where the
-/// sheet is refused [2].
+/// sheet is refused [2]. The empty sheet is: it opens no row.
 fn opened(sheet: &[u8]) -> Option<(&[[u8; 8]], Row)> {
     let (records, rest) = sheet.as_chunks::<8>();
     // [2] a sheet of wrong length

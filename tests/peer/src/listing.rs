@@ -12,6 +12,9 @@ pub const RECORD_LINE_MAX: usize = 4 + 1 + 2 + 1 + 1 + 1 + 8 + 1;
 /// most 46, and the receipts' of at most 13 + 512 * 16.
 pub const LENGTH_MAX: usize = 4095 * RECORD_LINE_MAX + 2 * 39 + 8 * 46 + 13 + 512 * 16;
 
+/// The listing of a sheet with no records, which has no row to list: document 02, Paper 9.
+pub const UNOPENED: &[u8] = b"unopened\n";
+
 /// The length of a listing in bytes.
 pub fn length(records: &[[u8; 8]], outcomes: &[Outcome], row: &Row) -> usize {
     let mut count = Count(0);

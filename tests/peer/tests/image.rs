@@ -90,8 +90,9 @@ receipts 1 41@1
 }
 
 #[test]
-fn a_sheet_is_refused_2_as_for_a_listing() {
+fn a_sheet_is_refused_2() {
     let sheets = [
+        // The listing alone takes it: document 02, Paper 9.
         vec![],
         vec![0; 7],
         on(0, 0).to_vec(),

@@ -370,7 +370,8 @@ fn a_sheet_goes_on_after_a_refusal() {
 #[test]
 fn refusal_2() {
     let sheet_of = |records: usize| [open(1).to_vec(), vec![0; 8 * records - 8]].concat();
-    assert_eq!(list(&[]), Err(2));
+    // Document 02, Paper 9: not for the empty sheet.
+    assert_eq!(list(&[]).as_deref(), Ok("unopened\n"));
     assert!(list(&sheet_of(4095)).is_ok());
     assert_eq!(list(&sheet_of(4096)), Err(2));
     for length in (1..24).filter(|length| length % 8 != 0) {

@@ -520,7 +520,7 @@ fn an_answer_with_a_high_bit_is_refused_1() {
     }
 }
 
-/// The length of a listing, a text or a line is not on the list.
+/// The length of a row's listing, a text or a line is not on the list.
 #[test]
 fn a_length_is_no_answer() {
     let mut slice = vec![170; TEXT_MAX];
@@ -537,9 +537,13 @@ fn a_length_is_no_answer() {
         is_refused_1(length);
     }
     // A refusal of those calls is.
-    let refusal = run(&[], &mut slice);
+    let refusal = run(&on(0, 9), &mut slice);
     let words = "install board 4: refused, the sheet has a wrong length or no valid opening";
     assert_eq!(line(on(15, 4), refusal), words);
+    // So is 9, the length of the empty sheet's listing: document 02, Paper 9.
+    let length = run(&[], &mut slice);
+    let words = "board 4 joins: refused, it follows no other board";
+    assert_eq!(line(on(7, 4), length), words);
 }
 
 #[test]
@@ -943,8 +947,9 @@ fn a_sheet_is_refused_2() {
         // 2 comes before 3.
         assert_eq!(explain(&sheet, &mut []), 2);
         assert_eq!(explained(&sheet), Err(2));
-        // As the listing.
-        assert_eq!(run(&sheet, &mut slice), 2);
+        // As the listing, which has a line for the empty sheet: document 02, Paper 9.
+        let listed = if sheet.is_empty() { 9 } else { 2 };
+        assert_eq!(run(&sheet, &mut slice), listed);
     }
 }
 

@@ -1,4 +1,5 @@
--- `sheet::run_sheet` meets its contract: the sheet is run, and what is delivered is its listing. Assumes nothing.
+-- `sheet::run_sheet` meets its contract: the empty sheet has its line, any other one is run, and what is delivered is
+-- its listing. Assumes nothing.
 use mathlib.Core.Bool.{true}
 use mathlib.Core.Path.{_≡_, refl, sym, _∙_}
 use Prim.Native.Nat.{_-_, _/_}
@@ -11,35 +12,49 @@ use Rattle.records.specs.Bytes.{isSheet}
 use Rattle.text.specs.Text.{Text}
 use Rattle.text.proofs.Laws.{wrote-length, read-back}
 use Rattle.running.proofs.Playing.{sheet-most, ran-fits, ran-terms, ran-issued, ran-most}
-use Rattle.sheet.proofs.Listings.{no-sheet, delivered}
+use Rattle.sheet.proofs.Listings.{no-sheet, delivered-unopened, delivered}
 use borrow.Author.Needs.{needs}
 use Rattle.sheet.proofs.run_sheet.Statement.{statement}
 use Rattle.sheet.proofs.run_sheet.Tie as tie
 
 -- The ways back, and the sheet.
-abbrev start : tie.After-is-sheet → tie.Start
-start c = c .before .before .before
+abbrev start : tie.After-slice-known → tie.Start
+start c = c .before .before
 
-abbrev ready : tie.After-play → tie.Else1
+abbrev ready : tie.After-play → tie.Else2
 ready c = c .before .before .before .before .before .before .before
 
 abbrev played : tie.After-put-ending → tie.After-play
 played c = c .before .before .before .before .before .before .before .before .before .before
 
-abbrev bytes : tie.Else1 → Text
-bytes c = now (start (c .before) .args .sheet)
+abbrev bytes : tie.Else2 → Text
+bytes c = now (start (c .before .before .before) .args .sheet)
 
 -- Refusal 2 let the sheet through.
-passed : (c : tie.Else1) → isSheet (bytes c) ≡ true
-passed c = sym (c .before .is-sheet .ensures) ∙ not-false _ (c .if1 .left)
+passed : (c : tie.Else2) → isSheet (bytes c) ≡ true
+passed c = sym (c .before .is-sheet .ensures) ∙ not-false _ (c .if2 .left)
+
+put-unopened-requires : tie.Need-put-unopened-requires
+put-unopened-requires c κs = search needs
+
+same-length : tie.Need-same-length
+same-length c = search needs
+
+returns : tie.Need-returns
+returns c =
+    let p = c .before .before in
+    let t = p .before .before in
+    delivered-unopened (now (start (t .before) .args .sheet)) (omega (arith, t .if1 .taken)) (p .put-unopened .ensures)
 
 is-sheet-requires : tie.Need-is-sheet-requires
 is-sheet-requires c κs = search needs
 
-returns : tie.Need-returns
-returns c =
-    let a = start (c .before) .args in
-    no-sheet (now (a .sheet)) (now (a .listing)) (sym (c .before .is-sheet .ensures) ∙ not-true _ (c .if1 .taken))
+returns-2 : tie.Need-returns-2
+returns-2 c =
+    let d = c .before .before in
+    let a = start (d .before) .args in
+    no-sheet (now (a .sheet)) (now (a .listing)) (omega (arith, d .if1 .left))
+    (sym (c .before .is-sheet .ensures) ∙ not-true _ (c .if2 .taken))
 
 slice-aggregate-play : tie.Need-slice-aggregate-play
 slice-aggregate-play c = search needs
@@ -119,11 +134,11 @@ deliver-requires c κs =
       λ i q. omega (arith, ran-most s (passed d) (length s / 8 - 1) _ _ _ _ h i (omega (arith, q))),
     )
 
-same-length : tie.Need-same-length
-same-length c = search needs
+same-length-2 : tie.Need-same-length-2
+same-length-2 c = search needs
 
-returns-2 : tie.Need-returns-2
-returns-2 c =
+returns-3 : tie.Need-returns-3
+returns-3 c =
     let x = c .before .before in
     let w = x .before .before .before .before .before .before in
     let p = played w in
@@ -135,8 +150,11 @@ pub run-sheet-spec : {M : Type 1} → statement M
 run-sheet-spec =
     tie.close
     (tie.spec
-    is-sheet-requires
+    put-unopened-requires
+    same-length
     returns
+    is-sheet-requires
+    returns-2
     slice-aggregate-play
     slice-aggregate-play-2
     slice-aggregate-play-3
@@ -153,5 +171,5 @@ run-sheet-spec =
     array-share-prefix-end
     slice-aggregate-deliver-3
     deliver-requires
-    same-length
-    returns-2)
+    same-length-2
+    returns-3)

@@ -1,0 +1,24 @@
+-- `sheet::put_unopened` meets its contract. Assumes nothing.
+use native.Mathlib.Omega.{arith}
+use borrow.Author.Needs.{needs}
+use Rattle.text.proofs.Laws.{too-long, fitting}
+use Rattle.sheet.proofs.put_unopened.Statement.{statement}
+use Rattle.sheet.proofs.put_unopened.Tie as tie
+
+returns : tie.Need-returns
+returns c = too-long (omega arith)
+
+slice-aggregate-put-bytes : tie.Need-slice-aggregate-put-bytes
+slice-aggregate-put-bytes c = search needs
+
+put-bytes-requires : tie.Need-put-bytes-requires
+put-bytes-requires c κs = omega arith
+
+same-length : tie.Need-same-length
+same-length c = search needs
+
+returns-2 : tie.Need-returns-2
+returns-2 c = fitting (omega arith) (c .before .before .put-bytes .ensures)
+
+pub put-unopened-spec : {M : Type 1} → statement M
+put-unopened-spec = tie.close (tie.spec returns slice-aggregate-put-bytes put-bytes-requires same-length returns-2)
