@@ -1,7 +1,7 @@
 /*
- * A host to start from: prints the listing of a day without a sheet, builds the
- * sample sheet in memory, runs it, and prints its listing; then says why a record
- * is refused.
+ * A host to start from: prints the listing of the empty sheet, builds the sample
+ * sheet in memory, runs it, and prints its listing; then says why a record is
+ * refused.
  *
  *   gcc -std=c99 -Iinclude examples/host.c target/staticlib/librow.a -o host
  */
@@ -47,7 +47,10 @@ static int run(const uint8_t *sheet, size_t sheet_len,
     }
 }
 
-/* The answer of record n, counted from 0, in a listing: the third number of line n. */
+/*
+ * The answer of record n, counted from 0, in the listing of a sheet that has it: the
+ * third number of line n.
+ */
 static enum row_answer answer(const uint8_t *listing, size_t n)
 {
     int before = 2, number = 0;

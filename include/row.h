@@ -112,7 +112,10 @@ enum row_answer {
 #define ROW_BAD_SHEET 2     /* wrong length, or no valid opening */
 #define ROW_SHORT_LISTING 3 /* the listing slice is shorter than the listing */
 
-/* The length of the empty sheet's listing, and of no other: every other one is longer. */
+/*
+ * The length of the empty sheet's listing, and of no other: every other one is longer.
+ * It is a length and no refusal, though row_answer has a 9.
+ */
 #define ROW_UNOPENED_LEN 9
 
 /*
@@ -128,7 +131,7 @@ enum row_answer {
  *   receipts N VALUE@EPOCH ...   how many, then the value and the epoch of each,
  *                                as in 41@1
  *
- * That of a sheet with no records, of length 0, is one line and nothing else:
+ * The listing of the empty sheet, which has no records, is one line and nothing else:
  *
  *   unopened
  *
@@ -152,8 +155,7 @@ enum row_answer {
  * is a beginning of the log of the registry's LEADER, if that is not 0; the log
  * of one that is late may hold other entries.
  *
- * ROW_LISTING_LEN(n) bytes suffice for the listing of any sheet of n records, and
- * ROW_UNOPENED_LEN for that of none:
+ * ROW_LISTING_LEN(n) bytes suffice for the listing of any sheet of n records:
  *
  *     19 n  n record lines of at most 4 + 2 + 1 + 8 digits, 3 spaces and byte 10
  *           (one without BEHIND has at most 4 + 3 + 2, 2 spaces and byte 10)
@@ -164,7 +166,7 @@ enum row_answer {
  *
  * That is 19 n + 8650, and 86,455 for the longest sheet: an int of 32 bits
  * holds it for every n up to ROW_RECORDS_MAX. There is no cast, so that it
- * stands in #if too.
+ * stands in #if too. The empty sheet's listing has ROW_UNOPENED_LEN.
  */
 #define ROW_LISTING_LEN(n) (19 * (n) + 8650)
 
@@ -177,8 +179,10 @@ enum row_answer {
  *   listing_len  the length of that slice in bytes
  *
  * Returns the listing's length in bytes, or ROW_BAD_SHEET, or, for a sheet that
- * is not refused so, ROW_SHORT_LISTING. A sheet_len of 0 is not refused: its listing
- * has ROW_UNOPENED_LEN bytes. explain_sheet and save_sheet refuse it, ROW_BAD_SHEET.
+ * is not refused so, ROW_SHORT_LISTING.
+ *
+ * A sheet_len of 0 is the empty sheet, which is no ROW_BAD_SHEET here: its listing has
+ * ROW_UNOPENED_LEN bytes. (explain_sheet and save_sheet refuse it with ROW_BAD_SHEET.)
  *
  * Both refusals leave the listing slice untouched. Bytes of it past the end of
  * a listing keep their values.

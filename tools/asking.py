@@ -31,7 +31,7 @@ def say(*lines):
 
 
 class Session:
-    """The steps so far, and the listing that the proved program gives of them."""
+    """The steps so far, and the listing that the proved program gives of them, if there are any."""
 
     def __init__(self, run, steps, now):
         """`run` gives the listing of steps, or None and why they are refused; `now` is that of the first ones."""

@@ -28,7 +28,8 @@ what stands after a #, are left out.
 
 Raw is for records that have no words: a field outside its values, an unused
 byte that is not 0. The last line of a sheet of wrong length is raw with fewer
-than eight bytes. What each step asks and does: docs/FORMATS.md.
+than eight bytes. A text without a step is the empty sheet. What each step asks and
+does: docs/FORMATS.md.
 
 Exit status: 0; 1 the words are no sheet; 2 bad usage; 3 reading or writing failed.
 """

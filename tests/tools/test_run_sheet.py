@@ -245,6 +245,7 @@ class Refused(InFolder):
         self.refused(RECORDS[:-1], "31 bytes are no whole records of 8 bytes")
         self.refused(b"open 1\nraw 1 2 3\n", "11 bytes are no whole records of 8 bytes")
         self.refused(bytes(7), "7 bytes are no whole records of 8 bytes")
+        self.refused(b"raw 1\n", "1 bytes are no whole records of 8 bytes")
         self.refused(RECORDS[8:], "no opening first: record 1 is 'append 1 41'")
         self.refused(b"# late\nappend 1 41\nopen 1\n", "no opening first: line 2 is 'append 1 41'")
         self.refused(bytes([0, 9, 0, 0, 0, 0, 0, 0]), "no opening first: record 1 is 'raw 0 9 0 0 0 0 0 0'")
@@ -284,9 +285,10 @@ class Unopened(InFolder):
     def test_no_row_to_save(self):
         image = self.folder / "row.image"
         for words, shown in [([], b"unopened\n"), (["--words"], b"unopened: no step so far\n")]:
-            done = run(*words, "--save", image, "-")
-            self.assertEqual((done.stdout, done.returncode), (shown, REFUSED))
-            self.assertEqual(done.stderr, f"{self.WHY}: there is no row to save\n")
+            for data in self.EMPTY:
+                done = run(*words, "--save", image, "-", given=data)
+                self.assertEqual((done.stdout, done.returncode), (shown, REFUSED))
+                self.assertEqual(done.stderr, f"{self.WHY}: there is no row to save\n")
         done = run("--explain", "--save", image, "-")
         self.assertEqual((done.stdout, done.returncode, done.stderr), (b"refused 2\n", REFUSED, f"{self.WHY}\n"))
         self.assertFalse(image.exists())
@@ -311,6 +313,11 @@ class Unopened(InFolder):
         opened = self.script("opened", f"cat {self.file('listing', LISTING)}")
         done = run("--words", "-", program=opened)
         self.assertEqual((done.stdout, done.returncode), (b"", FAILED))
+        # Nor has a sheet that is listed no row, but for the empty one.
+        refuses = self.script("refuses", "echo refused 2")
+        done = run("--save", self.folder / "row.image", saver=refuses)
+        self.assertEqual((done.stdout, done.returncode), (LISTING, FAILED))
+        self.assertEqual(done.stderr, f"run-sheet: {refuses} refuses a sheet that has a row\n")
 
 
 class Seeded(InFolder):

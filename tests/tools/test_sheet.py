@@ -117,7 +117,9 @@ class SheetTest(unittest.TestCase):
     def test_comments_and_blank_lines(self):
         text = "# a story\n\n  open 1 # first\r\n\tappend  1  41\n#\nadd 2"
         self.assertEqual(sheet.decode(sheet.encode(text)), "open 1\nappend 1 41\nadd 2\n")
-        self.assertEqual(sheet.encode(""), b"")
+        for empty in ["", "\n", "# a story\n\n\t# no step yet\r\n"]:
+            self.assertEqual(sheet.encode(empty), b"")
+        self.assertEqual(sheet.decode(b""), "")
 
     def test_random_sheets_round_trip(self):
         rng = random.Random(1)

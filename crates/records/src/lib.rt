@@ -103,7 +103,7 @@ fn whole(n: usize) -> bool
     (n % 8 == 0) & (1 <= n / 8) & (n / 8 <= 4095)
 }
 
-// Whether refusal 2 lets a sheet through.
+// Whether document 01's refusal 2 lets a sheet through.
 pub fn is_sheet(sheet: &[u8]) -> bool
     ensures { λ x. ⌜ x ≡ isSheet (now (sheet .entry)) ⌝ }
 {

@@ -28,9 +28,10 @@ use Rattle.records.specs.Bytes.{recordAt, records, wholeRecords, isOpening, isS
 use Rattle.lines.specs.Lines.{answerLine}
 use Rattle.listing.specs.Listing.{answerLines, lines}
 use Rattle.ending.specs.Ending.{ending}
+use Rattle.unopened.specs.Unopened.{unopened}
 use Rattle.listing.proofs.AnswerLines.{line-most, each-most, records-small}
 use Rattle.ending.proofs.Endings.{ending-least, ending-most}
-use Rattle.sheet.specs.Sheet.{listingOf, isEmpty, unopened, listing, hasListing, result, left, openingBytes, Refused, RefusedHolds, LengthsTell}
+use Rattle.sheet.specs.Sheet.{listingOf, isEmpty, listing, hasListing, result, left, openingBytes, Refused, RefusedHolds, LengthsTell}
 use Rattle.running.specs.Running.{following, stateAt, Ran}
 use Rattle.records.proofs.Decoding.{room, records-length}
 use Rattle.running.proofs.Results.{within, kept-length}
@@ -80,15 +81,14 @@ module _ (s : Text) (some : 1 ≤ length s) where
   has-records : hasListing s ≡ isSheet s
   has-records = rw not-empty
 
-long-enough : (s : Text) → 4 ≤ length (listing s)
+long-enough : (s : Text) → 9 ≤ length (listing s)
 unfolding listing
 long-enough [] = omega arith
 long-enough (b ∷ s) = omega (arith, records-long (b ∷ s) (omega arith))
 
--- 9 bytes are no listing of records.
-nine-is-empty : (s : Text) → length (listing s) ≡ 9 → s ≡ []
-nine-is-empty [] e = refl
-nine-is-empty (b ∷ s) e = absurd (omega (arith, records-long (b ∷ s) (omega arith), e))
+longer : (s : Text) → isEmpty s ≡ false → 10 ≤ length (listing s)
+longer [] e = absurd (true≢false e)
+longer (b ∷ s) e = omega (arith, records-long (b ∷ s) (omega arith))
 
 -- 19 bytes for each record's line, and those of the longest ending.
 module _ (s : Text) (bytes : (i : ℕ) → getD s i 0 < 256) (e : isSheet s ≡ true) where
@@ -150,7 +150,7 @@ all-short (b ∷ s) bytes e =
 
 pub lengths-tell : LengthsTell
 unfolding LengthsTell
-lengths-tell s = (long-enough s, nine-is-empty s, λ h e. all-short s (λ i. omega (arith, h i)) e)
+lengths-tell s = (long-enough s, longer s, λ h e. all-short s (λ i. omega (arith, h i)) e)
 
 -- Refusal 2.
 pub no-sheet : (s out : Text) → 1 ≤ length s → isSheet s ≡ false → (2 ≡ result s out) × (out ≡ left s out)

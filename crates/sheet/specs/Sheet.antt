@@ -1,6 +1,6 @@
 -- Sheets and listings of the papers, byte for byte, through the model's run; the records stand in the crate records,
--- single lines in lines, the parts of a listing in listing and ending. Cited by the promises of `run_sheet`,
--- `put_unopened` and `sample`. Assumes nothing.
+-- single lines in lines, the parts of a listing in listing, ending and unopened. Cited by the promises of `run_sheet`
+-- and `sample`. Assumes nothing.
 use mathlib.Core.Bool.{Bool, true, false, cond, _&&_, _||_}
 use mathlib.Core.List.{List, [], _∷_, _++_}
 use mathlib.Core.Path.{_≡_}
@@ -12,11 +12,12 @@ use Rattle.model.specs.State.{entries, outline, Opening, opened}
 use Rattle.model.specs.Records.{openingOf, Record, bare, of, ofBoth, ofValue}
 use Rattle.model.specs.Runs.{stepsOf, answers, setsBehind}
 use Rattle.model.specs.Claim.{after, receipts}
-use Rattle.text.specs.Text.{Text, over}
+use Rattle.text.specs.Text.{Text, over, Delivered}
 use Rattle.records.specs.Bytes.{recordAt, records, sheetBytes, wholeRecords, isSheet}
-use Rattle.lines.specs.Lines.{word, newline, answerLine}
+use Rattle.lines.specs.Lines.{word, answerLine}
 use Rattle.listing.specs.Listing.{answerLines}
 use Rattle.ending.specs.Ending.{ending}
+use Rattle.unopened.specs.Unopened.{unopened}
 use Rattle.running.specs.Sample.{sampleSheet, slice}
 
 -- The listing
@@ -29,23 +30,19 @@ listingOf o rs = answerLine 1 0 0 none
     ++ (answerLines 2 rs (answers entries (opened o) (stepsOf rs)) (setsBehind entries (opened o) (stepsOf rs))
     ++ ending (outline (after entries o (stepsOf rs))) (receipts entries o (stepsOf rs)))
 
--- A sheet with no records (document 02, Paper 9).
+-- The empty sheet of document 02, Paper 9: no byte.
 abbrev pub isEmpty : Text → Bool
 isEmpty s = eqb (length s) 0
 
--- "The empty sheet now gives a listing of one line, `unopened`."
-abbrev pub unopened : Text
-unopened = word "unopened" ++ newline
-
--- The listing of a sheet that refusal 2 lets through, and of the empty one.
+-- The listing of a sheet that has one. "The empty sheet now gives a listing of one line, `unopened`."
 unfoldable pub listing : Text → Text
 unfolding records listingOf
 listing s = cond (isEmpty s) unopened (listingOf (openingOf (recordAt s)) (records (length s / 8 - 1) (drop 8 s)))
 
 -- The call, with the sheet s and a slice whose bytes are `out`
 
--- Refusal 2 of a listing: the empty sheet has one, and "All other wrong lengths are still 2." (`isSheet` is refusal 2 of
--- all other calls over a sheet, for which the empty one is of a wrong length.)
+-- A sheet that has a listing: the empty one, and those that document 01's refusal 2 lets through, so that "All other wrong
+-- lengths are still 2." The other calls over a sheet ask `isSheet` alone.
 abbrev pub hasListing : Text → Bool
 hasListing s = isEmpty s || isSheet s
 
@@ -122,20 +119,18 @@ Refused s out = (result s out ≡ 2) × (left s out ≡ out)
 unfoldable pub RefusedHolds : Type 0
 RefusedHolds = (rest out : Text) → Refused (openingBytes 0 ++ rest) out × Refused (openingBytes 9 ++ rest) out
 
--- Document 02, Paper 9: the empty sheet's listing, byte for byte, in a slice one byte short, of its length, and longer;
--- and "All other wrong lengths are still 2", whatever the bytes are and whatever the slice holds.
+-- Document 02, Paper 9: the empty sheet's listing, byte for byte, and what is delivered of it in every slice; and "All
+-- other wrong lengths are still 2", whatever the bytes are and whatever the slice holds.
 unfoldable pub UnopenedHolds : Type 0
 unfolding listing
 UnopenedHolds =
     (listing [] ≡ 117 ∷ 110 ∷ 111 ∷ 112 ∷ 101 ∷ 110 ∷ 101 ∷ 100 ∷ 10 ∷ [])
-    × (result [] (slice 8) ≡ 3) × (left [] (slice 8) ≡ slice 8)
-    × (result [] (slice 9) ≡ 9) × (left [] (slice 9) ≡ unopened)
-    × (result [] (slice 11) ≡ 9) × (left [] (slice 11) ≡ unopened ++ slice 2)
+    × ((out : Text) → Delivered (listing []) out (left [] out) (result [] out))
     × ((s out : Text) → isEmpty s ≡ false → wholeRecords (length s) ≡ false → Refused s out)
 
--- No listing is so short that its length could be taken for a refusal, and one of 9 bytes is the empty sheet's. That of
--- n records, none included, of a sheet of bytes that has a listing, has at most 19 n + 8,650 bytes.
+-- No listing is so short that its length could be taken for a refusal: the empty sheet's has 9 bytes, every other one
+-- more. That of n records, none included, of a sheet of bytes that has a listing, has at most 19 n + 8,650 bytes.
 unfoldable pub LengthsTell : Type 0
 unfolding listing
-LengthsTell = (s : Text) → (4 ≤ length (listing s)) × (length (listing s) ≡ 9 → s ≡ [])
+LengthsTell = (s : Text) → (9 ≤ length (listing s)) × (isEmpty s ≡ false → 10 ≤ length (listing s))
     × (((i : ℕ) → getD s i 0 ≤ 255) → hasListing s ≡ true → length (listing s) ≤ 19 * (length s / 8) + 8650)

@@ -2,25 +2,14 @@
 
 ghost use mathlib.Core.Path.{_≡_};
 ghost use Rattle.model.specs.Trials.{TrialsHold};
-ghost use Rattle.text.specs.Text.{Delivered};
-ghost use Rattle.sheet.specs.Sheet.{SampleHolds, SetsHold, RoomHolds, RefusedHolds, UnopenedHolds, LengthsTell, unopened, result, left};
+ghost use Rattle.sheet.specs.Sheet.{SampleHolds, SetsHold, RoomHolds, RefusedHolds, UnopenedHolds, LengthsTell, result, left};
 
 // The papers' sample sheet has the papers' listing, byte for byte, a sheet with large sets its own, and the empty one
-// its line; short slices, bad openings and all other wrong lengths are refused; a listing of n records has 4 to
-// 19 n + 8,650 bytes, and 9 just where there are none. By the definitions: nothing to run.
+// its line; short slices, bad openings and all other wrong lengths are refused; a listing of n records has at most
+// 19 n + 8,650 bytes, and at least 10, or 9 where there are none. By the definitions: nothing to run.
 pub fn sample()
     ensures { λ r. ⌜ SampleHolds × SetsHold × RoomHolds × RefusedHolds × UnopenedHolds × LengthsTell × TrialsHold ⌝ }
 {}
-
-// The listing of the empty sheet, if it fits; else refusal 3.
-fn put_unopened(out: &mut [u8]) -> usize
-    ensures { λ r. ⌜ Delivered unopened (now (out .entry)) (now (out .exit)) r ⌝ }
-{
-    if out.len() < 9 {
-        return 3;
-    }
-    text::put_bytes(&mut *out, 0, b"unopened\n")
-}
 
 // Sheet in, listing out. It returns the listing's length, 2 for a sheet of wrong length or without a valid opening, 3
 // for a slice that is shorter than the listing; the empty sheet has a listing, of one line. Nothing is written before
@@ -31,7 +20,7 @@ pub fn run_sheet(sheet: &[u8], listing: &mut [u8]) -> usize
         × (now (listing .exit) ≡ left (now (sheet .entry)) (now (listing .entry))) ⌝ }
 {
     if sheet.len() == 0 {
-        return put_unopened(listing);
+        return unopened::deliver(listing);
     }
     if !records::is_sheet(sheet) {
         return 2;

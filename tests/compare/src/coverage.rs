@@ -4,6 +4,7 @@
 use peer::behind::{behind, Behind};
 use peer::row::{Log, Row, View, EPOCH_MAX, LOG_MAX};
 use peer::tally::{tally, Tally};
+use peer::RECORDS_MAX;
 use std::fmt;
 
 /// Steps 0 to 15, and every step byte above as one.
@@ -363,26 +364,17 @@ const LINES: [(&str, fn(&Line) -> bool); 5] = [
     ),
 ];
 
-/// Calls for a listing that should be made, each a sheet and the length of a slice: the
-/// empty sheet and the wrong lengths that are still refused (document 02, Paper 9).
-const CALLS: [(&str, fn(&[u8], usize) -> bool); 6] = [
-    ("empty sheet in a slice of 9 bytes", |sheet, slice| {
-        sheet.is_empty() && slice == 9
+/// Lengths in bytes that random sheets should have: that of the empty one, which has a
+/// listing, and the wrong ones, which are still refused (document 02, Paper 9). Each sheet
+/// goes into slices of its listing's length, a byte less, more, and none.
+const LENGTHS: [(&str, fn(usize) -> bool); 4] = [
+    ("empty sheet", |bytes| bytes == 0),
+    ("sheet of 1 to 7 bytes", |bytes| bytes > 0 && bytes < 8),
+    ("sheet with a part of a record at its end", |bytes| {
+        bytes > 8 && bytes % 8 != 0
     }),
-    ("empty sheet in a longer slice", |sheet, slice| {
-        sheet.is_empty() && slice > 9
-    }),
-    ("empty sheet in a slice of 8 bytes", |sheet, slice| {
-        sheet.is_empty() && slice == 8
-    }),
-    ("empty sheet in an empty slice", |sheet, slice| {
-        sheet.is_empty() && slice == 0
-    }),
-    ("sheet of 1 to 7 bytes in a long slice", |sheet, slice| {
-        matches!(sheet.len(), 1..=7) && slice > 9
-    }),
-    ("sheet of more bytes, no whole records", |sheet, slice| {
-        sheet.len() > 8 && sheet.len() % 8 != 0 && slice > 9
+    ("sheet of more than 4,095 records", |bytes| {
+        bytes > 8 * RECORDS_MAX
     }),
 ];
 
@@ -398,15 +390,14 @@ pub struct Coverage {
     never: [u64; NEVER.len()],
     tallied: [u64; TALLIED.len()],
     lines: [u64; LINES.len()],
-    calls: [u64; CALLS.len()],
+    lengths: [u64; LENGTHS.len()],
 }
 
 impl Coverage {
-    /// Notes the calls for the listing of a sheet in slices of these lengths.
-    pub fn call(&mut self, sheet: &[u8], slices: &[usize]) {
-        for (number, (_, is_such)) in self.calls.iter_mut().zip(CALLS) {
-            let such = slices.iter().filter(|&&slice| is_such(sheet, slice));
-            *number += such.count() as u64;
+    /// Notes the length of a random sheet that is broken.
+    pub fn measure(&mut self, sheet: &[u8]) {
+        for (number, (_, is_such)) in self.lengths.iter_mut().zip(LENGTHS) {
+            *number += u64::from(is_such(sheet.len()));
         }
     }
 
@@ -475,8 +466,8 @@ impl Coverage {
         let events = EVENTS.map(|(name, _)| name).into_iter().zip(self.events);
         let tallied = TALLIED.map(|(name, _)| name).into_iter().zip(self.tallied);
         let lines = LINES.map(|(name, _)| name).into_iter().zip(self.lines);
-        let calls = CALLS.map(|(name, _)| name).into_iter().zip(self.calls);
-        events.chain(tallied).chain(lines).chain(calls)
+        let lengths = LENGTHS.map(|(name, _)| name).into_iter().zip(self.lengths);
+        events.chain(tallied).chain(lines).chain(lengths)
     }
 
     /// What can be met and was not, and what cannot and was.

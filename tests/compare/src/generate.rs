@@ -101,11 +101,14 @@ pub fn random(mut rng: Rng) -> (Kind, Vec<u8>) {
             let guide = Guide::new(rng, records).maybe_few_values();
             (Kind::Epochs, guide.use_epochs().finish(None))
         }
-        _ => {
-            let records = some(&mut rng);
-            (Kind::Broken, broken(&mut rng, records))
-        }
+        _ => random_broken(rng),
     }
+}
+
+/// A random sheet that is broken, and its kind.
+pub fn random_broken(mut rng: Rng) -> (Kind, Vec<u8>) {
+    let records = 1 + rng.below(800);
+    (Kind::Broken, broken(&mut rng, records))
 }
 
 /// The sheet of a random seed, mostly a short one, and its kind.
@@ -279,12 +282,14 @@ fn uniform(rng: &mut Rng, records: usize) -> Vec<u8> {
 fn broken(rng: &mut Rng, records: usize) -> Vec<u8> {
     let mut sheet = uniform(rng, records);
     let some = 1 + rng.below(255) as u8;
-    match rng.below(6) {
+    match rng.below(8) {
         0 => sheet.clear(),
-        1 => sheet.truncate(sheet.len() - 1 - rng.below(7)),
-        2 => sheet.resize(sheet.len() + 1 + rng.below(7), some),
-        3 => sheet[1] = rng.one_of(&[0, 9, some | 8 | 1]),
-        4 => sheet[0] = some,
+        1 => sheet.truncate(1 + rng.below(7)),
+        2 => sheet.truncate(sheet.len() - 1 - rng.below(7)),
+        3 => sheet.resize(sheet.len() + 1 + rng.below(7), some),
+        4 => sheet.resize(8 * (RECORDS_MAX + 1 + rng.below(100)), some),
+        5 => sheet[1] = rng.one_of(&[0, 9, some | 8 | 1]),
+        6 => sheet[0] = some,
         _ => sheet[2 + rng.below(6)] = some,
     }
     sheet

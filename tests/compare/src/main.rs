@@ -54,6 +54,8 @@ const SEED: u64 = 1;
 const SHEETS_ENOUGH: u64 = 1000;
 /// A process takes longer to start than a sheet to run.
 const PROGRAM_EVERY: u64 = 4;
+/// Few random sheets are broken, and these soon end.
+const BROKEN_EVERY: u64 = 4;
 
 fn main() -> ExitCode {
     let args: Vec<String> = env::args().skip(1).collect();
@@ -208,6 +210,7 @@ impl Comparison {
     fn run(&mut self, edges: &[Vec<u8>], sheets: u64) -> Result<(), Fault> {
         let mut of_sheets = Rng::new(self.rng.draw());
         let mut of_seeds = Rng::new(self.rng.draw());
+        let mut of_broken = Rng::new(self.rng.draw());
         for (seed, count) in seeds::edges() {
             self.take(generate::seeded(seed, count), true)?;
         }
@@ -223,6 +226,9 @@ impl Comparison {
             let print = n % PROGRAM_EVERY == 0;
             self.take(generate::random(Rng::new(of_sheets.draw())), print)?;
             self.take(generate::random_seeded(Rng::new(of_seeds.draw())), print)?;
+            if n % BROKEN_EVERY == 0 {
+                self.take(generate::random_broken(Rng::new(of_broken.draw())), false)?;
+            }
         }
         // Last, so that what is wrong is mostly found before so many processes are started.
         for (n, sheet) in edges.iter().enumerate() {
@@ -236,6 +242,9 @@ impl Comparison {
         let compared = self.agree(kind, &sheet, print);
         keep(compared, self.sheets, kind, &sheet)?;
         self.sheets += 1;
+        if matches!(kind, Kind::Broken) {
+            self.coverage.measure(&sheet);
+        }
         self.coverage.play(&sheet);
         Ok(())
     }
@@ -252,7 +261,7 @@ impl Comparison {
                 seeds::print(&self.seedsheet, &seeds::edited(line, &mut self.rng))?;
             }
         }
-        sheets::call(sheet, &mut self.coverage, &mut self.rng)?;
+        sheets::call(sheet, &mut self.rng)?;
         self.told
             .explain(sheet, &mut self.coverage, &mut self.rng)?;
         if print {

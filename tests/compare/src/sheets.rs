@@ -1,7 +1,6 @@
 //! Sheets: the C entry `run_sheet` and the program `runsheet`, beside the second program.
 
 use crate::both::{about, differs, in_slices, whole, writes, Fault};
-use crate::coverage::Coverage;
 use generate::Rng;
 use peer::listing::LENGTH_MAX;
 use std::iter;
@@ -25,11 +24,10 @@ pub fn print(program: &Path, sheet: &[u8]) -> Result<(), Fault> {
     writes(program, sheet, &printed(sheet), lines)
 }
 
-/// Compares what the C entry does in slices about as long as the listing; notes the calls.
-pub fn call(sheet: &[u8], coverage: &mut Coverage, rng: &mut Rng) -> Result<(), Fault> {
+/// Compares what the C entry does in slices about as long as the listing.
+pub fn call(sheet: &[u8], rng: &mut Rng) -> Result<(), Fault> {
     let exact = peer::list(sheet).map_or(300, |listing| listing.len());
     let lengths = about(exact, rng);
-    coverage.call(sheet, &lengths);
     let given = sheet.to_vec();
     let called = in_slices(
         "run_sheet",

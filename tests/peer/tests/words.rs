@@ -520,9 +520,10 @@ fn an_answer_with_a_high_bit_is_refused_1() {
     }
 }
 
-/// The length of a row's listing, a text or a line is not on the list.
+/// The length of a row's listing, a text or a line is not on the list; that of the empty
+/// sheet's listing is.
 #[test]
-fn a_length_is_no_answer() {
+fn lengths_and_answers() {
     let mut slice = vec![170; TEXT_MAX];
     let mut lengths = vec![
         run(&sample(), &mut slice),

@@ -34,8 +34,8 @@ bytes c = now (start (c .before .before .before) .args .sheet)
 passed : (c : tie.Else2) → isSheet (bytes c) ≡ true
 passed c = sym (c .before .is-sheet .ensures) ∙ not-false _ (c .if2 .left)
 
-put-unopened-requires : tie.Need-put-unopened-requires
-put-unopened-requires c κs = search needs
+deliver-requires : tie.Need-deliver-requires
+deliver-requires c κs = search needs
 
 same-length : tie.Need-same-length
 same-length c = search needs
@@ -44,7 +44,7 @@ returns : tie.Need-returns
 returns c =
     let p = c .before .before in
     let t = p .before .before in
-    delivered-unopened (now (start (t .before) .args .sheet)) (omega (arith, t .if1 .taken)) (p .put-unopened .ensures)
+    delivered-unopened (now (start (t .before) .args .sheet)) (omega (arith, t .if1 .taken)) (p .deliver .ensures)
 
 is-sheet-requires : tie.Need-is-sheet-requires
 is-sheet-requires c κs = search needs
@@ -119,8 +119,8 @@ slice-aggregate-deliver-3 c =
     let w = c .before .before .before .before .put-ending .ensures in
     sym (length-take-le _ _ (omega (arith, w .1, wrote-length (w .0))))
 
-deliver-requires : tie.Need-deliver-requires
-deliver-requires c κs =
+deliver-requires-2 : tie.Need-deliver-requires-2
+deliver-requires-2 c κs =
     let w = c .before .before .before .before .before in
     let p = played w in
     let d = ready p in
@@ -144,13 +144,13 @@ returns-3 c =
     let p = played w in
     let d = ready p in
     let back = read-back (w .put-ending .ensures .0) (omega (arith, w .put-ending .ensures .1)) in
-    delivered (bytes d) (passed d) _ _ _ _ (p .play .ensures) back (x .deliver .ensures)
+    delivered (bytes d) (passed d) _ _ _ _ (p .play .ensures) back (x .deliver2 .ensures)
 
 pub run-sheet-spec : {M : Type 1} → statement M
 run-sheet-spec =
     tie.close
     (tie.spec
-    put-unopened-requires
+    deliver-requires
     same-length
     returns
     is-sheet-requires
@@ -170,6 +170,6 @@ run-sheet-spec =
     slice-aggregate-deliver-2
     array-share-prefix-end
     slice-aggregate-deliver-3
-    deliver-requires
+    deliver-requires-2
     same-length-2
     returns-3)

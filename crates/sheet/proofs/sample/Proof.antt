@@ -22,7 +22,7 @@ returns c = (
   (refl, refl),
   (refl, refl, refl, refl, refl, refl),
   refused-holds,
-  (refl, refl, refl, refl, refl, refl, refl, still-refused),
+  (refl, λ out. record { answer = refl; left = refl }, still-refused),
   lengths-tell,
   trials-hold,
 )

@@ -1,9 +1,9 @@
--- `sheet::put_unopened` meets its contract. Assumes nothing.
+-- `unopened::deliver` meets its contract. Assumes nothing.
 use native.Mathlib.Omega.{arith}
 use borrow.Author.Needs.{needs}
 use Rattle.text.proofs.Laws.{too-long, fitting}
-use Rattle.sheet.proofs.put_unopened.Statement.{statement}
-use Rattle.sheet.proofs.put_unopened.Tie as tie
+use Rattle.unopened.proofs.deliver.Statement.{statement}
+use Rattle.unopened.proofs.deliver.Tie as tie
 
 returns : tie.Need-returns
 returns c = too-long (omega arith)
@@ -20,5 +20,5 @@ same-length c = search needs
 returns-2 : tie.Need-returns-2
 returns-2 c = fitting (omega arith) (c .before .before .put-bytes .ensures)
 
-pub put-unopened-spec : {M : Type 1} → statement M
-put-unopened-spec = tie.close (tie.spec returns slice-aggregate-put-bytes put-bytes-requires same-length returns-2)
+pub deliver-spec : {M : Type 1} → statement M
+deliver-spec = tie.close (tie.spec returns slice-aggregate-put-bytes put-bytes-requires same-length returns-2)
