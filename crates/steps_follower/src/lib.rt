@@ -246,7 +246,7 @@ pub fn receive(
     if r != 0 {
         return r;
     }
-    logstore::receive_entry(&mut *store, &mut *store2, k, l, n);
+    logparts::receive_entry(&mut *store, &mut *store2, k, l, n);
     len[i] = n + 1;
     0
 }

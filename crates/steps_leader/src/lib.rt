@@ -64,7 +64,7 @@ pub fn append(
     if r != 0 {
         return r;
     }
-    logstore::append_entry(&mut *store, &mut *store2, k, n, value, v.term);
+    logparts::append_entry(&mut *store, &mut *store2, k, n, value, v.term);
     let m = n + 1;
     len[i] = m;
     acked[9 * i] = m; // b's count of itself.

@@ -1,13 +1,13 @@
--- `logstore::receive_entry` meets its contract: the parts come back with the leader's entry at len. Assumes nothing.
+-- `logparts::receive_entry` meets its contract: the parts come back with the leader's entry at len. Assumes nothing.
 use Prim.Native.Nat.{_-_, _*_}
 use native.Mathlib.Omega.{arith}
 use lib.ListN.{getD}
 use denote.Ref.{now}
 use Rattle.logstore.specs.Log.{place}
 use Rattle.logstore.proofs.Laws.{part-set}
 use borrow.Author.Needs.{needs}
-use Rattle.logstore.proofs.receive_entry.Statement.{statement}
-use Rattle.logstore.proofs.receive_entry.Tie as tie
+use Rattle.logparts.proofs.receive_entry.Statement.{statement}
+use Rattle.logparts.proofs.receive_entry.Tie as tie
 
 abbrev start : tie.After-receive → tie.Start
 start c = c .before .before .before .before .before .before .before

@@ -1,11 +1,11 @@
--- `logstore::append_entry` meets its contract: the parts come back with v and t at len. Assumes nothing.
+-- `logparts::append_entry` meets its contract: the parts come back with v and t at len. Assumes nothing.
 use Prim.Native.Nat.{_-_, _*_}
 use native.Mathlib.Omega.{arith}
 use denote.Ref.{now}
 use Rattle.logstore.proofs.Laws.{part-set}
 use borrow.Author.Needs.{needs}
-use Rattle.logstore.proofs.append_entry.Statement.{statement}
-use Rattle.logstore.proofs.append_entry.Tie as tie
+use Rattle.logparts.proofs.append_entry.Statement.{statement}
+use Rattle.logparts.proofs.append_entry.Tie as tie
 
 abbrev start : tie.After-append → tie.Start
 start c = c .before .before .before .before .before
