@@ -46,7 +46,7 @@ fn put_replica(
     let j = joined[i];
     let n = len[i];
     let late = mark::is_late(v, j, r);
-    lines::put_board(&mut *out, at, b, v, j, n, late)
+    state_lines::put_board(&mut *out, at, b, v, j, n, late)
 }
 
 // Writes the lines of the eight replicas.
@@ -83,7 +83,7 @@ fn put_entries(out: &mut [u8], at: usize, list: &[u32], list2: &[u16], n: usize)
     let mut p = at;
     while i < n {
         let q = text::put_byte(&mut *out, p, 32);
-        p = lines::put_receipt(&mut *out, q, list[i], list2[i]);
+        p = state_lines::put_receipt(&mut *out, q, list[i], list2[i]);
         i += 1;
     }
     p
@@ -125,8 +125,8 @@ pub fn put_ending(out: &mut [u8], row: Cluster, list: &[u32], list2: &[u16]) -> 
     let g = row.registry;
     let k = row.controller;
     let n = row.issued;
-    let a = lines::put_registry(&mut *out, 0, g);
-    let b = lines::put_control(&mut *out, a, k);
+    let a = state_lines::put_registry(&mut *out, 0, g);
+    let b = state_lines::put_control(&mut *out, a, k);
     let c = put_replicas(&mut *out, b, row);
     put_receipts(&mut *out, c, list, list2, n)
 }

@@ -1,10 +1,10 @@
--- `lines::put_view` meets its contract. Assumes nothing.
+-- `state_lines::put_view` meets its contract. Assumes nothing.
 use Rattle.cluster.specs.Layout.{viewOf}
 use Rattle.text.proofs.Laws.{fits, byte, rest, then}
 use Rattle.lines.specs.Lines.{space, viewText}
 use borrow.Author.Needs.{needs}
-use Rattle.lines.proofs.put_view.Statement.{statement}
-use Rattle.lines.proofs.put_view.Tie as tie
+use Rattle.state_lines.proofs.put_view.Statement.{statement}
+use Rattle.state_lines.proofs.put_view.Tie as tie
 
 put-parts-requires : tie.Need-put-parts-requires
 put-parts-requires c κs = let e = c .before .before in fits _ (viewText (viewOf (e .args .v))) space (e .pre)

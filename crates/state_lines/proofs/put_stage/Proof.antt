@@ -1,13 +1,13 @@
--- `lines::put_stage` meets its contract. Assumes nothing.
+-- `state_lines::put_stage` meets its contract. Assumes nothing.
 use mathlib.Core.List.{_++_}
 use Rattle.cluster.specs.Layout.{stageOf}
 use Rattle.cluster.specs.declared.Stage.{Stage}
 use Rattle.text.specs.Text.{Text}
 use Rattle.lines.specs.Lines.{newline, stageWord}
 use Rattle.lines.proofs.Wording.{case-fits, case-wrote}
 use borrow.Author.Needs.{needs}
-use Rattle.lines.proofs.put_stage.Statement.{statement}
-use Rattle.lines.proofs.put_stage.Tie as tie
+use Rattle.state_lines.proofs.put_stage.Statement.{statement}
+use Rattle.state_lines.proofs.put_stage.Tie as tie
 
 abbrev text : Stage → Text
 text g = stageWord (stageOf g) ++ newline

@@ -1,12 +1,12 @@
--- `lines::put_late` meets its contract. Assumes nothing.
+-- `state_lines::put_late` meets its contract. Assumes nothing.
 use mathlib.Core.Bool.{Bool}
 use mathlib.Core.List.{_++_}
 use Rattle.text.specs.Text.{Text}
 use Rattle.lines.specs.Lines.{newline, lateWord}
 use Rattle.lines.proofs.Wording.{case-fits, case-wrote}
 use borrow.Author.Needs.{needs}
-use Rattle.lines.proofs.put_late.Statement.{statement}
-use Rattle.lines.proofs.put_late.Tie as tie
+use Rattle.state_lines.proofs.put_late.Statement.{statement}
+use Rattle.state_lines.proofs.put_late.Tie as tie
 
 abbrev text : Bool → Text
 text late = lateWord late ++ newline

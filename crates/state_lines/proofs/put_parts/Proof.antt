@@ -1,13 +1,13 @@
--- `lines::put_parts` meets its contract. Assumes nothing.
+-- `state_lines::put_parts` meets its contract. Assumes nothing.
 use mathlib.Core.List.{_++_}
 use Prim.Native.Nat.{_+_, _≤_}
 use lib.ListN.{length}
 use Rattle.members.specs.Mask.{bits}
 use Rattle.text.specs.Text.{Text, digits}
 use Rattle.lines.specs.Lines.{space, membersText, viewText}
 use Rattle.text.proofs.Laws.{fits-both, rest-both, then-both, wrote-length}
-use Rattle.lines.proofs.put_parts.Statement.{statement}
-use Rattle.lines.proofs.put_parts.Tie as tie
+use Rattle.state_lines.proofs.put_parts.Statement.{statement}
+use Rattle.state_lines.proofs.put_parts.Tie as tie
 
 -- What is still to be written after the call j.
 abbrev text3 : tie.Start → Text

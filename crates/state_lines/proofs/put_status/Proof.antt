@@ -1,13 +1,13 @@
--- `lines::put_status` meets its contract. Assumes nothing.
+-- `state_lines::put_status` meets its contract. Assumes nothing.
 use mathlib.Core.List.{_++_}
 use Rattle.cluster.specs.Layout.{statusOf}
 use Rattle.cluster.specs.declared.Status.{Status}
 use Rattle.text.specs.Text.{Text}
 use Rattle.lines.specs.Lines.{newline, statusWord}
 use Rattle.lines.proofs.Wording.{case-fits, case-wrote}
 use borrow.Author.Needs.{needs}
-use Rattle.lines.proofs.put_status.Statement.{statement}
-use Rattle.lines.proofs.put_status.Tie as tie
+use Rattle.state_lines.proofs.put_status.Statement.{statement}
+use Rattle.state_lines.proofs.put_status.Tie as tie
 
 abbrev text : Status → Text
 text g = statusWord (statusOf g) ++ newline

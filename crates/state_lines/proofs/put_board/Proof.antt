@@ -1,14 +1,14 @@
--- `lines::put_board` meets its contract. Assumes nothing.
+-- `state_lines::put_board` meets its contract. Assumes nothing.
 use mathlib.Core.List.{_++_}
 use Prim.Native.Nat.{_+_, _≤_}
 use lib.ListN.{length}
 use Rattle.cluster.specs.Layout.{viewOf}
 use Rattle.text.specs.Text.{Text, digits}
 use Rattle.lines.specs.Lines.{word, space, newline, viewText, lateWord, boardText}
 use Rattle.text.proofs.Laws.{fits, fits-both, rest, rest-both, then, then-both, wrote-length}
 use borrow.Author.Needs.{needs}
-use Rattle.lines.proofs.put_board.Statement.{statement}
-use Rattle.lines.proofs.put_board.Tie as tie
+use Rattle.state_lines.proofs.put_board.Statement.{statement}
+use Rattle.state_lines.proofs.put_board.Tie as tie
 
 -- What is still to be written after the call j.
 abbrev text5 : tie.Start → Text

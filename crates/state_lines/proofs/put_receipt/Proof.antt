@@ -1,12 +1,12 @@
--- `lines::put_receipt` meets its contract. Assumes nothing.
+-- `state_lines::put_receipt` meets its contract. Assumes nothing.
 use mathlib.Core.List.{_++_}
 use Prim.Native.Nat.{_+_, _≤_}
 use lib.ListN.{length}
 use Rattle.text.specs.Text.{Text, digits}
 use Rattle.lines.specs.Lines.{word, receiptText}
 use Rattle.text.proofs.Laws.{fits, byte, rest, then, wrote-length}
-use Rattle.lines.proofs.put_receipt.Statement.{statement}
-use Rattle.lines.proofs.put_receipt.Tie as tie
+use Rattle.state_lines.proofs.put_receipt.Statement.{statement}
+use Rattle.state_lines.proofs.put_receipt.Tie as tie
 
 -- What is still to be written after the call j.
 abbrev text2 : tie.Start → Text
