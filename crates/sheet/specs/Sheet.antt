@@ -41,8 +41,8 @@ listing s = cond (isEmpty s) unopened (listingOf (openingOf (recordAt s)) (recor
 
 -- The call, with the sheet s and a slice whose bytes are `out`
 
--- A sheet that has a listing: the empty one, and those that document 01's refusal 2 lets through, so that "All other wrong
--- lengths are still 2." The other calls over a sheet ask `isSheet` alone.
+-- A sheet that has a listing: the empty one, and those that document 01's refusal 2 lets through, so that "All other
+-- wrong lengths are still 2." The other calls over a sheet ask `isSheet` alone.
 abbrev pub hasListing : Text → Bool
 hasListing s = isEmpty s || isSheet s
 
