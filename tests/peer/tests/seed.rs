@@ -5,12 +5,13 @@
 //! apart, with sums, quotients and remainders of whole numbers for the shifts and
 //! a comparison of digits in base two for the exclusive-or.
 
+mod program;
+
 use std::collections::BTreeSet;
-use std::io::Write;
-use std::process::{Command, Stdio};
 
 use peer::list;
 use peer::seed::{make, print, read, Draws};
+use program::printed;
 
 /// The sheet of a seed and a count that is not refused.
 #[track_caller]
@@ -659,15 +660,7 @@ fn every_count_and_many_seeds_are_read() {
 
 /// What the program writes for an input.
 fn program(input: &[u8]) -> Vec<u8> {
-    let mut child = Command::new(env!("CARGO_BIN_EXE_seedsheet"))
-        .stdin(Stdio::piped())
-        .stdout(Stdio::piped())
-        .spawn()
-        .unwrap();
-    child.stdin.take().unwrap().write_all(input).unwrap();
-    let output = child.wait_with_output().unwrap();
-    assert!(output.status.success());
-    output.stdout
+    printed(env!("CARGO_BIN_EXE_seedsheet"), input)
 }
 
 #[test]

@@ -1,14 +1,14 @@
 //! A sheet with no records: document 02, Paper 9. The listing is worked out from the paper
 //! by hand, and the listing alone takes the empty sheet.
 
-use std::io::Write;
-use std::process::{Command, Stdio};
+mod program;
 
 use peer::behind::behind;
 use peer::image::save_sheet;
 use peer::tally::tally;
 use peer::words::{explain, explained};
 use peer::{list, run};
+use program::printed;
 
 /// One line, `unopened`, and byte 10.
 const UNOPENED: [u8; 9] = [117, 110, 111, 112, 101, 110, 101, 100, 10];
@@ -145,22 +145,9 @@ fn the_other_calls_still_refuse_the_empty_sheet_2() {
     assert_eq!(tally(&[]), Err(2));
 }
 
-/// What a program prints for a sheet.
-fn program(path: &str, sheet: &[u8]) -> Vec<u8> {
-    let mut child = Command::new(path)
-        .stdin(Stdio::piped())
-        .stdout(Stdio::piped())
-        .spawn()
-        .unwrap();
-    child.stdin.take().unwrap().write_all(sheet).unwrap();
-    let output = child.wait_with_output().unwrap();
-    assert!(output.status.success());
-    output.stdout
-}
-
 #[test]
 fn the_program_prints_unopened() {
-    let listing = |sheet: &[u8]| program(env!("CARGO_BIN_EXE_peer"), sheet);
+    let listing = |sheet: &[u8]| printed(env!("CARGO_BIN_EXE_peer"), sheet);
     assert_eq!(listing(b""), UNOPENED);
     assert_eq!(listing(b"\n"), b"refused 2\n");
     assert_eq!(listing(&[0; 7]), b"refused 2\n");
@@ -168,10 +155,4 @@ fn the_program_prints_unopened() {
     assert_eq!(listing(&beginning(12)), b"refused 2\n");
     assert_eq!(listing(&beginning(32_768)), b"refused 2\n");
     assert!(listing(&open(1)).starts_with(b"1 0 0\nregistry 1 1 1 1 normal\n"));
-}
-
-#[test]
-fn the_program_for_words_still_prints_refused_2() {
-    let words = env!("CARGO_BIN_EXE_explainsheet");
-    assert_eq!(program(words, b""), b"refused 2\n");
 }

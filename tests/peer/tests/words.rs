@@ -3,13 +3,14 @@
 //! Phrases and lines are from the list of phrases, answers from document 01, both by
 //! hand.
 
+mod program;
+
 use std::collections::{BTreeSet, HashMap};
-use std::io::Write;
-use std::process::{Command, Stdio};
 
 use peer::seed::make;
 use peer::words::{describe, explain, explained, LINE_MAX, TEXT_MAX};
 use peer::{list, run};
+use program::printed;
 
 /// The highest answer of the list.
 const ANSWER_MAX: usize = 19;
@@ -997,15 +998,7 @@ fn a_long_text() {
 
 /// What the program prints for a sheet.
 fn program(sheet: &[u8]) -> Vec<u8> {
-    let mut child = Command::new(env!("CARGO_BIN_EXE_explainsheet"))
-        .stdin(Stdio::piped())
-        .stdout(Stdio::piped())
-        .spawn()
-        .unwrap();
-    child.stdin.take().unwrap().write_all(sheet).unwrap();
-    let output = child.wait_with_output().unwrap();
-    assert!(output.status.success());
-    output.stdout
+    printed(env!("CARGO_BIN_EXE_explainsheet"), sheet)
 }
 
 #[test]
