@@ -45,6 +45,6 @@ records (suc n) s = recordAt s ∷ records n (drop 8 s)
 abbrev pub wholeRecords : ℕ → Bool
 wholeRecords n = eqb (n % 8) 0 && leb 1 (n / 8) && leb (n / 8) 4095
 
--- A sheet that document 01's refusal 2 lets through. (A listing has the empty sheet too: crate `sheet`.)
+-- A sheet that document 01's refusal 2 lets through. (The empty one, which it does not, has a listing: crate `sheet`.)
 abbrev pub isSheet : Text → Bool
 isSheet s = wholeRecords (length s) && isOpening (recordAt s)
