@@ -191,7 +191,7 @@ class Phrases(unittest.TestCase):
         entry = re.compile(r'\((?:any (\d+)|of (\d+)\s+\(((?:\w+ ∷ )+)\[\]\))\s+"([^"]*)"\)')
         rows = []
         for common, own, steps, phrase in entry.findall(specs):
-            names = steps.replace("noStep", MALFORMED).split(" ∷ ")[:-1]
+            names = steps.replace("no_step", MALFORMED).split(" ∷ ")[:-1]
             rows.append((int(common or own), [named(name) for name in names], phrase))
         self.assertEqual(rows, self.rows)
         pieces = [piece for form in self.forms for piece in re.split(r"\*\w\*", form) if piece]

@@ -6,63 +6,63 @@ use Prim.Native.Nat.{ℕ, zero, suc, ◌+◌, ◌-◌, ◌*◌, ◌/◌, ◌^◌
 use native.Mathlib.Omega.{arith}
 use lib.Dec.{T, leb, eqb}
 use lib.ListN.{length, get_or, take, drop, replicate, length-append, length-map}
-use Rattle.model.specs.Members.{isReplica}
-use Rattle.model.specs.State.{RowState, entries, outline, Opening, canOpen}
+use Rattle.model.specs.Members.{is_replica}
+use Rattle.model.specs.State.{RowState, entries, outline, Opening, can_open}
 use Rattle.model.specs.Steps.{Step}
 use Rattle.model.specs.Claim.{after}
-use Rattle.model.specs.Records.{openingOf}
+use Rattle.model.specs.Records.{opening_of}
 use Rattle.model.specs.Runs.{steps_of, run}
-use Rattle.model.specs.Ranges.{every, eight, in_range, termsInRange, keptInRange}
+use Rattle.model.specs.Ranges.{every, eight, in_range, terms_in_range, kept_in_range}
 use Rattle.model.proofs.Tests.{of-true, is_true, split-and}
 use Rattle.model.proofs.Made.{All, Word}
 use Rattle.model.proofs.Range.{InRange, to-ranges}
 use Rattle.model.proofs.Bounds.{in-range}
-use Rattle.text.specs.Text.{Text, over, digits, digitsWithin}
+use Rattle.text.specs.Text.{Text, over, digits, digits_within}
 use Rattle.members.specs.Mask.{bits}
-use Rattle.cluster.specs.Layout.{outlineOf}
-use Rattle.records.specs.Bytes.{recordAt, records, isSheet}
-use Rattle.lines.specs.Lines.{registryLine, controlLine, boardText, receiptText, viewText, membersText}
-use Rattle.ending.specs.Ending.{ending, boardLines, boardLine, receiptsLine, receiptsText}
+use Rattle.cluster.specs.Layout.{outline_of}
+use Rattle.records.specs.Bytes.{record_at, records, is_sheet}
+use Rattle.lines.specs.Lines.{registry_line, control_line, board_text, receipt_text, view_text, members_text}
+use Rattle.ending.specs.Ending.{ending, board_lines, board_line, receipts_line, receipts_text}
 use Rattle.ending.proofs.Endings.{ending-least, ending-most}
 use Rattle.logstore.specs.Log.{pairs}
 use Rattle.logstore.proofs.Laws.{pairs-length}
 use Rattle.refinement.specs.Refinement.{Places, lent, abs}
-use Rattle.shown.specs.Shown.{lengthsFit}
-use Rattle.head.specs.Head.{headBytes, row_at}
+use Rattle.shown.specs.Shown.{lengths_fit}
+use Rattle.head.specs.Head.{head_bytes, row_at}
 use Rattle.head.proofs.Back.{head-length}
-use Rattle.saving.specs.Saved.{firstsFor, recordsFor, recordsAll, bytes_of, sum_of}
+use Rattle.saving.specs.Saved.{firsts_for, records_for, records_all, bytes_of, sum_of}
 use Rattle.saving.proofs.Bytes.{bytes-length}
-use Rattle.running.specs.Sample.{sampleSheet}
+use Rattle.running.specs.Sample.{sample_sheet}
 use Rattle.running.proofs.Playing.{sheet-real}
 use Rattle.running.proofs.Results.{within, kept-length}
 use Rattle.marks.specs.Marks.{room}
 use borrow.Author.Tests.{leb-true}
-use Rattle.chains.specs.Chain.{chain, chainsOf, wellLinked, joined, has, distinct, up_to}
-use Rattle.chains.specs.Image.{value_of, epochOf, firstsFrom, values_of, epochsOf}
-use Rattle.loading.specs.Read.{receiptsOf}
-use Rattle.image.specs.Image.{lists_of, image_of, lengthFits, numbersFit, linksFit, verdict, row_in, placesIn}
+use Rattle.chains.specs.Chain.{chain, chains_of, well_linked, joined, has, distinct, up_to}
+use Rattle.chains.specs.Image.{value_of, epoch_of, firsts_from, values_of, epochs_of}
+use Rattle.loading.specs.Read.{receipts_of}
+use Rattle.image.specs.Image.{lists_of, image_of, length_fits, numbers_fit, links_fit, verdict, row_in, places_in}
 use Rattle.image.specs.Keeping.{TakenFits}
 use Rattle.image.proofs.Writing.{image-least, image-most}
 use Rattle.image.proofs.Fitting.{range-fit, taken-fits, receipts-there}
-use Rattle.archive.specs.Archive.{sheetImage, saveResult, saveLeft, receiptsIn, imageText, showResult, showLeft, SampleHolds, LengthsTell}
+use Rattle.archive.specs.Archive.{sheet_image, save_result, save_left, receipts_in, image_text, show_result, show_left, SampleHolds, LengthsTell}
 
 pub sample-holds : SampleHolds
-unfolding SampleHolds sheetImage imageText image_of headBytes firstsFor recordsFor recordsAll bytes_of row_in row_at
-    numbersFit linksFit over chain chainsOf firstsFrom wellLinked joined has distinct up_to
-    ending registryLine controlLine boardLines boardLine boardText receiptsLine receiptsText receiptText
-    viewText membersText digits digitsWithin records run bits
+unfolding SampleHolds sheet_image image_text image_of head_bytes firsts_for records_for records_all bytes_of row_in row_at
+    numbers_fit links_fit over chain chains_of firsts_from well_linked joined has distinct up_to
+    ending registry_line control_line board_lines board_line board_text receipts_line receipts_text receipt_text
+    view_text members_text digits digits_within records run bits
 sample-holds = (refl, refl, refl, refl, refl, refl, refl, refl, refl, refl, refl, refl, refl, refl)
 
-module _ (o : Opening) (real : T (canOpen o)) (sts : List Step) where
+module _ (o : Opening) (real : T (can_open o)) (sts : List Step) where
   ranged : InRange (outline (after entries o sts))
   ranged = to-ranges (outline (after entries o sts)) (in-range entries o real sts)
 
   run-most : length (image_of (after entries o sts)) ≤ 37122
   run-most = image-most (after entries o sts) ranged.logs ranged.committed
 
-text-least : (image : Text) → 20 ≤ length (imageText image)
-unfolding imageText
-text-least image = ending-least (outlineOf (row_in image)) (receiptsIn image)
+text-least : (image : Text) → 20 ≤ length (image_text image)
+unfolding image_text
+text-least image = ending-least (outline_of (row_in image)) (receipts_in image)
 
 -- A value of four bytes has 32 bits.
 word_at : (image : Text) → ((i : ℕ) → get_or image i 0 ≤ 255) → (ks : List ℕ) (i : ℕ)
@@ -82,71 +82,71 @@ module _ (image : Text) (h : (i : ℕ) → get_or image i 0 ≤ 255) (v : verdic
   abbrev places : Places
   places = lent (replicate 4096 0) (replicate 4096 0) (replicate 512 0) (replicate 512 0)
 
-  few : length (receiptsIn image) ≤ 512
+  few : length (receipts_in image) ≤ 512
   unfolding row_in row_at
   few =
-      let vs = values_of image (receiptsOf image) in
-      let ts = epochsOf image (receiptsOf image) in
-      let n = length-map (receiptsOf image) (value_of image) in
+      let vs = values_of image (receipts_of image) in
+      let ts = epochs_of image (receipts_of image) in
+      let n = length-map (receipts_of image) (value_of image) in
       omega (
         arith,
-        pairs-length vs ts (n ∙ sym (length-map (receiptsOf image) (epochOf image))),
+        pairs-length vs ts (n ∙ sym (length-map (receipts_of image) (epoch_of image))),
         n,
-        (to-ranges (outlineOf (row_in image)) (of-true (range-fit image v))).committed,
+        (to-ranges (outline_of (row_in image)) (of-true (range-fit image v))).committed,
       )
 
-  kept : termsInRange (receiptsIn image) ≡ true
+  kept : terms_in_range (receipts_in image) ≡ true
   unfolding TakenFits
   kept =
       let row = row_in image in
-      let p = placesIn image places in
+      let p = places_in image places in
       let s = abs row p in
-      let all = (split-and (lengthsFit p && in_range (outlineOf row)) (keptInRange s)
+      let all = (split-and (lengths_fit p && in_range (outline_of row)) (kept_in_range s)
       (of-true (taken-fits image places v refl))).1 in
-      ap termsInRange (sym (receipts-there image v places (record {
+      ap terms_in_range (sym (receipts-there image v places (record {
         store = refl;
         store2 = refl;
         list = refl;
         list2 = refl;
       })))
-      ∙ is_true (termsInRange s.committed)
-      (split-and (termsInRange s.committed) (every (eight (λ b. termsInRange (s.log b)))) all).0
+      ∙ is_true (terms_in_range s.committed)
+      (split-and (terms_in_range s.committed) (every (eight (λ b. terms_in_range (s.log b)))) all).0
 
-  text-most : length (imageText image) ≤ 8650
-  unfolding imageText
+  text-most : length (image_text image) ≤ 8650
+  unfolding image_text
   text-most =
-      ending-most (outlineOf (row_in image)) (receiptsIn image) (range-fit image v) few
-      (words-all (values_of image (receiptsOf image)) (epochsOf image (receiptsOf image))
-      (word_at image h (receiptsOf image))) kept
+      ending-most (outline_of (row_in image)) (receipts_in image) (range-fit image v) few
+      (words-all (values_of image (receipts_of image)) (epochs_of image (receipts_of image))
+      (word_at image h (receipts_of image))) kept
 
 pub lengths-tell : LengthsTell
-unfolding LengthsTell sheetImage
+unfolding LengthsTell sheet_image
 lengths-tell = (
   λ s e. (
     image-least _,
-    run-most (openingOf (recordAt s)) (sheet-real s e) (steps_of (records (length s / 8 - 1) (drop 8 s))),
+    run-most (opening_of (record_at s)) (sheet-real s e) (steps_of (records (length s / 8 - 1) (drop 8 s))),
   ),
   λ image. (text-least image, text-most image),
 )
 
 -- A caller can read back what is no refusal.
-pub saved-readable : (s out : Text) {r : ℕ} {out' : Text} → (r ≡ saveResult s out) × (out' ≡ saveLeft s out) → 4 ≤ r
+pub saved-readable : (s out : Text) {r : ℕ} {out' : Text} → (r ≡ save_result s out) × (out' ≡ save_left s out) → 4 ≤ r
     → r ≤ length out'
-unfolding saveResult saveLeft
+unfolding save_result save_left
 saved-readable s out p h =
-    let im = sheetImage s in
+    let im = sheet_image s in
     let t = leb (length im) (length out) in
     omega (
       arith,
       p.0,
-      within (isSheet s) t (length im) (length out) refl (omega (arith, h, p.0)),
+      within (is_sheet s) t (length im) (length out) refl (omega (arith, h, p.0)),
       ap length p.1,
-      kept-length (isSheet s && t) out im,
+      kept-length (is_sheet s && t) out im,
     )
 
 -- No error of an image is above 19.
 verdict-most : (image : Text) → verdict image ≤ 19
-verdict-most image = go (lengthFits image) (numbersFit image) (linksFit image)
+verdict-most image = go (length_fits image) (numbers_fit image) (links_fit image)
   where
     go : (a b c : Bool) → cond a (cond b (cond c 0 19) 18) 17 ≤ 19
     go true true true = omega arith
@@ -162,10 +162,10 @@ shown-within true false c n m v e l h = absurd (omega (arith, h, l))
 shown-within false b c n m v e l h = absurd (omega (arith, h))
 
 pub shown-readable : (image out s : Text) {r : ℕ} {out' : Text}
-    → r ≡ showResult image out s → out' ≡ showLeft image out s → 20 ≤ r → r ≤ length out'
-unfolding showResult showLeft
+    → r ≡ show_result image out s → out' ≡ show_left image out s → 20 ≤ r → r ≤ length out'
+unfolding show_result show_left
 shown-readable image out s e f h =
-    let text = imageText image in
+    let text = image_text image in
     let a = leb room (length s) in
     let b = eqb (verdict image) 0 in
     let c = leb (length text) (length out) in

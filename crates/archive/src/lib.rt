@@ -3,7 +3,7 @@
 
 ghost use Rattle.std.specs.Prelude.{◌≡◌, length};
 ghost use Rattle.text.specs.Text.{Delivered};
-ghost use Rattle.archive.specs.Archive.{saveResult, saveLeft, showResult, showLeft, scratchLeft, SampleHolds, EmptyRefused, LengthsTell};
+ghost use Rattle.archive.specs.Archive.{save_result, save_left, show_result, show_left, scratch_left, SampleHolds, EmptyRefused, LengthsTell};
 
 // The image of document 01's sample, byte for byte, its lines, and bent images with their errors; the empty sheet is
 // refused; an image has 258 to 37,122 bytes, its lines 20 to 8,650. By the definitions: nothing to run.
@@ -14,8 +14,8 @@ pub fn sample()
 // Runs a sheet and writes the image of its row. It returns the image's length, 2 for a sheet of wrong length or without
 // a valid opening, then 3 for a slice that is shorter than the image; both leave the slice untouched.
 pub fn save_sheet(sheet: &[u8], out: &mut [u8]) -> usize
-    ensures { (result ≡ saveResult sheet.now out.old)
-        × (out.new ≡ saveLeft sheet.now out.old) }
+    ensures { (result ≡ save_result sheet.now out.old)
+        × (out.new ≡ save_left sheet.now out.old) }
 {
     if !records::is_sheet(sheet) {
         return 2;
@@ -52,9 +52,9 @@ fn deliver(text: &[u8], out: &mut [u8]) -> usize
 // for a scratch that is too short, 17, 18 or 19 for the image, then 3 for a slice that is shorter than the lines; the
 // slice is untouched then. Past the first of these the scratch ends as zeros.
 pub fn show_image(image: &[u8], out: &mut [u8], scratch: &mut [u8]) -> usize
-    ensures { (result ≡ showResult image.now out.old scratch.old)
-        × (out.new ≡ showLeft image.now out.old scratch.old)
-        × (scratch.new ≡ scratchLeft scratch.old) }
+    ensures { (result ≡ show_result image.now out.old scratch.old)
+        × (out.new ≡ show_left image.now out.old scratch.old)
+        × (scratch.new ≡ scratch_left scratch.old) }
 {
     let o = steps::opening(1);
     let given = o.row;

@@ -11,7 +11,7 @@ use lib.ListN.{length}
 use borrow.Author.Tests.{le-leb, lt-leb, leb-true, leb-false, eqb-true, eqb-false, eq-eqb, ne_eqb, not-true}
 use Rattle.model.specs.Ranges as R
 use Rattle.marks.specs.Marks.{Numbers, none, adding}
-use Rattle.chains.specs.Chain.{isShort, isRecord, every, joined, has, distinct, up_to, wellLinked, linked, addingAll, good}
+use Rattle.chains.specs.Chain.{is_short, is_record, every, joined, has, distinct, up_to, well_linked, linked, adding_all, good}
 
 -- The tests of a list's elements are the model's.
 pub every-is : {A : Type 0} (p : A → Bool) (xs : List A) → every p xs ≡ R.every (map p xs)
@@ -36,16 +36,16 @@ third true false c d = refl
 third false b c d = refl
 
 linked-append : (n : ℕ) (met : Numbers) (ks js : List ℕ)
-    → linked n met (ks ++ js) ≡ (linked n met ks && linked n (addingAll ks met) js)
-unfolding linked addingAll
+    → linked n met (ks ++ js) ≡ (linked n met ks && linked n (adding_all ks met) js)
+unfolding linked adding_all
 linked-append n met [] js = refl
 linked-append n met (k ∷ ks) js =
     rw (linked-append n (adding k met) ks js)
-    (third (isRecord n k) (not (met k)) (linked n (adding k met) ks) (linked n (addingAll ks (adding k met)) js))
+    (third (is_record n k) (not (met k)) (linked n (adding k met) ks) (linked n (adding_all ks (adding k met)) js))
 
 -- Chains that are good in turn.
-abbrev pub goodAll : ℕ → Numbers → List (List ℕ) → Bool
-goodAll n met kss = every isShort kss && linked n met (joined kss)
+abbrev pub good_all : ℕ → Numbers → List (List ℕ) → Bool
+good_all n met kss = every is_short kss && linked n met (joined kss)
 
 swap : (a b c d : Bool) → ((a && b) && (c && d)) ≡ ((c && a) && (b && d))
 swap true b true d = refl
@@ -54,11 +54,11 @@ swap false b true d = refl
 swap false b false d = refl
 
 pub good-cons : (n : ℕ) (met : Numbers) (ks : List ℕ) (kss : List (List ℕ))
-    → goodAll n met (ks ∷ kss) ≡ (good n met ks && goodAll n (addingAll ks met) kss)
+    → good_all n met (ks ∷ kss) ≡ (good n met ks && good_all n (adding_all ks met) kss)
 unfolding every joined
 good-cons n met ks kss =
     rw (linked-append n met ks (joined kss))
-    (swap (isShort ks) (every isShort kss) (linked n met ks) (linked n (addingAll ks met) (joined kss)))
+    (swap (is_short ks) (every is_short kss) (linked n met ks) (linked n (adding_all ks met) (joined kss)))
 
 -- What is linked from nothing met is of the image and distinct
 
@@ -93,19 +93,19 @@ sorted true false true d h a = sym (and-false (h && d))
 sorted true false false d h a = refl
 
 linked-is : (n : ℕ) (met : Numbers) (ks : List ℕ)
-    → linked n met ks ≡ (every (isRecord n) ks && (distinct ks && apart met ks))
+    → linked n met ks ≡ (every (is_record n) ks && (distinct ks && apart met ks))
 unfolding linked every distinct apart
 linked-is n met [] = refl
 linked-is n met (k ∷ ks) =
     rw (linked-is n (adding k met) ks, apart-adding k met ks)
-    (sorted (isRecord n k) (not (met k)) (every (isRecord n) ks) (distinct ks) (not (has ks k)) (apart met ks))
+    (sorted (is_record n k) (not (met k)) (every (is_record n) ks) (distinct ks) (not (has ks k)) (apart met ks))
 
 apart_none : (ks : List ℕ) → apart none ks ≡ true
 unfolding apart
 apart_none [] = refl
 apart_none (k ∷ ks) = apart_none ks
 
-pub linked-none : (n : ℕ) (ks : List ℕ) → linked n none ks ≡ (every (isRecord n) ks && distinct ks)
+pub linked-none : (n : ℕ) (ks : List ℕ) → linked n none ks ≡ (every (is_record n) ks && distinct ks)
 linked-none n ks = linked-is n none ks ∙ rw (apart_none ks, and-true (distinct ks))
 
 -- How many
@@ -157,11 +157,11 @@ count-adding (suc n) k met h e = go (eqb (suc n) k) refl (count-adding n k met h
 
 -- As many are met as there are records in a chain that is linked.
 count-linked : (n : ℕ) (met : Numbers) (ks : List ℕ) → linked n met ks ≡ true
-    → count n (addingAll ks met) ≡ length ks + count n met
-unfolding linked addingAll bit
+    → count n (adding_all ks met) ≡ length ks + count n met
+unfolding linked adding_all bit
 count-linked n met [] e = omega arith
 count-linked n met (k ∷ ks) e =
-    let p = (and-eq-true_iff (isRecord n k) (not (met k) && linked n (adding k met) ks)).0 e in
+    let p = (and-eq-true_iff (is_record n k) (not (met k) && linked n (adding k met) ks)).0 e in
     let q = (and-eq-true_iff (leb 1 k) (leb k n)).0 p.0 in
     let r = (and-eq-true_iff (not (met k)) (linked n (adding k met) ks)).0 p.1 in
     let one = count-adding n k met (leb-true 1 k q.0) (not-true (met k) r.0) in
@@ -169,18 +169,18 @@ count-linked n met (k ∷ ks) e =
     omega (arith, count-linked n (adding k met) ks r.1, one, b)
 
 -- All of 1 to n are in the set just where n of them are.
-upTo-count : (n : ℕ) (m : Numbers) → up_to n m ≡ eqb (count n m) n
+up_to-count : (n : ℕ) (m : Numbers) → up_to n m ≡ eqb (count n m) n
 unfolding up_to count bit
-upTo-count zero m = refl
-upTo-count (suc n) m = rw (upTo-count n m) (go (m (suc n)))
+up_to-count zero m = refl
+up_to-count (suc n) m = rw (up_to-count n m) (go (m (suc n)))
   where
     go : (t : Bool) → (t && eqb (count n m) n) ≡ eqb (bit t + count n m) (suc n)
     go true = let e : 1 + count n m ≡ suc (count n m) = omega arith in sym (rw e (eqb-suc-suc (count n m) n))
     go false = sym (ne_eqb (0 + count n m) (suc n) (λ q. omega (arith, count_most n m)))
 
 -- What is met after some records is them, and what was met before.
-adding-has : (ks : List ℕ) (met : Numbers) (k : ℕ) → addingAll ks met k ≡ (has ks k || met k)
-unfolding addingAll has
+adding-has : (ks : List ℕ) (met : Numbers) (k : ℕ) → adding_all ks met k ≡ (has ks k || met k)
+unfolding adding_all has
 adding-has [] met k = refl
 adding-has (j ∷ js) met k = rw (adding-has js (adding j met) k) (go (has js k) (eqb k j) (met k))
   where
@@ -190,7 +190,7 @@ adding-has (j ∷ js) met k = rw (adding-has js (adding j met) k) (go (has js k)
     go false true m = refl
     go false false m = refl
 
-has_all : (ks : List ℕ) → addingAll ks none ≡ has ks
+has_all : (ks : List ℕ) → adding_all ks none ≡ has ks
 has_all ks = fun_ext (λ k. adding-has ks none k ∙ or-false (has ks k))
 
 -- Records that are linked from nothing met are all of the image's just where there are as many.
@@ -198,7 +198,7 @@ pub met_all : (n : ℕ) (ks : List ℕ) → linked n none ks ≡ true → up_to 
 met_all n ks e =
     let c : count n (has ks) ≡ length ks =
     ap (count n) (sym (has_all ks)) ∙ count-linked n none ks e ∙ rw (count_none n, add-zero) in
-    upTo-count n (has ks) ∙ ap (λ x. eqb x n) c
+    up_to-count n (has ks) ∙ ap (λ x. eqb x n) c
 
 -- The test of a walk is the definition
 
@@ -210,27 +210,27 @@ closing true true true u q f = f refl
 
 -- The definition with its tests as `every`.
 pub well-linked-tests : (n : ℕ) (kss : List (List ℕ))
-    → wellLinked n kss
-    ≡ (every isShort kss && (every (isRecord n) (joined kss) && (distinct (joined kss) && up_to n (has (joined kss)))))
-unfolding wellLinked
-well-linked-tests n kss = rw (every-is isShort kss, every-is (isRecord n) (joined kss))
+    → well_linked n kss
+    ≡ (every is_short kss && (every (is_record n) (joined kss) && (distinct (joined kss) && up_to n (has (joined kss)))))
+unfolding well_linked
+well-linked-tests n kss = rw (every-is is_short kss, every-is (is_record n) (joined kss))
 
 -- Error 19 holds just where the chains are not good in turn from nothing met, or their lengths do not add up to n.
 pub well-linked-is : (n : ℕ) (kss : List (List ℕ))
-    → wellLinked n kss ≡ (goodAll n none kss && eqb (length (joined kss)) n)
+    → well_linked n kss ≡ (good_all n none kss && eqb (length (joined kss)) n)
 well-linked-is n kss =
     rw (well-linked-tests n kss, linked-none n (joined kss))
-    (closing (every isShort kss) (every (isRecord n) (joined kss)) (distinct (joined kss)) (up_to n (has (joined kss)))
+    (closing (every is_short kss) (every (is_record n) (joined kss)) (distinct (joined kss)) (up_to n (has (joined kss)))
     (eqb (length (joined kss)) n) (λ e. met_all n (joined kss) (linked-none n (joined kss) ∙ e)))
 
 -- One number less
 
-pub upTo-step : (n : ℕ) (m : Numbers) → 1 ≤ n → up_to n m ≡ (m n && up_to (n - 1) m)
+pub up_to-step : (n : ℕ) (m : Numbers) → 1 ≤ n → up_to n m ≡ (m n && up_to (n - 1) m)
 unfolding up_to
-upTo-step n m h =
+up_to-step n m h =
     let e : n ≡ suc (n - 1) = omega arith in
     subst (λ i. up_to i m ≡ (m i && up_to (n - 1) m)) (sym e) refl
 
-pub upTo-zero : (n : ℕ) (m : Numbers) → n ≡ 0 → up_to n m ≡ true
+pub up_to-zero : (n : ℕ) (m : Numbers) → n ≡ 0 → up_to n m ≡ true
 unfolding up_to
-upTo-zero n m e = rw e
+up_to-zero n m e = rw e

@@ -7,7 +7,7 @@ use native.Mathlib.Omega.{arith}
 use lib.ListN.{length}
 use borrow.Author.Tests.{le-leb, lt-leb}
 use Rattle.marks.specs.Marks.{Numbers, adding}
-use Rattle.chains.specs.Chain.{chain, chainOf, linked, addingAll, good, Walked}
+use Rattle.chains.specs.Chain.{chain, chain_of, linked, adding_all, good, Walked}
 
 -- 0 ends it.
 pub chain-end : (next : ℕ → ℕ) (f : ℕ) → chain next f 0 ≡ []
@@ -33,10 +33,10 @@ pub record Walking (next : ℕ → ℕ) (n : ℕ) (ks : List ℕ) (met₀ met : 
   pub passed : len ≤ 512
   pub links : linked n met₀ ks ≡ linked n met (chain next (513 - len) at)
   pub size : length ks ≡ len + length (chain next (513 - len) at)
-  pub marks : addingAll ks met₀ ≡ addingAll (chain next (513 - len) at) met
+  pub marks : adding_all ks met₀ ≡ adding_all (chain next (513 - len) at) met
 
 -- None is passed.
-pub starts : (next : ℕ → ℕ) (n : ℕ) (met : Numbers) (first : ℕ) → Walking next n (chainOf next first) met met first 0
+pub starts : (next : ℕ → ℕ) (n : ℕ) (met : Numbers) (first : ℕ) → Walking next n (chain_of next first) met met first 0
 starts next n met first = record { passed = omega arith; links = refl; size = omega arith; marks = refl }
 
 -- A chain that is not good is refused, whatever is marked by then.
@@ -50,12 +50,12 @@ module _ (next : ℕ → ℕ) (n : ℕ) (ks : List ℕ) (met₀ met : Numbers) (
 
   -- The chain ends here.
   pub ends : at ≡ 0 → (met' : Numbers) → met' ≡ met → Walked n ks met₀ met' len
-  unfolding linked addingAll
+  unfolding linked adding_all
   ends e met' m =
       let none : left ≡ [] = rw (e, chain-end next (513 - len)) in
       let s : length ks ≡ len = omega (arith, w.size, ap length none) in
       let l : linked n met₀ ks ≡ true = w.links ∙ rw none in
-      let a : addingAll ks met₀ ≡ met = w.marks ∙ rw none in
+      let a : adding_all ks met₀ ≡ met = w.marks ∙ rw none in
       record { answer = rw (l, s, le-leb len 512 w.passed); marks = λ g. m ∙ sym a }
 
   module _ (h : 1 ≤ at) where
@@ -88,7 +88,7 @@ module _ (next : ℕ → ℕ) (n : ℕ) (ks : List ℕ) (met₀ met : Numbers) (
       -- The walk goes on.
       pub on : met at ≡ false → len < 512 → (met' : Numbers) → met' ≡ adding at met → (at' : ℕ) → at' ≡ next at
           → Walking next n ks met₀ met' at' (len + 1)
-      unfolding linked addingAll
+      unfolding linked adding_all
       on e l met' m at' a =
           let f : 513 - (len + 1) ≡ 512 - len = omega arith in
           record {

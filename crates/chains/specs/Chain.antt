@@ -12,20 +12,20 @@ chain next (suc steps) zero = []
 chain next (suc steps) (suc k) = suc k ∷ chain next steps (next (suc k))
 
 -- The chain that starts with the record `first`. One that "passes 512 entries" is told by its 513th.
-abbrev pub chainOf : (ℕ → ℕ) → ℕ → List ℕ
-chainOf next first = chain next 513 first
+abbrev pub chain_of : (ℕ → ℕ) → ℕ → List ℕ
+chain_of next first = chain next 513 first
 
 -- It does not pass 512 entries.
-abbrev pub isShort : List ℕ → Bool
-isShort ks = leb (length ks) 512
+abbrev pub is_short : List ℕ → Bool
+is_short ks = leb (length ks) 512
 
 -- The chains that start with these records.
-unfoldable pub chainsOf : (ℕ → ℕ) → List ℕ → List (List ℕ)
-chainsOf next firsts = map (chainOf next) firsts
+unfoldable pub chains_of : (ℕ → ℕ) → List ℕ → List (List ℕ)
+chains_of next firsts = map (chain_of next) firsts
 
 -- A record of an image of n, "numbered from 1".
-abbrev pub isRecord : ℕ → ℕ → Bool
-isRecord n k = leb 1 k && leb k n
+abbrev pub is_record : ℕ → ℕ → Bool
+is_record n k = leb 1 k && leb k n
 
 -- What chains meet, one after the other.
 unfoldable pub joined : List (List ℕ) → List ℕ
@@ -49,31 +49,31 @@ up_to (suc n) m = m (suc n) && up_to n m
 
 -- Not "a chain points past the last record or passes 512 entries, or a record is met twice, by one chain or two, or not
 -- at all" (error 19), of the chains of an image of n records.
-unfoldable pub wellLinked : ℕ → List (List ℕ) → Bool
-wellLinked n kss =
-    R.every (map isShort kss)
-    && (R.every (map (isRecord n) (joined kss)) && (distinct (joined kss) && up_to n (has (joined kss))))
+unfoldable pub well_linked : ℕ → List (List ℕ) → Bool
+well_linked n kss =
+    R.every (map is_short kss)
+    && (R.every (map (is_record n) (joined kss)) && (distinct (joined kss) && up_to n (has (joined kss))))
 
 -- One chain after others (for the contract of the walk alone)
 
 -- The chain ks after those that met the records `met`: its records are the image's, new, and none of them twice.
 unfoldable pub linked : ℕ → Numbers → List ℕ → Bool
 linked n met [] = true
-linked n met (k ∷ ks) = isRecord n k && (not (met k) && linked n (adding k met) ks)
+linked n met (k ∷ ks) = is_record n k && (not (met k) && linked n (adding k met) ks)
 
 -- The records met after it.
-unfoldable pub addingAll : List ℕ → Numbers → Numbers
-addingAll [] met = met
-addingAll (k ∷ ks) met = addingAll ks (adding k met)
+unfoldable pub adding_all : List ℕ → Numbers → Numbers
+adding_all [] met = met
+adding_all (k ∷ ks) met = adding_all ks (adding k met)
 
 -- It gives no reason for error 19 so far.
 abbrev pub good : ℕ → Numbers → List ℕ → Bool
-good n met ks = linked n met ks && isShort ks
+good n met ks = linked n met ks && is_short ks
 
 -- What a walk of it answers, its length or 513, and what is met after a good one.
 pub record Walked (n : ℕ) (ks : List ℕ) (met met' : Numbers) (r : ℕ) : Type 0 where
   pub answer : r ≡ cond (good n met ks) (length ks) 513
-  pub marks : good n met ks ≡ true → met' ≡ addingAll ks met
+  pub marks : good n met ks ≡ true → met' ≡ adding_all ks met
 
 -- All of xs pass the test p: what the model's `every` says of their tests (`every-is`).
 unfoldable pub every : {A : Type 0} → (A → Bool) → List A → Bool

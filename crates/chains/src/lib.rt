@@ -4,8 +4,8 @@
 
 ghost use Rattle.std.specs.Prelude.{◌≡◌, ◌+◌, ◌*◌, ◌<◌, ◌≤◌, length, replicate};
 ghost use Rattle.marks.specs.Marks.{none, most, room, marked};
-ghost use Rattle.chains.specs.Image.{next_of, epochOf, first_of, firstsOf, epochsFit};
-ghost use Rattle.chains.specs.Chain.{chainOf, chainsOf, Walked, wellLinked};
+ghost use Rattle.chains.specs.Image.{next_of, epoch_of, first_of, firsts_of, epochs_fit};
+ghost use Rattle.chains.specs.Chain.{chain_of, chains_of, Walked, well_linked};
 
 // The record after the record k. Inner layer: callers see to k.
 pub fn next(image: &[u8], k: usize) -> usize
@@ -18,7 +18,7 @@ pub fn next(image: &[u8], k: usize) -> usize
 // The epoch of the record k. Inner layer: callers see to k.
 pub fn term(image: &[u8], k: usize) -> u16
     requires { 8 * k + 258 ≤ length image.now }
-    ensures { result ≡ epochOf image.now k }
+    ensures { result ≡ epoch_of image.now k }
 {
     fields::two_at(image, 8 * k + 254)
 }
@@ -39,7 +39,7 @@ pub fn first(image: &[u8], b: usize) -> usize
 // passes 512 entries, or meets a record again. Callers see to the lengths.
 fn walk(image: &[u8], n: usize, first: usize, scratch: &mut [u8]) -> usize
     requires { (length image.now ≡ 8 * n + 258) × (n ≤ most) × (room ≤ length scratch.old) }
-    ensures { Walked n (chainOf (next_of image.now) first)
+    ensures { Walked n (chain_of (next_of image.now) first)
         (marked scratch.old) (marked scratch.new) result }
 {
     let mut at = first;
@@ -65,7 +65,7 @@ fn walk(image: &[u8], n: usize, first: usize, scratch: &mut [u8]) -> usize
 fn walk_all(image: &[u8], n: usize, scratch: &mut [u8]) -> bool
     requires { (length image.now ≡ 8 * n + 258) × (n ≤ most)
         × (room ≤ length scratch.old) × (marked scratch.old ≡ none) }
-    ensures { result ≡ wellLinked n (chainsOf (next_of image.now) (firstsOf image.now)) }
+    ensures { result ≡ well_linked n (chains_of (next_of image.now) (firsts_of image.now)) }
 {
     let mut b: usize = 0;
     let mut total: usize = 0;
@@ -85,7 +85,7 @@ fn walk_all(image: &[u8], n: usize, scratch: &mut [u8]) -> bool
 // see to the lengths.
 pub fn well_linked(image: &[u8], n: usize, scratch: &mut [u8]) -> bool
     requires { (length image.now ≡ 8 * n + 258) × (n ≤ most) × (room ≤ length scratch.old) }
-    ensures { (result ≡ wellLinked n (chainsOf (next_of image.now) (firstsOf image.now)))
+    ensures { (result ≡ well_linked n (chains_of (next_of image.now) (firsts_of image.now)))
         × (scratch.new ≡ replicate (length scratch.old) 0) }
 {
     marks::clear(&mut *scratch);
@@ -98,7 +98,7 @@ pub fn well_linked(image: &[u8], n: usize, scratch: &mut [u8]) -> bool
 // length.
 pub fn epochs_fit(image: &[u8], n: usize) -> bool
     requires { length image.now ≡ 8 * n + 258 }
-    ensures { result ≡ epochsFit n image.now }
+    ensures { result ≡ epochs_fit n image.now }
 {
     let mut k = n;
     while k > 0 {

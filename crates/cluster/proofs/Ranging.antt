@@ -8,12 +8,12 @@ use lib.Dec.{leb}
 use lib.ListN.{drop, get_or}
 use Rattle.model.specs.Members.{Members}
 use Rattle.model.specs.State.{Outline}
-use Rattle.model.specs.Ranges.{every, eight, isEpoch, viewRanges, replicaRanges, leaderNamed, controllerLeaderNamed, in_range}
+use Rattle.model.specs.Ranges.{every, eight, is_epoch, view_ranges, replica_ranges, leader_named, controller_leader_named, in_range}
 use Rattle.model.proofs.Tests.{of-true}
 use Rattle.model.proofs.Quorum.{by-replica}
 use Rattle.members.proofs.Laws.{replica}
 use Rattle.cluster.specs.declared.Cluster.{Cluster}
-use Rattle.cluster.specs.Layout.{view_of, no_view, atPair, outlineOf}
+use Rattle.cluster.specs.Layout.{view_of, no_view, at_pair, outline_of}
 use Rattle.cluster.proofs.Laws.{at-index}
 
 -- The tests of the replicas above b.
@@ -47,25 +47,25 @@ pub and-rest : (a : Bool) {r b y : Bool} → r ≡ (a && b) → b ≡ y → r �
 and-rest a e q = e ∙ ap (λ x. a && x) q
 
 -- A count's place.
-pub at_pair : (xs : List ℕ) (a b : ℕ) → 1 ≤ a → a ≤ 8 → 1 ≤ b → b ≤ 8
-    → atPair xs a b ≡ get_or xs (8 * (a - 1) + (b - 1)) 0
-at_pair xs a b h k i j = rw (replica a h k, replica b i j)
+pub at_pair_lem : (xs : List ℕ) (a b : ℕ) → 1 ≤ a → a ≤ 8 → 1 ≤ b → b ≤ 8
+    → at_pair xs a b ≡ get_or xs (8 * (a - 1) + (b - 1)) 0
+at_pair_lem xs a b h k i j = rw (replica a h k, replica b i j)
 
 -- The tests of one replica, by its places.
 module _ (row : Cluster) (b : ℕ) (h : 1 ≤ b) where
   abbrev i : ℕ
   i = b - 1
 
-  abbrev pub placeTests : Bool
-  placeTests =
-      every (viewRanges (view_of (get_or row.views i no_view)))
-      && (isEpoch (get_or row.joined i 0)
+  abbrev pub place_tests : Bool
+  place_tests =
+      every (view_ranges (view_of (get_or row.views i no_view)))
+      && (is_epoch (get_or row.joined i 0)
       && (leb (get_or row.len i 0) 512
       && (leb (get_or row.controller.heard i 0) 513
       && (leb (get_or row.controller.joined i 0) 4000
-      && every (eight (λ x. leb (atPair row.acked b x) 512))))))
+      && every (eight (λ x. leb (at_pair row.acked b x) 512))))))
 
-  pub replica-tests : (r : Bool) → r ≡ placeTests → r ≡ every (replicaRanges (outlineOf row) b)
+  pub replica-tests : (r : Bool) → r ≡ place_tests → r ≡ every (replica_ranges (outline_of row) b)
   replica-tests r e =
       e ∙ rw (
         at-index no_view row.views b h,
@@ -73,22 +73,22 @@ module _ (row : Cluster) (b : ℕ) (h : 1 ≤ b) where
         at-index 0 row.len b h,
         at-index 0 row.controller.heard b h,
         at-index 0 row.controller.joined b h,
-        and-true (every (eight (λ x. leb (atPair row.acked b x) 512))),
+        and-true (every (eight (λ x. leb (at_pair row.acked b x) 512))),
       )
 
 -- The tests of a row, the last without the end of the list.
 module _ (row : Cluster) where
   abbrev m : Outline
-  m = outlineOf row
+  m = outline_of row
 
-  abbrev pub rowTests : Bool
-  rowTests =
-      every (viewRanges m.registry.view)
-      && (every (viewRanges m.controller.view)
-      && (leaderNamed m.registry
-      && (controllerLeaderNamed m.controller
+  abbrev pub row_tests : Bool
+  row_tests =
+      every (view_ranges m.registry.view)
+      && (every (view_ranges m.controller.view)
+      && (leader_named m.registry
+      && (controller_leader_named m.controller
       && (leb m.issued 512
-      && every (eight (λ b. every (replicaRanges m b)))))))
+      && every (eight (λ b. every (replica_ranges m b)))))))
 
-  pub row-tests : (r : Bool) → r ≡ rowTests → r ≡ in_range m
-  row-tests r e = e ∙ rw (and-true (every (eight (λ b. every (replicaRanges m b)))))
+  pub row-tests : (r : Bool) → r ≡ row_tests → r ≡ in_range m
+  row-tests r e = e ∙ rw (and-true (every (eight (λ b. every (replica_ranges m b)))))

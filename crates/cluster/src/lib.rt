@@ -4,7 +4,7 @@
 ghost use Rattle.std.specs.Prelude.{◌≡◌, true, cond, ◌≤◌, suc, ltb};
 ghost use Rattle.model.specs.Members as Q;
 ghost use Rattle.model.specs.State as M;
-ghost use Rattle.cluster.specs.Layout.{statusOf, stageOf};
+ghost use Rattle.cluster.specs.Layout.{status_of, stage_of};
 
 pub mod ranges;
 
@@ -96,14 +96,14 @@ pub struct Settled {
 
 // Whether b is a replica.
 pub fn replica(b: u8) -> bool
-    ensures { result ≡ Q.isReplica b }
+    ensures { result ≡ Q.is_replica b }
 {
     1 <= b && b <= 8
 }
 
 // A replica in any case, and b if b is one: so that a refused number is no index either.
 pub fn seat(b: u8) -> u8
-    ensures { (1 ≤ result) × (result ≤ 8) × (Q.isReplica b ≡ true → result ≡ b) }
+    ensures { (1 ≤ result) × (result ≤ 8) × (Q.is_replica b ≡ true → result ≡ b) }
 {
     (b % 16 + 7) % 8 + 1
 }
@@ -124,7 +124,7 @@ pub fn raised(e: u16) -> u16
 
 // Whether the registry is choosing.
 pub fn choosing(g: Status) -> bool
-    ensures { result ≡ M.isChoosing (statusOf g) }
+    ensures { result ≡ M.is_choosing (status_of g) }
 {
     match g {
         Status::Normal => false,
@@ -135,7 +135,7 @@ pub fn choosing(g: Status) -> bool
 
 // Whether the registry is normal.
 pub fn normal(g: Status) -> bool
-    ensures { result ≡ M.isNormal (statusOf g) }
+    ensures { result ≡ M.is_normal (status_of g) }
 {
     match g {
         Status::Normal => true,
@@ -146,7 +146,7 @@ pub fn normal(g: Status) -> bool
 
 // A stage by its place in document 01's list.
 pub fn number(g: Stage) -> u8
-    ensures { result ≡ M.stageNumber (stageOf g) }
+    ensures { result ≡ M.stage_number (stage_of g) }
 {
     match g {
         Stage::Idle => 0,

@@ -1,8 +1,8 @@
 // Refusal 1: whether a row's numbers are in the ranges of document 01, and the leaders that must be named are.
 
 ghost use Rattle.std.specs.Prelude.{◌≡◌, ◌&&◌, ◌||◌, ◌≤◌, leb, eqb};
-ghost use Rattle.model.specs.Ranges.{every, eight, isEpoch, viewRanges, leaderNamed, controllerLeaderNamed, replicaRanges, in_range};
-ghost use Rattle.cluster.specs.Layout.{view_of, registryOf, controllerOf, atPair, outlineOf};
+ghost use Rattle.model.specs.Ranges.{every, eight, is_epoch, view_ranges, leader_named, controller_leader_named, replica_ranges, in_range};
+ghost use Rattle.cluster.specs.Layout.{view_of, registry_of, controller_of, at_pair, outline_of};
 
 use crate::{Cluster, Controller, Registry, View, choosing, number};
 
@@ -22,14 +22,14 @@ pub fn either(a: bool, b: bool) -> bool
 
 // An epoch, 1 to 4,000.
 pub fn epoch(e: u16) -> bool
-    ensures { result ≡ isEpoch e }
+    ensures { result ≡ is_epoch e }
 {
     both(1 <= e, e <= 4000)
 }
 
 // A view's numbers; its members may be any set.
 pub fn view(v: View) -> bool
-    ensures { result ≡ every (viewRanges (view_of v)) }
+    ensures { result ≡ every (view_ranges (view_of v)) }
 {
     let t = both(epoch(v.term), v.leader <= 8);
     both(epoch(v.epoch), t)
@@ -38,7 +38,7 @@ pub fn view(v: View) -> bool
 // The counts of a.
 fn counts(acked: [u16; 64], a: u8) -> bool
     requires { (1 ≤ a) × (a ≤ 8) }
-    ensures { result ≡ every (eight (λ x. leb (atPair acked a x) 512)) }
+    ensures { result ≡ every (eight (λ x. leb (at_pair acked a x) 512)) }
 {
     let row = 8 * ((a - 1) as usize);
     let mut ok = true;
@@ -55,7 +55,7 @@ fn counts(acked: [u16; 64], a: u8) -> bool
 // What is held by and heard of the replica b.
 fn replica_in(row: Cluster, b: u8) -> bool
     requires { (1 ≤ b) × (b ≤ 8) }
-    ensures { result ≡ every (replicaRanges (outlineOf row) b) }
+    ensures { result ≡ every (replica_ranges (outline_of row) b) }
 {
     let i = (b - 1) as usize;
     let acked = row.acked;
@@ -79,7 +79,7 @@ fn replica_in(row: Cluster, b: u8) -> bool
 
 // Of all replicas.
 fn replicas_in(row: Cluster) -> bool
-    ensures { result ≡ every (eight (λ b. every (replicaRanges (outlineOf row) b))) }
+    ensures { result ≡ every (eight (λ b. every (replica_ranges (outline_of row) b))) }
 {
     let mut ok = true;
     let mut b = 8u8;
@@ -92,7 +92,7 @@ fn replicas_in(row: Cluster) -> bool
 
 // The registry names a leader unless it is choosing.
 pub fn named(g: Registry) -> bool
-    ensures { result ≡ leaderNamed (registryOf g) }
+    ensures { result ≡ leader_named (registry_of g) }
 {
     let v = g.view;
     let s = g.status;
@@ -101,7 +101,7 @@ pub fn named(g: Registry) -> bool
 
 // The controller has a leader at stage leader and at stage boards.
 pub fn reads(c: Controller) -> bool
-    ensures { result ≡ controllerLeaderNamed (controllerOf c) }
+    ensures { result ≡ controller_leader_named (controller_of c) }
 {
     let v = c.view;
     let s = c.stage;
@@ -111,7 +111,7 @@ pub fn reads(c: Controller) -> bool
 
 // Refusal 1 of a row's numbers; that of its kept epochs is `kept`.
 pub fn in_range(row: Cluster) -> bool
-    ensures { result ≡ in_range (outlineOf row) }
+    ensures { result ≡ in_range (outline_of row) }
 {
     let g = row.registry;
     let v = g.view;

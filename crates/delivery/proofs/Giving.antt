@@ -8,7 +8,7 @@ use lib.ListN.{length}
 use borrow.Author.Tests.{le-leb, lt-leb}
 use Rattle.model.specs.Records.{Record}
 use Rattle.text.specs.Text.{Text, Wrote}
-use Rattle.records.specs.Bytes.{sheetBytes}
+use Rattle.records.specs.Bytes.{sheet_bytes}
 use Rattle.recovery.specs.Plan.{found, error}
 use Rattle.delivery.specs.Delivery.{delivered, Gives}
 
@@ -20,7 +20,7 @@ module _ (list : List Record) (out : Text) where
       (record { answer = refl; count = refl; left = refl })
 
   pub gives-list : (ok : Bool) → ok && leb (length list) 2064 ≡ true → (n : ℕ) → n ≡ length list → {r : ℕ} {out' : Text}
-      → Wrote out 0 (sheetBytes list) out' r → Gives (delivered ok list) out (record { answer = 0; count = n }) out'
+      → Wrote out 0 (sheet_bytes list) out' r → Gives (delivered ok list) out (record { answer = 0; count = n }) out'
   gives-list ok e n en {r} {out'} w =
       subst (λ t. Gives (cond t (found list) error) out (record { answer = 0; count = n }) out') (sym e)
       (record { answer = refl; count = en; left = w.text })

@@ -3,7 +3,7 @@
 use Rattle.std.specs.Prelude.{Bool, cond, ◌&&◌, List, ◌≡◌, ℕ, leb, length}
 use Rattle.model.specs.Records.{Record}
 use Rattle.text.specs.Text.{Text, over}
-use Rattle.records.specs.Bytes.{sheetBytes}
+use Rattle.records.specs.Bytes.{sheet_bytes}
 use Rattle.recovery.specs.Plan.{Plan, found, error}
 use Rattle.delivery.specs.declared.Planned.{Planned}
 
@@ -16,23 +16,23 @@ abbrev pub enough : Text → Bool
 enough out = leb 16512 (length out)
 
 -- What a list answers: 0, or error 20.
-abbrev pub planAnswer : Plan → ℕ
-planAnswer (found list) = 0
-planAnswer error = 20
+abbrev pub plan_answer : Plan → ℕ
+plan_answer (found list) = 0
+plan_answer error = 20
 
 -- "The records that lead to normal, and their number."
-abbrev pub planCount : Plan → ℕ
-planCount (found list) = length list
-planCount error = 0
+abbrev pub plan_count : Plan → ℕ
+plan_count (found list) = length list
+plan_count error = 0
 
 -- What it leaves in a slice that has the room: its records, byte for byte, from the first place on; "a refusal leaves it
 -- untouched".
-abbrev pub planLeft : Plan → Text → Text
-planLeft (found list) out = over out 0 (sheetBytes list)
-planLeft error out = out
+abbrev pub plan_left : Plan → Text → Text
+plan_left (found list) out = over out 0 (sheet_bytes list)
+plan_left error out = out
 
 -- The list q was given out: the answer and the number of x, and all that the slice holds then.
 pub record Gives (q : Plan) (out : Text) (x : Planned) (out' : Text) : Type 0 where
-  pub answer : x.answer ≡ planAnswer q
-  pub count : x.count ≡ planCount q
-  pub left : out' ≡ planLeft q out
+  pub answer : x.answer ≡ plan_answer q
+  pub count : x.count ≡ plan_count q
+  pub left : out' ≡ plan_left q out

@@ -7,8 +7,8 @@ use lib.ListN.{length}
 use borrow.Author.Tests.{eq-eqb, ne_eqb}
 use Rattle.model.specs.Records.{Record}
 use Rattle.text.specs.Text.{Text, Delivered}
-use Rattle.records.specs.Bytes.{recordAt}
-use Rattle.phrases.specs.Phrases.{isListed}
+use Rattle.records.specs.Bytes.{record_at}
+use Rattle.phrases.specs.Phrases.{is_listed}
 use Rattle.phrases.specs.Line.{line}
 use Rattle.phrases.specs.Describe.{result, left}
 
@@ -22,12 +22,12 @@ module _ (s : Text) (a : ℕ) (out : Text) where
   not_eight h = (rw (ne_eqb (length s) 8 h), rw (ne_eqb (length s) 8 h))
 
   module _ (e : length s ≡ 8) where
-    pub not_listed : isListed a ≡ false → Described s a out out 1
+    pub not_listed : is_listed a ≡ false → Described s a out out 1
     unfolding result left
     not_listed h = (rw (eq-eqb (length s) 8 e, h), rw (eq-eqb (length s) 8 e, h))
 
     -- The line, delivered.
-    pub described : {r : Record} {out' : Text} {x : ℕ} → isListed a ≡ true → r ≡ recordAt s
+    pub described : {r : Record} {out' : Text} {x : ℕ} → is_listed a ≡ true → r ≡ record_at s
         → Delivered (line r a) out out' x → Described s a out out' x
     unfolding result left
     described {r} {out'} {x} h q d =

@@ -17,8 +17,8 @@ use Rattle.cluster.specs.declared.Controller.{Controller}
 use Rattle.cluster.specs.declared.Cluster.{Cluster}
 use Rattle.cluster.specs.declared.Outcome.{Outcome}
 use Rattle.cluster.specs.declared.Settled.{Settled}
-use Rattle.cluster.specs.Layout.{no_view, outlineOf}
-use Rattle.refinement.specs.Refinement.{Places, Full, abs, row_of, Ready, placesAfter, Turns, Leaves}
+use Rattle.cluster.specs.Layout.{no_view, outline_of}
+use Rattle.refinement.specs.Refinement.{Places, Full, abs, row_of, Ready, places_after, Turns, Leaves}
 use Rattle.refinement.proofs.Turning.{turns-refused, set-idle}
 use Rattle.dispatch.specs.Send.{Sends}
 
@@ -51,12 +51,12 @@ module _ (row : Cluster) (p : Places) (x : Outcome) (p' : Places) where
   as-malformed : (st : Step) → ((m : Outline) → answer_of m st ≡ 1) → ((m : Outline) → accepted m st ≡ false) → P st
       → P malformed
   as-malformed st one never k = record {
-    answer = k.answer ∙ one (outlineOf row);
-    behind = k.behind ∙ ap (λ t. cond t (qualified (outlineOf row) st) none) (never (outlineOf row));
+    answer = k.answer ∙ one (outline_of row);
+    behind = k.behind ∙ ap (λ t. cond t (qualified (outline_of row) st) none) (never (outline_of row));
     state = k.state ∙ ap (λ t. cond t (next entries (abs row p) st) (abs row p)) (never (outline (abs row p)));
     short = k.short;
     issued = k.issued;
-    places = k.places ∙ ap (λ t. cond t (placesAfter st row p) p) (never (outlineOf row));
+    places = k.places ∙ ap (λ t. cond t (places_after st row p) p) (never (outline_of row));
     refused = k.refused;
   }
 
@@ -99,5 +99,5 @@ module _ (row : Cluster) (p : Places) (x : Outcome) (p' : Places) where
         go false q r u _ = k
 
 -- A number above 15 is no step.
-pub no_step : (r : Record) (n : ℕ) → 16 ≤ n → get_or (rules r) n malformed ≡ malformed
-no_step r n h = get_or-eq_default (rules r) malformed {n = n} h
+pub no_step_lem : (r : Record) (n : ℕ) → 16 ≤ n → get_or (rules r) n malformed ≡ malformed
+no_step_lem r n h = get_or-eq_default (rules r) malformed {n = n} h

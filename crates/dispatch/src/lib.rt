@@ -3,7 +3,7 @@
 
 ghost use Rattle.model.specs.Records as R;
 ghost use Rattle.refinement.specs.Refinement.{lent, Full, row_of, Ready};
-ghost use Rattle.records.specs.Record.{recordOf};
+ghost use Rattle.records.specs.Record.{record_of};
 ghost use Rattle.dispatch.specs.Send.{Sends};
 
 use cluster::{Controller, Registry, Settled, View};
@@ -37,7 +37,7 @@ pub fn send(
 ) -> Sent
     requires { Ready (row_of g c views joined.old acked.old len.old issued)
         × Full (lent store.old store2.old list.old list2.old) }
-    ensures { Sends (R.step_of (recordOf r))
+    ensures { Sends (R.step_of (record_of r))
         g c views issued joined.old acked.old len.old
         (lent store.old store2.old list.old list2.old)
         result joined.new acked.new len.new

@@ -8,14 +8,14 @@ use native.Mathlib.Omega.{arith}
 use lib.ListN.{length}
 use Rattle.model.specs.Prelude.{upd}
 use Rattle.model.specs.Members.{Members, size, quorum}
-use Rattle.model.specs.State.{Entry, entries, RowState, Status, normal, waiting, isNormal, isChoosing}
+use Rattle.model.specs.State.{Entry, entries, RowState, Status, normal, waiting, is_normal, is_choosing}
 use Rattle.model.specs.Records.{Record, bare, of}
 use Rattle.members.specs.Mask.{bits}
 use Rattle.cluster.specs.declared.Cluster.{Cluster}
-use Rattle.cluster.specs.Layout.{controllerOf}
+use Rattle.cluster.specs.Layout.{controller_of}
 use Rattle.refinement.specs.Refinement.{Places, abs}
 use Rattle.text.specs.Text.{Text}
-use Rattle.recovery.specs.Plan.{first_of, highest, start, turns, found, error, put, putUnless, need, informsController, hears, choosingPart, informs, follows, readsLeader, waitingPart, draft, plan}
+use Rattle.recovery.specs.Plan.{first_of, highest, start, turns, found, error, put, put_unless, need, informs_controller, hears, choosing_part, informs, follows, reads_leader, waiting_part, draft, plan}
 use Rattle.recovery.specs.Plan as P
 use Rattle.orders.specs.Orders.{orders}
 use Rattle.pieces.specs.declared.Draft.{Draft}
@@ -72,7 +72,7 @@ need-moves t d p o f = record {
 
 -- The choosing part, of the boards q.
 chosen : Members → P.Draft Entry → P.Draft Entry
-chosen q m = let e = turns 8 q (hears entries) (informsController entries m) in
+chosen q m = let e = turns 8 q (hears entries) (informs_controller entries m) in
     put entries (of 15 (highest e.state.controller q)) e
 
 module _ (d : Draft) (p : Places) (o : Text) where
@@ -81,21 +81,21 @@ module _ (d : Draft) (p : Places) (o : Text) where
 
   pub choosing-moves : (q : ℕ) → bits q ≡ first_of (quorum (size members)) members
       → {e f x : Draft} {p₁ p₂ p₃ : Places} {o₁ o₂ o₃ : Text}
-      → Moves 1 (putUnless entries 12 (bare 10)) d p o e p₁ o₁
+      → Moves 1 (put_unless entries 12 (bare 10)) d p o e p₁ o₁
       → Moves 16 (turns 8 (bits q) (hears entries)) e p₁ o₁ f p₂ o₂
-      → (b : ℕ) → b ≡ highest (controllerOf f.row.controller) (bits q)
-      → Moves 1 (put entries (of 15 b)) f p₂ o₂ x p₃ o₃ → Moves 18 (choosingPart entries) d p o x p₃ o₃
-  unfolding choosingPart chosen informsController
+      → (b : ℕ) → b ≡ highest (controller_of f.row.controller) (bits q)
+      → Moves 1 (put entries (of 15 b)) f p₂ o₂ x p₃ o₃ → Moves 18 (choosing_part entries) d p o x p₃ o₃
+  unfolding choosing_part chosen informs_controller
   choosing-moves q eq {e} {f} {x} {p₁} {p₂} {p₃} {o₁} {o₂} {o₃} h j b eb k = record {
     fit = k.fit;
     room = k.room ∙ j.room ∙ h.room;
     few = omega (arith, k.few, j.few, h.few);
     stands = λ m s.
-        let n = turns 8 (bits q) (hears entries) (putUnless entries 12 (bare 10) m) in
+        let n = turns 8 (bits q) (hears entries) (put_unless entries 12 (bare 10) m) in
         let z : Stands n f p₂ o₂ = j.stands _ (h.stands m s) in
         let named : b ≡ highest n.state.controller (bits q) =
         eb ∙ ap (λ (t : RowState). highest t.controller (bits q)) z.plays.state in
-        let whole : put entries (of 15 b) n ≡ choosingPart entries m =
+        let whole : put entries (of 15 b) n ≡ choosing_part entries m =
         ap (λ i. put entries (of 15 i) n) named
         ∙ ap (λ g. chosen g m) (eq ∙ ap (λ (t : RowState). first_of (quorum (size t.registry.view.members))
         t.registry.view.members) s.plays.state) in
@@ -104,18 +104,18 @@ module _ (d : Draft) (p : Places) (o : Text) where
 
 -- Up to the leader's reading: the controller, the leader l and the members m.
 prepared : ℕ → Members → P.Draft Entry → P.Draft Entry
-prepared l m w = readsLeader entries (informs entries l l (informsController entries (need entries (m l) w)))
+prepared l m w = reads_leader entries (informs entries l l (informs_controller entries (need entries (m l) w)))
 
 pub prepare-moves : (l m : ℕ) {d e f x : Draft} {p p₁ p₂ p₃ : Places} {o o₁ o₂ o₃ : Text} → Fit d.row p
     → (t : Bool) → t ≡ bits m l
-    → Moves 1 (putUnless entries 12 (bare 10)) (record { row = d.row; count = d.count; ok = d.ok && t }) p o e p₁ o₁
+    → Moves 1 (put_unless entries 12 (bare 10)) (record { row = d.row; count = d.count; ok = d.ok && t }) p o e p₁ o₁
     → Moves 1 (informs entries l l) e p₁ o₁ f p₂ o₂
-    → Moves 1 (readsLeader entries) f p₂ o₂ x p₃ o₃
-    → Moves 3 (λ w. readsLeader entries (informs entries l l (informsController entries (need entries (bits m l) w))))
+    → Moves 1 (reads_leader entries) f p₂ o₂ x p₃ o₃
+    → Moves 3 (λ w. reads_leader entries (informs entries l l (informs_controller entries (need entries (bits m l) w))))
     d p o x p₃ o₃
-unfolding informsController
+unfolding informs_controller
 prepare-moves l m {d} {p = p} {o = o} fit t e me mf mx =
-    moves-as (λ w s. ap (λ u. readsLeader entries (informs entries l l (informsController entries (need entries u w)))) e)
+    moves-as (λ w s. ap (λ u. reads_leader entries (informs entries l l (informs_controller entries (need entries u w)))) e)
     (moves-then (moves-then (moves-then (need-moves t d p o fit) me) mf) mx)
 
 -- The waiting part, for the leader l, the members m and the boards q.
@@ -129,12 +129,12 @@ module _ (d : Draft) (p : Places) (o : Text) where
 
   pub waiting-moves : (q : ℕ) → bits q ≡ first_of (quorum (size (members d p o)) - 1) (upd (members d p o) leader false)
       → {e f x : Draft} {p₁ p₂ p₃ : Places} {o₁ o₂ o₃ : Text}
-      → Moves 3 (λ w. readsLeader entries (informs entries leader leader
-      (informsController entries (need entries (members d p o leader) w)))) d p o e p₁ o₁
+      → Moves 3 (λ w. reads_leader entries (informs entries leader leader
+      (informs_controller entries (need entries (members d p o leader) w)))) d p o e p₁ o₁
       → Moves 32 (turns 8 (bits q) (follows entries leader)) e p₁ o₁ f p₂ o₂
       → Moves 1 (put entries (bare 13)) f p₂ o₂ x p₃ o₃
-      → Moves 36 (waitingPart entries) d p o x p₃ o₃
-  unfolding waitingPart waited prepared
+      → Moves 36 (waiting_part entries) d p o x p₃ o₃
+  unfolding waiting_part waited prepared
   waiting-moves q eq me mf mx =
       moves-as (λ w s.
       ap (λ r. waited leader (members d p o) r w) eq
@@ -155,20 +155,20 @@ module _ (s : RowState) (d : P.Draft Entry) where
   abbrev status : Status
   status = s.registry.status
 
-  when-normal : (g : Status) → isNormal g ≡ true → draft entries g d ≡ d
+  when-normal : (g : Status) → is_normal g ≡ true → draft entries g d ≡ d
   unfolding draft
   when-normal normal e = refl
   when-normal waiting e = absurd (false≢true e)
   when-normal Status.choosing e = absurd (false≢true e)
 
-  when-choosing : (g : Status) → isChoosing g ≡ true
-      → draft entries g d ≡ waitingPart entries (choosingPart entries d)
+  when-choosing : (g : Status) → is_choosing g ≡ true
+      → draft entries g d ≡ waiting_part entries (choosing_part entries d)
   unfolding draft
   when-choosing normal e = absurd (false≢true e)
   when-choosing waiting e = absurd (false≢true e)
   when-choosing Status.choosing e = refl
 
-  when-waiting : (g : Status) → isNormal g ≡ false → isChoosing g ≡ false → draft entries g d ≡ waitingPart entries d
+  when-waiting : (g : Status) → is_normal g ≡ false → is_choosing g ≡ false → draft entries g d ≡ waiting_part entries d
   unfolding draft
   when-waiting normal e f = absurd (true≢false e)
   when-waiting waiting e f = refl
@@ -181,15 +181,15 @@ module _ (row : Cluster) (p : Places) (o : Text) where
   abbrev stood : RowState
   stood = abs row p
 
-  pub drafts-nothing : isNormal stood.registry.status ≡ true → Drafted stood o first p o
+  pub drafts-nothing : is_normal stood.registry.status ≡ true → Drafted stood o first p o
   drafts-nothing e = record {
     room = refl;
     few = omega arith;
     stands = subst (λ m. Stands m first p o) (sym (when-normal stood (start stood) _ e)) (start-stands row p o);
   }
 
-  pub drafts-both : isChoosing stood.registry.status ≡ true → {e x : Draft} {p₁ p₂ : Places} {o₁ o₂ : Text}
-      → Moves 18 (choosingPart entries) first p o e p₁ o₁ → Moves 36 (waitingPart entries) e p₁ o₁ x p₂ o₂
+  pub drafts-both : is_choosing stood.registry.status ≡ true → {e x : Draft} {p₁ p₂ : Places} {o₁ o₂ : Text}
+      → Moves 18 (choosing_part entries) first p o e p₁ o₁ → Moves 36 (waiting_part entries) e p₁ o₁ x p₂ o₂
       → Drafted stood o x p₂ o₂
   drafts-both t {x = x} {p₂ = p₂} {o₂ = o₂} h k = record {
     room = k.room ∙ h.room;
@@ -198,8 +198,8 @@ module _ (row : Cluster) (p : Places) (o : Text) where
         (k.stands _ (h.stands _ (start-stands row p o)));
   }
 
-  pub drafts-waiting : isNormal stood.registry.status ≡ false → isChoosing stood.registry.status ≡ false
-      → {x : Draft} {p₁ : Places} {o₁ : Text} → Moves 36 (waitingPart entries) first p o x p₁ o₁
+  pub drafts-waiting : is_normal stood.registry.status ≡ false → is_choosing stood.registry.status ≡ false
+      → {x : Draft} {p₁ : Places} {o₁ : Text} → Moves 36 (waiting_part entries) first p o x p₁ o₁
       → Drafted stood o x p₁ o₁
   drafts-waiting t u {x} {p₁} {o₁} h = record {
     room = h.room;

@@ -161,7 +161,7 @@ fn choosing_part(
 ) -> Draft
     requires { Fit d.row (lent store.old store2.old list.old list2.old)
         × (4 * (d.count + 18) ≤ length notes.old) }
-    ensures { Moves 18 (P.choosingPart entries)
+    ensures { Moves 18 (P.choosing_part entries)
         d (lent store.old store2.old list.old list2.old) notes.old
         result (lent store.new store2.new list.new list2.new) notes.new }
 {
@@ -217,7 +217,7 @@ fn prepare(
 ) -> Draft
     requires { Fit d.row (lent store.old store2.old list.old list2.old)
         × (4 * (d.count + 3) ≤ length notes.old) }
-    ensures { Moves 3 (λ w. P.readsLeader entries (P.informs entries l l (P.informsController entries (P.need entries (bits m l) w))))
+    ensures { Moves 3 (λ w. P.reads_leader entries (P.informs entries l l (P.informs_controller entries (P.need entries (bits m l) w))))
         d (lent store.old store2.old list.old list2.old) notes.old
         result (lent store.new store2.new list.new list2.new) notes.new }
 {
@@ -269,7 +269,7 @@ fn waiting_part(
 ) -> Draft
     requires { Fit d.row (lent store.old store2.old list.old list2.old)
         × (4 * (d.count + 36) ≤ length notes.old) }
-    ensures { Moves 36 (P.waitingPart entries)
+    ensures { Moves 36 (P.waiting_part entries)
         d (lent store.old store2.old list.old list2.old) notes.old
         result (lent store.new store2.new list.new list2.new) notes.new }
 {

@@ -2,8 +2,8 @@
 
 ghost use Rattle.std.specs.Prelude.{◌≡◌, ◌≤◌};
 ghost use Rattle.model.specs.Records.{of, boardless};
-ghost use Rattle.draws.specs.Draws.{advance, draw, stepFrom, boardFrom, secondBoard, drawn, drawRecord};
-ghost use Rattle.draws.specs.Drawn.{drawnOf};
+ghost use Rattle.draws.specs.Draws.{advance, draw, step_from, board_from, second_board, drawn, draw_record};
+ghost use Rattle.draws.specs.Drawn.{drawn_of};
 
 use records::Record;
 
@@ -31,14 +31,14 @@ fn draw(s: u32) -> u32
 
 // A step, drawn in the state s.
 fn step_from(s: u32) -> u8
-    ensures { result ≡ stepFrom s }
+    ensures { result ≡ step_from s }
 {
     1 + (draw(s) % 15) as u8
 }
 
 // A board, drawn in the state s.
 fn board_from(s: u32) -> u8
-    ensures { result ≡ boardFrom s }
+    ensures { result ≡ board_from s }
 {
     1 + (draw(s) % 8) as u8
 }
@@ -46,7 +46,7 @@ fn board_from(s: u32) -> u8
 // The second board: b, or the next number where b is the first board a.
 fn second_board(a: u8, b: u8) -> u8
     requires { b ≤ 8 }
-    ensures { result ≡ secondBoard a b }
+    ensures { result ≡ second_board a b }
 {
     if b != a {
         return b;
@@ -66,7 +66,7 @@ fn boardless(n: u8) -> bool
 
 // A record with these fields, and the state of its last draw.
 fn with_fields(n: u8, a: u8, b: u8, v: u32, s: u32) -> Drawn
-    ensures { drawnOf result ≡ drawn (record { step = n; board = a; other = b; spare = 0; value = v }) s }
+    ensures { drawn_of result ≡ drawn (record { step = n; board = a; other = b; spare = 0; value = v }) s }
 {
     Drawn {
         made: Record {
@@ -82,7 +82,7 @@ fn with_fields(n: u8, a: u8, b: u8, v: u32, s: u32) -> Drawn
 
 // Draws the opening of the seed s.
 pub fn draw_opening(s: u32) -> Drawn
-    ensures { drawnOf result ≡ drawn (of 0 (boardFrom (advance s))) (advance s) }
+    ensures { drawn_of result ≡ drawn (of 0 (board_from (advance s))) (advance s) }
 {
     let t = advance(s);
     let b = board_from(t);
@@ -92,7 +92,7 @@ pub fn draw_opening(s: u32) -> Drawn
 // Draws a record after the opening; s is the state of the draw before it. A field that the step does not use is 0 and
 // takes no draw.
 pub fn draw_record(s: u32) -> Drawn
-    ensures { drawnOf result ≡ drawRecord s }
+    ensures { drawn_of result ≡ draw_record s }
 {
     let s1 = advance(s);
     let n = step_from(s1);

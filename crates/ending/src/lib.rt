@@ -2,13 +2,13 @@
 // callers see to the room, and that b is a replica.
 
 ghost use Rattle.std.specs.Prelude.{true, ◌≡◌, ◌+◌, ◌-◌, ◌≤◌, length, get_or, take};
-ghost use Rattle.model.specs.Ranges.{every, in_range, termsInRange};
+ghost use Rattle.model.specs.Ranges.{every, in_range, terms_in_range};
 ghost use Rattle.logstore.specs.Log.{pairs};
-ghost use Rattle.cluster.specs.Layout.{view_of, no_view, outlineOf};
+ghost use Rattle.cluster.specs.Layout.{view_of, no_view, outline_of};
 ghost use Rattle.text.specs.Text.{Wrote};
-ghost use Rattle.lines.specs.Lines.{boardText};
+ghost use Rattle.lines.specs.Lines.{board_text};
 ghost use Rattle.mark.specs.Mark.{late};
-ghost use Rattle.ending.specs.Ending.{boardLines, receiptsText, receiptsLine, ending};
+ghost use Rattle.ending.specs.Ending.{board_lines, receipts_text, receipts_line, ending};
 
 use cluster::{Cluster, View};
 
@@ -24,12 +24,12 @@ fn put_replica(
 ) -> usize
     requires { (1 ≤ b)
         × (b ≤ 8)
-        × (at + length (boardText b
+        × (at + length (board_text b
         (view_of (get_or views (b - 1) no_view)) (get_or joined (b - 1) 0) (get_or len (b - 1) 0)
         (late (view_of (get_or views (b - 1) no_view)) (get_or joined (b - 1) 0) (view_of r)))
         ≤ length out.old) }
     ensures { Wrote out.old at
-        (boardText b
+        (board_text b
         (view_of (get_or views (b - 1) no_view)) (get_or joined (b - 1) 0) (get_or len (b - 1) 0)
         (late (view_of (get_or views (b - 1) no_view)) (get_or joined (b - 1) 0) (view_of r)))
         out.new result }
@@ -44,8 +44,8 @@ fn put_replica(
 
 // Writes the lines of the eight replicas.
 fn put_replicas(out: &mut [u8], at: usize, row: Cluster) -> usize
-    requires { at + length (boardLines (outlineOf row)) ≤ length out.old }
-    ensures { Wrote out.old at (boardLines (outlineOf row)) out.new result }
+    requires { at + length (board_lines (outline_of row)) ≤ length out.old }
+    ensures { Wrote out.old at (board_lines (outline_of row)) out.new result }
 {
     let views = row.views;
     let joined = row.joined;
@@ -64,8 +64,8 @@ fn put_replicas(out: &mut [u8], at: usize, row: Cluster) -> usize
 // Writes the first n receipts of two lists, values and terms.
 fn put_entries(out: &mut [u8], at: usize, list: &[u32], list2: &[u16], n: usize) -> usize
     requires { (n ≤ length list.now) × (length list.now ≡ length list2.now)
-        × (at + length (receiptsText (take n (pairs list.now list2.now))) ≤ length out.old) }
-    ensures { Wrote out.old at (receiptsText (take n (pairs list.now list2.now)))
+        × (at + length (receipts_text (take n (pairs list.now list2.now))) ≤ length out.old) }
+    ensures { Wrote out.old at (receipts_text (take n (pairs list.now list2.now)))
         out.new result }
 {
     let mut i = 0;
@@ -81,8 +81,8 @@ fn put_entries(out: &mut [u8], at: usize, list: &[u32], list2: &[u16], n: usize)
 // Writes the line of the receipts: how many, and each.
 fn put_receipts(out: &mut [u8], at: usize, list: &[u32], list2: &[u16], n: u16) -> usize
     requires { (n ≤ length list.now) × (length list.now ≡ length list2.now)
-        × (at + length (receiptsLine (take n (pairs list.now list2.now))) ≤ length out.old) }
-    ensures { Wrote out.old at (receiptsLine (take n (pairs list.now list2.now)))
+        × (at + length (receipts_line (take n (pairs list.now list2.now))) ≤ length out.old) }
+    ensures { Wrote out.old at (receipts_line (take n (pairs list.now list2.now)))
         out.new result }
 {
     let a = text::put_bytes(&mut *out, at, b"receipts ");
@@ -95,11 +95,11 @@ fn put_receipts(out: &mut [u8], at: usize, list: &[u32], list2: &[u16], n: u16) 
 // callers see to it that the row and the kept epochs of its receipts are in range, the two lists as long as it says,
 // and the slice long enough for any ending.
 pub fn put_ending(out: &mut [u8], row: Cluster, list: &[u32], list2: &[u16]) -> usize
-    requires { (in_range (outlineOf row) ≡ true)
-        × (termsInRange (take row.issued (pairs list.now list2.now)) ≡ true)
+    requires { (in_range (outline_of row) ≡ true)
+        × (terms_in_range (take row.issued (pairs list.now list2.now)) ≡ true)
         × (row.issued ≤ length list.now) × (length list.now ≡ length list2.now) × (8704 ≤ length out.old) }
     ensures { Wrote out.old 0
-        (ending (outlineOf row) (take row.issued (pairs list.now list2.now)))
+        (ending (outline_of row) (take row.issued (pairs list.now list2.now)))
         out.new result
         × (result ≤ 8704) }
 {

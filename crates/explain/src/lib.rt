@@ -3,7 +3,7 @@
 
 ghost use Rattle.std.specs.Prelude.{true, ◌≡◌, ℕ, ◌/◌, ◌≤◌, ◌<◌, leb, length, get_or};
 ghost use Rattle.text.specs.Text.{Wrote, Delivered};
-ghost use Rattle.phrases.specs.Phrases.{isListed};
+ghost use Rattle.phrases.specs.Phrases.{is_listed};
 ghost use Rattle.explain.specs.Explain.{lines_of, result, left, SampleHolds, RoomHolds, EmptyRefused, LengthsTell};
 
 // The papers' sample and P3 to P9 in words; a slice at its limits; the empty sheet is refused; a text of n records has
@@ -16,7 +16,7 @@ pub fn sample()
 fn text_length(sheet: &[u8], answers: &[u8]) -> usize
     requires { (length sheet.now / 8 ≤ 4095)
         × (length sheet.now / 8 ≤ length answers.now)
-        × ((i : ℕ) → i < length sheet.now / 8 → isListed (get_or answers.now i 0) ≡ true) }
+        × ((i : ℕ) → i < length sheet.now / 8 → is_listed (get_or answers.now i 0) ≡ true) }
     ensures* { λ r. ⌜ r ≡ length (lines_of sheet.now answers.now) ⌝ }
 {
     let n = sheet.len() / 8;
@@ -35,7 +35,7 @@ fn text_length(sheet: &[u8], answers: &[u8]) -> usize
 fn has_room(sheet: &[u8], answers: &[u8], room: usize) -> bool
     requires { (length sheet.now / 8 ≤ 4095)
         × (length sheet.now / 8 ≤ length answers.now)
-        × ((i : ℕ) → i < length sheet.now / 8 → isListed (get_or answers.now i 0) ≡ true) }
+        × ((i : ℕ) → i < length sheet.now / 8 → is_listed (get_or answers.now i 0) ≡ true) }
     ensures* { λ r. ⌜ r ≡ leb (length (lines_of sheet.now answers.now)) room ⌝ }
 {
     if 96 * (sheet.len() / 8) <= room {
@@ -47,7 +47,7 @@ fn has_room(sheet: &[u8], answers: &[u8], room: usize) -> bool
 // Writes them.
 fn put_text(out: &mut [u8], sheet: &[u8], answers: &[u8]) -> usize
     requires { (length sheet.now / 8 ≤ length answers.now)
-        × ((i : ℕ) → i < length sheet.now / 8 → isListed (get_or answers.now i 0) ≡ true)
+        × ((i : ℕ) → i < length sheet.now / 8 → is_listed (get_or answers.now i 0) ≡ true)
         × (length (lines_of sheet.now answers.now) ≤ length out.old) }
     ensures* { λ r. ⌜
         Wrote out.old 0 (lines_of sheet.now answers.now) out.new r
@@ -69,7 +69,7 @@ fn put_text(out: &mut [u8], sheet: &[u8], answers: &[u8]) -> usize
 fn deliver(sheet: &[u8], answers: &[u8], out: &mut [u8]) -> usize
     requires { (length sheet.now / 8 ≤ 4095)
         × (length sheet.now / 8 ≤ length answers.now)
-        × ((i : ℕ) → i < length sheet.now / 8 → isListed (get_or answers.now i 0) ≡ true) }
+        × ((i : ℕ) → i < length sheet.now / 8 → is_listed (get_or answers.now i 0) ≡ true) }
     ensures* { λ r. ⌜
         Delivered (lines_of sheet.now answers.now) out.old out.new r
         ⌝ }

@@ -11,8 +11,8 @@ two n = n % 256 ∷ n / 256 ∷ []
 abbrev pub four : ℕ → Text
 four n = n % 256 ∷ n / 256 % 256 ∷ n / 65536 % 256 ∷ n / 16777216 ∷ []
 
-abbrev pub twoAt : Text → ℕ → ℕ
-twoAt s i = get_or s i 0 + 256 * get_or s (i + 1) 0
+abbrev pub two_at : Text → ℕ → ℕ
+two_at s i = get_or s i 0 + 256 * get_or s (i + 1) 0
 
-abbrev pub fourAt : Text → ℕ → ℕ
-fourAt s i = get_or s i 0 + 256 * get_or s (i + 1) 0 + 65536 * get_or s (i + 2) 0 + 16777216 * get_or s (i + 3) 0
+abbrev pub four_at : Text → ℕ → ℕ
+four_at s i = get_or s i 0 + 256 * get_or s (i + 1) 0 + 65536 * get_or s (i + 2) 0 + 16777216 * get_or s (i + 3) 0

@@ -2,7 +2,7 @@
 // that the text has them.
 
 ghost use Rattle.std.specs.Prelude.{◌≡◌, ◌+◌, ◌*◌, ◌≤◌, length};
-ghost use Rattle.fields.specs.Fields.{twoAt, fourAt};
+ghost use Rattle.fields.specs.Fields.{two_at, four_at};
 
 fn pair(a: u8, b: u8) -> u16
     ensures { result ≡ a + 256 * b }
@@ -19,7 +19,7 @@ fn quad(a: u8, b: u8, c: u8, d: u8) -> u32
 // Two bytes as a number. Inner layer: callers see to the place.
 pub fn two_at(s: &[u8], at: usize) -> u16
     requires { at + 2 ≤ length s.now }
-    ensures { result ≡ twoAt s.now at }
+    ensures { result ≡ two_at s.now at }
 {
     pair(s[at], s[at + 1])
 }
@@ -27,7 +27,7 @@ pub fn two_at(s: &[u8], at: usize) -> u16
 // Four bytes as a number. Inner layer: callers see to the place.
 pub fn four_at(s: &[u8], at: usize) -> u32
     requires { at + 4 ≤ length s.now }
-    ensures { result ≡ fourAt s.now at }
+    ensures { result ≡ four_at s.now at }
 {
     quad(s[at], s[at + 1], s[at + 2], s[at + 3])
 }

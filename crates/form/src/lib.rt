@@ -1,11 +1,11 @@
 // The fields of a record: which of them its step uses, whether the record is well formed, and those of a step in words.
 
 ghost use Rattle.std.specs.Prelude.{cond, not, ◌&&◌, ◌≡◌, ◌+◌, ◌≤◌, eqb, length};
-ghost use Rattle.model.specs.Members.{isReplica};
+ghost use Rattle.model.specs.Members.{is_replica};
 ghost use Rattle.model.specs.Records as R;
-ghost use Rattle.records.specs.Record.{recordOf};
+ghost use Rattle.records.specs.Record.{record_of};
 ghost use Rattle.text.specs.Text.{Wrote};
-ghost use Rattle.phrases.specs.Line.{boardPart, secondPart};
+ghost use Rattle.phrases.specs.Line.{board_part, second_part};
 
 use cluster::replica;
 use records::Record;
@@ -19,7 +19,7 @@ pub fn boardless(step: u8) -> bool
 
 // Whether b is what a step asks of its board.
 fn board_fits(step: u8, b: u8) -> bool
-    ensures { result ≡ cond (R.boardless step) (eqb b 0) (isReplica b) }
+    ensures { result ≡ cond (R.boardless step) (eqb b 0) (is_replica b) }
 {
     if boardless(step) {
         return b == 0;
@@ -29,7 +29,7 @@ fn board_fits(step: u8, b: u8) -> bool
 
 // Whether b is what a step of the board a asks of its second board.
 fn other_fits(step: u8, a: u8, b: u8) -> bool
-    ensures { result ≡ cond (eqb step 9) (isReplica b && not (eqb a b)) (eqb b 0) }
+    ensures { result ≡ cond (eqb step 9) (is_replica b && not (eqb a b)) (eqb b 0) }
 {
     if step == 9 {
         return replica(b) & (a != b);
@@ -39,7 +39,7 @@ fn other_fits(step: u8, a: u8, b: u8) -> bool
 
 // Whether a record is well formed by itself.
 pub fn is_well_formed(r: Record) -> bool
-    ensures { result ≡ R.wellFormed (recordOf r) }
+    ensures { result ≡ R.well_formed (record_of r) }
 {
     (r.step <= 15)
         & board_fits(r.step, r.board)
@@ -50,8 +50,8 @@ pub fn is_well_formed(r: Record) -> bool
 
 // Writes the board of a record, if its step names one. Inner layer: callers see to the room.
 pub fn put_board(out: &mut [u8], at: usize, r: Record) -> usize
-    requires { at + length (boardPart (recordOf r)) ≤ length out.old }
-    ensures { Wrote out.old at (boardPart (recordOf r)) out.new result }
+    requires { at + length (board_part (record_of r)) ≤ length out.old }
+    ensures { Wrote out.old at (board_part (record_of r)) out.new result }
 {
     if boardless(r.step) {
         return at;
@@ -61,8 +61,8 @@ pub fn put_board(out: &mut [u8], at: usize, r: Record) -> usize
 
 // Writes the second number of a record, if its step has one. Inner layer: callers see to the room.
 pub fn put_second(out: &mut [u8], at: usize, r: Record) -> usize
-    requires { at + length (secondPart (recordOf r)) ≤ length out.old }
-    ensures { Wrote out.old at (secondPart (recordOf r)) out.new result }
+    requires { at + length (second_part (record_of r)) ≤ length out.old }
+    ensures { Wrote out.old at (second_part (record_of r)) out.new result }
 {
     if r.step == 9 {
         return text::put_number(&mut *out, at, r.other as u32);

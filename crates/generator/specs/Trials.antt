@@ -1,9 +1,9 @@
 -- Trials of the definitions: draws and records that were worked out apart from them, from the paper's words. Cited by
 -- `trials`. Assumes nothing.
 use Rattle.std.specs.Prelude.{[], ◌∷◌, ◌≡◌, ℕ, length}
-use Rattle.model.specs.Records.{bare, of, of_both, ofValue}
+use Rattle.model.specs.Records.{bare, of, of_both, of_value}
 use Rattle.text.specs.Text.{Text}
-use Rattle.draws.specs.Draws.{advance, draw, secondBoard, seedRecords}
+use Rattle.draws.specs.Draws.{advance, draw, second_board, seed_records}
 use Rattle.generator.specs.Seeded.{result, left}
 
 -- In hexadecimal: the state 9e3779b9 shifted right 16 places is 00009e37, the exclusive-or 9e37e78e; that shifted left
@@ -21,21 +21,21 @@ StatesHold =
 -- An equal second board; an 8 that is not equal stays.
 abbrev pub BoardsHold : Type 0
 BoardsHold =
-    (secondBoard 3 3 ≡ 4) × (secondBoard 8 8 ≡ 1) × (secondBoard 3 8 ≡ 8) × (secondBoard 8 3 ≡ 3)
+    (second_board 3 3 ≡ 4) × (second_board 8 8 ≡ 1) × (second_board 3 8 ≡ 8) × (second_board 8 3 ≡ 3)
 
 -- The first records of seed 0: 2,244,223,118 is 6 modulo 8; 185,155,868 is 8 modulo 15; then 2,315,088,141 and
 -- 370,311,865 are 5 and 1 modulo 8; and so on. Those of two other seeds; a sheet with every step and a value of 32
 -- bits; sheets whose second record has an equal second board.
 abbrev pub RecordsHold : Type 0
 RecordsHold =
-    (seedRecords 0 12 ≡ of 0 7 ∷ of_both 9 6 2 ∷ of 2 3 ∷ of 6 4 ∷ of 2 1 ∷ of 6 6 ∷ of 2 7 ∷ of_both 9 8 7 ∷ bare 10
-    ∷ of 2 2 ∷ ofValue 1 3 1259826020 ∷ bare 11 ∷ [])
-    × (seedRecords 1 5 ≡ of 0 6 ∷ of 3 3 ∷ of 2 4 ∷ of 14 5 ∷ of 6 2 ∷ [])
-    × (seedRecords 4294967295 5 ≡ of 0 8 ∷ of 4 5 ∷ of 7 2 ∷ bare 13 ∷ bare 13 ∷ [])
-    × (seedRecords 1364 20 ≡ of 0 3 ∷ of 6 2 ∷ of 2 5 ∷ of 6 8 ∷ of 14 7 ∷ of_both 9 6 2 ∷ of 15 3 ∷ bare 5 ∷ bare 10
+    (seed_records 0 12 ≡ of 0 7 ∷ of_both 9 6 2 ∷ of 2 3 ∷ of 6 4 ∷ of 2 1 ∷ of 6 6 ∷ of 2 7 ∷ of_both 9 8 7 ∷ bare 10
+    ∷ of 2 2 ∷ of_value 1 3 1259826020 ∷ bare 11 ∷ [])
+    × (seed_records 1 5 ≡ of 0 6 ∷ of 3 3 ∷ of 2 4 ∷ of 14 5 ∷ of 6 2 ∷ [])
+    × (seed_records 4294967295 5 ≡ of 0 8 ∷ of 4 5 ∷ of 7 2 ∷ bare 13 ∷ bare 13 ∷ [])
+    × (seed_records 1364 20 ≡ of 0 3 ∷ of 6 2 ∷ of 2 5 ∷ of 6 8 ∷ of 14 7 ∷ of_both 9 6 2 ∷ of 15 3 ∷ bare 5 ∷ bare 10
     ∷ of 12 1 ∷ of 7 6 ∷ of 3 7 ∷ of 8 8 ∷ of 4 5 ∷ bare 11 ∷ of 12 2 ∷ bare 5 ∷ bare 10
-    ∷ ofValue 1 4 2890428600 ∷ bare 13 ∷ [])
-    × (seedRecords 26 2 ≡ of 0 5 ∷ of_both 9 4 5 ∷ []) × (seedRecords 78 2 ≡ of 0 1 ∷ of_both 9 8 1 ∷ [])
+    ∷ of_value 1 4 2890428600 ∷ bare 13 ∷ [])
+    × (seed_records 26 2 ≡ of 0 5 ∷ of_both 9 4 5 ∷ []) × (seed_records 78 2 ≡ of 0 1 ∷ of_both 9 8 1 ∷ [])
 
 -- The counts 0 and 4,096 are refused with 2 and leave the slice as it was, however long it is.
 abbrev pub CountsHold : Type 0

@@ -2,7 +2,7 @@
 // (crate row) and the program `seedsheet`.
 
 ghost use Rattle.std.specs.Prelude.{◌≡◌, ◌+◌, ◌*◌, ◌≤◌, length};
-ghost use Rattle.records.specs.Bytes.{sheetBytes};
+ghost use Rattle.records.specs.Bytes.{sheet_bytes};
 ghost use Rattle.text.specs.Text.{Wrote};
 ghost use Rattle.draws.specs.Draws.{later};
 ghost use Rattle.generator.specs.Seeded.{result, left, SheetsWellMade};
@@ -13,7 +13,7 @@ use draws::{draw_opening, draw_record};
 // Draws k records, s being the state of the draw before them, and writes them from place at on.
 fn put_later(out: &mut [u8], at: usize, s: u32, k: usize) -> usize
     requires { at + 8 * k ≤ length out.old }
-    ensures* { λ r. ⌜ Wrote out.old at (sheetBytes (later k s)) out.new r ⌝ }
+    ensures* { λ r. ⌜ Wrote out.old at (sheet_bytes (later k s)) out.new r ⌝ }
 {
     let mut p = at;
     let mut t = s;

@@ -3,8 +3,8 @@
 
 ghost use Rattle.std.specs.Prelude.{◌≡◌, ◌*◌, ◌≤◌};
 ghost use Rattle.recovery.specs.Plan.{Plan};
-ghost use Rattle.delivery.specs.Delivery.{planAnswer, planCount};
-ghost use Rattle.guiding.specs.Guiding.{planBytes, sheetResult, sheetLeft, imageResult, imageLeft, scratchLeft, SheetsRecover, LengthsTell, ImagesAgree, SampleHolds};
+ghost use Rattle.delivery.specs.Delivery.{plan_answer, plan_count};
+ghost use Rattle.guiding.specs.Guiding.{plan_bytes, sheet_result, sheet_left, image_result, image_left, scratch_left, SheetsRecover, LengthsTell, ImagesAgree, SampleHolds};
 
 use delivery::Planned;
 
@@ -24,7 +24,7 @@ pub fn sample()
 // What an entry returns for what was answered. Callers see to a list of at most 2,064 records.
 fn returned(x: Planned) -> usize
     requires { x.count ≤ 2064 }
-    ensures { (q : Plan) → x.answer ≡ planAnswer q → x.count ≡ planCount q → result ≡ planBytes q }
+    ensures { (q : Plan) → x.answer ≡ plan_answer q → x.count ≡ plan_count q → result ≡ plan_bytes q }
 {
     if x.answer != 0 {
         return x.answer as usize;
@@ -36,8 +36,8 @@ fn returned(x: Planned) -> usize
 // wrong length or without a valid opening, then 3 for a slice shorter than 16,512 bytes, then 20 where there is no list;
 // these leave the slice untouched.
 pub fn plan_sheet(sheet: &[u8], out: &mut [u8]) -> usize
-    ensures { (result ≡ sheetResult sheet.now out.old)
-        × (out.new ≡ sheetLeft sheet.now out.old) }
+    ensures { (result ≡ sheet_result sheet.now out.old)
+        × (out.new ≡ sheet_left sheet.now out.old) }
 {
     if !records::is_sheet(sheet) {
         return 2;
@@ -75,9 +75,9 @@ pub fn plan_sheet(sheet: &[u8], out: &mut [u8]) -> usize
 // shorter than 16,512 bytes or a scratch that is too short, then 17, 18 or 19 for the image, then 20 where there is no
 // list; the slice is untouched then. Past 3 the scratch ends as zeros.
 pub fn plan_image(image: &[u8], out: &mut [u8], scratch: &mut [u8]) -> usize
-    ensures { (result ≡ imageResult image.now out.old scratch.old)
-        × (out.new ≡ imageLeft image.now out.old scratch.old)
-        × (scratch.new ≡ scratchLeft out.old scratch.old) }
+    ensures { (result ≡ image_result image.now out.old scratch.old)
+        × (out.new ≡ image_left image.now out.old scratch.old)
+        × (scratch.new ≡ scratch_left out.old scratch.old) }
 {
     if out.len() < 16512 {
         return 3;

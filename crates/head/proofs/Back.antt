@@ -9,10 +9,10 @@ use lib.ListN.{length, get_or}
 use lib.Seq.{ext_get_or}
 use borrow.Author.Tests.{ne_eqb, eqb-true, eqb-false}
 use Rattle.model.specs.State as M
-use Rattle.model.specs.State.{Outline, stageNumber}
+use Rattle.model.specs.State.{Outline, stage_number}
 use Rattle.members.specs.Mask.{bits}
 use Rattle.members.proofs.Finite.{all, below, table}
-use Rattle.fields.specs.Fields.{twoAt}
+use Rattle.fields.specs.Fields.{two_at}
 use Rattle.fields.proofs.Back.{two_back}
 use Rattle.cluster.specs.declared.View.{View}
 use Rattle.cluster.specs.declared.Status.{Status}
@@ -20,39 +20,39 @@ use Rattle.cluster.specs.declared.Status.TheVariants.{Normal, Waiting}
 use Rattle.cluster.specs.declared.Stage.{Stage}
 use Rattle.cluster.specs.declared.Stage.TheVariants.{Idle, Leader, Boards}
 use Rattle.cluster.specs.declared.Cluster.{Cluster}
-use Rattle.cluster.specs.Layout.{at, no_view, statusOf, stageOf, outlineOf}
+use Rattle.cluster.specs.Layout.{at, no_view, status_of, stage_of, outline_of}
 use Rattle.text.specs.Text.{Text}
-use Rattle.head.specs.Head.{boards, mask_of, statusNumber, statusFrom, stageFrom, heardNumber, heardFrom, headBytes, row_at, codesFit}
+use Rattle.head.specs.Head.{boards, mask_of, status_number, status_from, stage_from, heard_number, heard_from, head_bytes, row_at, codes_fit}
 use Rattle.head.proofs.Filled.{places}
 
 -- Single fields
 
-status-back : (g : Status) → statusFrom (statusNumber (statusOf g)) ≡ g
+status-back : (g : Status) → status_from (status_number (status_of g)) ≡ g
 status-back Normal = refl
 status-back Waiting = refl
 status-back Status.Choosing = refl
 
-stage-back : (g : Stage) → stageFrom (stageNumber (stageOf g)) ≡ g
+stage-back : (g : Stage) → stage_from (stage_number (stage_of g)) ≡ g
 stage-back Idle = refl
 stage-back Leader = refl
 stage-back Boards = refl
 stage-back Stage.Choosing = refl
 
-status-fits : (g : M.Status) → leb (statusNumber g) 2 ≡ true
+status-fits : (g : M.Status) → leb (status_number g) 2 ≡ true
 status-fits M.normal = refl
 status-fits M.waiting = refl
 status-fits M.Status.choosing = refl
 
-stage-fits : (g : M.Stage) → leb (stageNumber g) 3 ≡ true
+stage-fits : (g : M.Stage) → leb (stage_number g) 3 ≡ true
 stage-fits M.idle = refl
 stage-fits M.Stage.leader = refl
 stage-fits M.boards = refl
 stage-fits M.Stage.choosing = refl
 
-heard-back : (h : ℕ) → h ≤ 513 → heardFrom (heardNumber h) ≡ h
+heard-back : (h : ℕ) → h ≤ 513 → heard_from (heard_number h) ≡ h
 heard-back h l = go (eqb h 0) refl
   where
-    go : (t : Bool) → eqb h 0 ≡ t → heardFrom (cond t 65535 (h - 1)) ≡ h
+    go : (t : Bool) → eqb h 0 ≡ t → heard_from (cond t 65535 (h - 1)) ≡ h
     go true e = sym (eqb-true h 0 e)
     go false e =
         let d = eqb-false h 0 e in
@@ -68,15 +68,15 @@ pub mask-back : (m : ℕ) → m < 256 → mask_of (bits m) ≡ m
 mask-back m h = eqb-true _ _ (below (λ n. eqb (mask_of (bits n)) n) 256 mask-passes m h)
 
 -- A view as it is read from its bytes.
-abbrev viewRead : View → View
-viewRead v = record {
+abbrev view_read : View → View
+view_read v = record {
   epoch = v.epoch % 256 + 256 * (v.epoch / 256);
   term = v.term % 256 + 256 * (v.term / 256);
   leader = v.leader;
   members = mask_of (bits v.members);
 }
 
-view-back : (v : View) → v.members < 256 → viewRead v ≡ v
+view-back : (v : View) → v.members < 256 → view_read v ≡ v
 view-back v h = λ i. record {
   epoch = two_back v.epoch i;
   term = two_back v.term i;
@@ -118,25 +118,25 @@ boards-at d xs e = ext_get_or d (boards (at d xs)) xs (sym e) go
 -- The head of a state
 
 module _ (m : Outline) (firsts : List ℕ) where
-  pub head-length : length (headBytes m firsts) ≡ 258
-  unfolding headBytes
+  pub head-length : length (head_bytes m firsts) ≡ 258
+  unfolding head_bytes
   head-length = refl
 
   module _ (rest : Text) where
     abbrev image : Text
-    image = headBytes m firsts ++ rest
+    image = head_bytes m firsts ++ rest
 
-    pub codes-back : codesFit image ≡ true
-    unfolding headBytes
+    pub codes-back : codes_fit image ≡ true
+    unfolding head_bytes
     codes-back = rw (status-fits m.registry.status, stage-fits m.controller.stage)
 
     -- The first records: of the boards, and of the receipts.
     pub firsts-back :
         length firsts ≡ 9
-        → (twoAt image 72 ∷ twoAt image 98 ∷ twoAt image 124 ∷ twoAt image 150 ∷ twoAt image 176 ∷ twoAt image 202
-        ∷ twoAt image 228 ∷ twoAt image 254 ∷ twoAt image 256 ∷ [])
+        → (two_at image 72 ∷ two_at image 98 ∷ two_at image 124 ∷ two_at image 150 ∷ two_at image 176 ∷ two_at image 202
+        ∷ two_at image 228 ∷ two_at image 254 ∷ two_at image 256 ∷ [])
         ≡ firsts
-    unfolding headBytes twos
+    unfolding head_bytes twos
     firsts-back e = twos-all firsts 9 e
 
 -- The head of a row
@@ -147,55 +147,55 @@ pub record Sized (row : Cluster) : Type 0 where
   pub joined : length row.joined ≡ 8
   pub acked : length row.acked ≡ 64
   pub heard : length row.controller.heard ≡ 8
-  pub heardJoined : length row.controller.joined ≡ 8
-  pub registryMask : row.registry.view.members < 256
-  pub controllerMask : row.controller.view.members < 256
-  pub viewMask : (b : ℕ) → (at no_view row.views b).members < 256
-  pub heardMost : (b : ℕ) → at 0 row.controller.heard b ≤ 513
+  pub heard_joined : length row.controller.joined ≡ 8
+  pub registry_mask : row.registry.view.members < 256
+  pub controller_mask : row.controller.view.members < 256
+  pub view_mask : (b : ℕ) → (at no_view row.views b).members < 256
+  pub heard_most : (b : ℕ) → at 0 row.controller.heard b ≤ 513
 
 module _ (row : Cluster) (firsts : List ℕ) (rest : Text) (len : List ℕ) (issued : ℕ) (s : Sized row) where
   abbrev read : Cluster
-  read = row_at (headBytes (outlineOf row) firsts ++ rest) len issued
+  read = row_at (head_bytes (outline_of row) firsts ++ rest) len issued
 
   registry-back : read.registry ≡ row.registry
-  unfolding headBytes row_at
+  unfolding head_bytes row_at
   registry-back = λ i. record {
-    view = view-back row.registry.view s.registryMask i;
+    view = view-back row.registry.view s.registry_mask i;
     status = status-back row.registry.status i;
   }
 
   heard-there : read.controller.heard ≡ row.controller.heard
-  unfolding headBytes row_at
+  unfolding head_bytes row_at
   heard-there =
       let f = at 0 row.controller.heard in
-      (λ i. boards (λ b. heardFrom (two_back (heardNumber (f b)) i)))
-      ∙ (λ i. boards (λ b. heard-back (f b) (s.heardMost b) i)) ∙ boards-at 0 row.controller.heard s.heard
+      (λ i. boards (λ b. heard_from (two_back (heard_number (f b)) i)))
+      ∙ (λ i. boards (λ b. heard-back (f b) (s.heard_most b) i)) ∙ boards-at 0 row.controller.heard s.heard
 
   controller-back : read.controller ≡ row.controller
-  unfolding headBytes row_at twos
+  unfolding head_bytes row_at twos
   controller-back = λ i. record {
-    view = view-back row.controller.view s.controllerMask i;
+    view = view-back row.controller.view s.controller_mask i;
     stage = stage-back row.controller.stage i;
     heard = heard-there i;
-    joined = twos-all row.controller.joined 8 s.heardJoined i;
+    joined = twos-all row.controller.joined 8 s.heard_joined i;
   }
 
   views-back : read.views ≡ row.views
-  unfolding headBytes row_at
+  unfolding head_bytes row_at
   views-back =
-      (λ i. boards (λ b. view-back (at no_view row.views b) (s.viewMask b) i))
+      (λ i. boards (λ b. view-back (at no_view row.views b) (s.view_mask b) i))
       ∙ boards-at no_view row.views s.views
 
   joined_back : read.joined ≡ row.joined
-  unfolding headBytes row_at twos
+  unfolding head_bytes row_at twos
   joined_back = twos-all row.joined 8 s.joined
 
   acked-back : read.acked ≡ row.acked
-  unfolding headBytes row_at twos
+  unfolding head_bytes row_at twos
   acked-back = twos-all row.acked 64 s.acked
 
   -- All but the lengths, which a head has not.
-  pub row_back : row_at (headBytes (outlineOf row) firsts ++ rest) len issued ≡ record {
+  pub row_back : row_at (head_bytes (outline_of row) firsts ++ rest) len issued ≡ record {
     registry = row.registry;
     controller = row.controller;
     views = row.views;

@@ -8,9 +8,9 @@ use lib.Dec.{eqb}
 use lib.ListN.{length, get_or, set}
 use lib.Seq.{ext_get_or, get_or-set_same, get_or-set_other}
 use borrow.Author.Tests.{eqb-true, eqb-false}
-use Rattle.members.proofs.Finite.{tableFrom, table, table_at}
+use Rattle.members.proofs.Finite.{table_from, table, table_at}
 
-table-length : (f : ℕ → ℕ) (i n : ℕ) → length (tableFrom f i n) ≡ n
+table-length : (f : ℕ → ℕ) (i n : ℕ) → length (table_from f i n) ≡ n
 table-length f i zero = refl
 table-length f i (suc n) = ap suc (table-length f (suc i) n)
 

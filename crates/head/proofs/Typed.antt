@@ -39,9 +39,9 @@ sized row us s h =
       joined = sym (length-map row.joined _) ∙ g.1.0.1.0.1;
       acked = sym (length-map row.acked _) ∙ g.1.1.0.1.0.1;
       heard = sym (length-map row.controller.heard _) ∙ told.0.1.0.1;
-      heardJoined = sym (length-map row.controller.joined _) ∙ told.1.0.1.0.1;
-      registryMask = registry.1.1.0.1.1.1.1.1.0.1;
-      controllerMask = controller.1.1.0.1.1.1.1.1.0.1;
-      viewMask = masks-at row.views (masks-fit row.views g.0.0 g.0.1.1);
-      heardMost = h;
+      heard_joined = sym (length-map row.controller.joined _) ∙ told.1.0.1.0.1;
+      registry_mask = registry.1.1.0.1.1.1.1.1.0.1;
+      controller_mask = controller.1.1.0.1.1.1.1.1.0.1;
+      view_mask = masks-at row.views (masks-fit row.views g.0.0 g.0.1.1);
+      heard_most = h;
     }

@@ -2,14 +2,14 @@
 // image has a head.
 
 ghost use Rattle.std.specs.Prelude.{◌≡◌, ◌+◌, ◌*◌, ◌≤◌, length};
-ghost use Rattle.fields.specs.Fields.{twoAt};
-ghost use Rattle.head.specs.Head.{boards, statusFrom, stageFrom, heardFrom, viewAt, countsFrom, controllerAt, row_at, codesFit};
+ghost use Rattle.fields.specs.Fields.{two_at};
+ghost use Rattle.head.specs.Head.{boards, status_from, stage_from, heard_from, view_at, counts_from, controller_at, row_at, codes_fit};
 
 use cluster::{Cluster, Controller, Registry, Stage, Status, View};
 
 // A status by its number; codes_fit is for those past the last.
 fn status(n: u8) -> Status
-    ensures { result ≡ statusFrom n }
+    ensures { result ≡ status_from n }
 {
     if n == 0 {
         return Status::Normal;
@@ -21,7 +21,7 @@ fn status(n: u8) -> Status
 }
 
 fn stage(n: u8) -> Stage
-    ensures { result ≡ stageFrom n }
+    ensures { result ≡ stage_from n }
 {
     if n == 0 {
         return Stage::Idle;
@@ -37,7 +37,7 @@ fn stage(n: u8) -> Stage
 
 // A heard length as a row keeps it: 0 for none and n + 1 for n.
 fn heard(n: u16) -> u16
-    ensures { result ≡ heardFrom n }
+    ensures { result ≡ heard_from n }
 {
     if n == 65535 {
         return 0;
@@ -48,7 +48,7 @@ fn heard(n: u16) -> u16
 // A view whose epochs stand at i, its leader and members at j.
 fn view(image: &[u8], i: usize, j: usize) -> View
     requires { (i + 4 ≤ length image.now) × (j + 2 ≤ length image.now) }
-    ensures { result ≡ viewAt image.now i j }
+    ensures { result ≡ view_at image.now i j }
 {
     let e = fields::two_at(image, i);
     let t = fields::two_at(image, i + 2);
@@ -63,7 +63,7 @@ fn view(image: &[u8], i: usize, j: usize) -> View
 // What stands for each board, each `step` bytes after the one before, board 1's at from + step.
 fn column(image: &[u8], from: usize, step: usize) -> [u16; 8]
     requires { from + 8 * step + 2 ≤ length image.now }
-    ensures { result ≡ boards (λ b. twoAt image.now (from + step * b)) }
+    ensures { result ≡ boards (λ b. two_at image.now (from + step * b)) }
 {
     let a = fields::two_at(image, from + step);
     let b = fields::two_at(image, from + step * 2);
@@ -79,7 +79,7 @@ fn column(image: &[u8], from: usize, step: usize) -> [u16; 8]
 // The views of the eight boards.
 fn views(image: &[u8]) -> [View; 8]
     requires { 258 ≤ length image.now }
-    ensures { result ≡ boards (λ b. viewAt image.now (22 + 26 * b) (28 + 26 * b)) }
+    ensures { result ≡ boards (λ b. view_at image.now (22 + 26 * b) (28 + 26 * b)) }
 {
     let a = view(image, 48, 54);
     let b = view(image, 74, 80);
@@ -95,7 +95,7 @@ fn views(image: &[u8]) -> [View; 8]
 // The counts of the boards: a's for b at 8 (a - 1) + b - 1.
 fn counts(image: &[u8]) -> [u16; 64]
     requires { 258 ≤ length image.now }
-    ensures { result ≡ countsFrom image.now }
+    ensures { result ≡ counts_from image.now }
 {
     let mut acked = [0u16; 64];
     let mut i: usize = 0;
@@ -108,7 +108,7 @@ fn counts(image: &[u8]) -> [u16; 64]
 
 fn heard_at(image: &[u8], at: usize) -> u16
     requires { at + 2 ≤ length image.now }
-    ensures { result ≡ heardFrom (twoAt image.now at) }
+    ensures { result ≡ heard_from (two_at image.now at) }
 {
     heard(fields::two_at(image, at))
 }
@@ -116,7 +116,7 @@ fn heard_at(image: &[u8], at: usize) -> u16
 // The heard lengths of the boards.
 fn heards(image: &[u8]) -> [u16; 8]
     requires { 258 ≤ length image.now }
-    ensures { result ≡ boards (λ b. heardFrom (twoAt image.now (12 + 4 * b))) }
+    ensures { result ≡ boards (λ b. heard_from (two_at image.now (12 + 4 * b))) }
 {
     let a = heard_at(image, 16);
     let b = heard_at(image, 20);
@@ -131,7 +131,7 @@ fn heards(image: &[u8]) -> [u16; 8]
 
 fn controller(image: &[u8]) -> Controller
     requires { 258 ≤ length image.now }
-    ensures { result ≡ controllerAt image.now }
+    ensures { result ≡ controller_at image.now }
 {
     let v = view(image, 8, 12);
     let g = stage(image[14]);
@@ -170,7 +170,7 @@ pub fn row(image: &[u8], len: [u16; 8], issued: u16) -> Cluster
 // Whether status, stage and the zero bytes are in their ranges. Inner layer: callers see to the head.
 pub fn codes_fit(image: &[u8]) -> bool
     requires { 258 ≤ length image.now }
-    ensures { result ≡ codesFit image.now }
+    ensures { result ≡ codes_fit image.now }
 {
     (image[6] <= 2) & (image[14] <= 3) & (image[7] == 0) & (image[15] == 0)
 }

@@ -3,15 +3,15 @@
 
 ghost use Rattle.std.specs.Prelude.{[], ◌∷◌, ◌++◌, ◌≡◌, suc, ◌+◌, ◌<◌, ◌≤◌, length};
 ghost use Rattle.fields.specs.Fields.{two};
-ghost use Rattle.cluster.specs.Layout.{bits, statusOf, view_of, atPair, controllerOf, outlineOf};
+ghost use Rattle.cluster.specs.Layout.{bits, status_of, view_of, at_pair, controller_of, outline_of};
 ghost use Rattle.text.specs.Text.{Wrote};
-ghost use Rattle.head.specs.Head.{texts, mask_of, statusNumber, heardNumber, viewBytes, heardBytes, boardBytes, headBytes};
+ghost use Rattle.head.specs.Head.{texts, mask_of, status_number, heard_number, view_bytes, heard_bytes, board_bytes, head_bytes};
 
 use cluster::{Cluster, Controller, Status, View};
 
 // A status by its place in document 01's list.
 fn status_number(g: Status) -> u8
-    ensures { result ≡ statusNumber (statusOf g) }
+    ensures { result ≡ status_number (status_of g) }
 {
     match g {
         Status::Normal => 0,
@@ -22,7 +22,7 @@ fn status_number(g: Status) -> u8
 
 // A heard length as an image has it, from 0 for none and n + 1 for n.
 fn heard_number(h: u16) -> u16
-    ensures { result ≡ heardNumber h }
+    ensures { result ≡ heard_number h }
 {
     if h == 0 {
         return 65535;
@@ -51,7 +51,7 @@ fn put_epochs(out: &mut [u8], at: usize, v: View) -> usize
 // Writes the view of the registry or of the controller, with the number of its status or stage.
 fn put_view(out: &mut [u8], at: usize, v: View, code: u8) -> usize
     requires { at + 8 ≤ length out.old }
-    ensures { Wrote out.old at (viewBytes (view_of v) code) out.new result }
+    ensures { Wrote out.old at (view_bytes (view_of v) code) out.new result }
 {
     let p = put_epochs(&mut *out, at, v);
     let b = [v.leader, v.members, code, 0];
@@ -61,7 +61,7 @@ fn put_view(out: &mut [u8], at: usize, v: View, code: u8) -> usize
 // Writes what the controller heard of a board: its length and its joined epoch.
 fn put_heard(out: &mut [u8], at: usize, h: u16, j: u16) -> usize
     requires { at + 4 ≤ length out.old }
-    ensures { Wrote out.old at (two (heardNumber h) ++ two j) out.new result }
+    ensures { Wrote out.old at (two (heard_number h) ++ two j) out.new result }
 {
     let n = heard_number(h);
     let p = put_two(&mut *out, at, n);
@@ -71,7 +71,7 @@ fn put_heard(out: &mut [u8], at: usize, h: u16, j: u16) -> usize
 // Writes what the controller heard of the eight boards.
 fn put_heards(out: &mut [u8], at: usize, k: Controller) -> usize
     requires { at + 32 ≤ length out.old }
-    ensures { Wrote out.old at (texts (heardBytes (controllerOf k))) out.new result }
+    ensures { Wrote out.old at (texts (heard_bytes (controller_of k))) out.new result }
 {
     let heard = k.heard;
     let joined = k.joined;
@@ -100,7 +100,7 @@ fn put_taken(out: &mut [u8], at: usize, v: View, j: u16) -> usize
 // Writes the eight counts of the board i + 1.
 fn put_counts(out: &mut [u8], at: usize, acked: [u16; 64], i: usize) -> usize
     requires { (i < 8) × (at + 16 ≤ length out.old) }
-    ensures { Wrote out.old at (texts (λ b. two (atPair acked (suc i) b))) out.new result }
+    ensures { Wrote out.old at (texts (λ b. two (at_pair acked (suc i) b))) out.new result }
 {
     let mut p = at;
     let mut k: usize = 0;
@@ -114,7 +114,7 @@ fn put_counts(out: &mut [u8], at: usize, acked: [u16; 64], i: usize) -> usize
 // Writes what the board i + 1 has.
 fn put_board(out: &mut [u8], at: usize, row: Cluster, firsts: [u16; 9], i: usize) -> usize
     requires { (i < 8) × (at + 26 ≤ length out.old) }
-    ensures { Wrote out.old at (boardBytes (outlineOf row) firsts (suc i)) out.new result }
+    ensures { Wrote out.old at (board_bytes (outline_of row) firsts (suc i)) out.new result }
 {
     let views = row.views;
     let joined = row.joined;
@@ -128,7 +128,7 @@ fn put_board(out: &mut [u8], at: usize, row: Cluster, firsts: [u16; 9], i: usize
 // Writes what the eight boards have.
 fn put_boards(out: &mut [u8], at: usize, row: Cluster, firsts: [u16; 9]) -> usize
     requires { at + 208 ≤ length out.old }
-    ensures { Wrote out.old at (texts (boardBytes (outlineOf row) firsts)) out.new result }
+    ensures { Wrote out.old at (texts (board_bytes (outline_of row) firsts)) out.new result }
 {
     let mut p = at;
     let mut i: usize = 0;
@@ -143,7 +143,7 @@ fn put_boards(out: &mut [u8], at: usize, row: Cluster, firsts: [u16; 9]) -> usiz
 // slice. Inner layer: callers see to the room.
 pub fn put_head(out: &mut [u8], row: Cluster, firsts: [u16; 9]) -> usize
     requires { 258 ≤ length out.old }
-    ensures { Wrote out.old 0 (headBytes (outlineOf row) firsts) out.new result }
+    ensures { Wrote out.old 0 (head_bytes (outline_of row) firsts) out.new result }
 {
     let g = row.registry;
     let k = row.controller;

@@ -13,9 +13,9 @@ use Rattle.model.proofs.Tests.{by-test}
 use Rattle.text.specs.Text.{Text, Wrote}
 use Rattle.text.proofs.Laws.{nothing}
 use Rattle.lines.specs.Lines.{space}
-use Rattle.hex.specs.Hex.{hexDigit, hex, hexes}
+use Rattle.hex.specs.Hex.{hex_digit, hex, hexes}
 
-pub hex-written : {d e : Text} {at r high low : ℕ} (b : ℕ) → high ≡ hexDigit (b / 16) → low ≡ hexDigit (b % 16)
+pub hex-written : {d e : Text} {at r high low : ℕ} (b : ℕ) → high ≡ hex_digit (b / 16) → low ≡ hex_digit (b % 16)
     → Wrote d at (32 ∷ high ∷ low ∷ []) e r → Wrote d at (space ++ hex b) e r
 hex-written {d} {e} {at} {r} {high} {low} b p q w = subst (λ t. Wrote d at t e r) (λ i. 32 ∷ p i ∷ q i ∷ []) w
 
@@ -56,7 +56,7 @@ hexes-all {d} {e} {at} {r} s i h w =
 abbrev unhex : ℕ → ℕ
 unhex x = cond (ltb x 65) (x - 48) (x - 55)
 
-unhex-hex : (x : ℕ) → x < 16 → unhex (hexDigit x) ≡ x
+unhex-hex : (x : ℕ) → x < 16 → unhex (hex_digit x) ≡ x
 unhex-hex x h =
     by-test (ltb x 10)
     (λ t. let l : x < 10 = ltb→lt x 10 t in rw (lt-ltb x 10 l, lt-ltb (48 + x) 65 (omega arith)) (omega arith))
@@ -65,8 +65,8 @@ unhex-hex x h =
 -- A byte is known from its two digits,
 hex-differ : (b b' : ℕ) → b < 256 → b' < 256 → hex b ≡ hex b' → b ≡ b'
 hex-differ b b' h h' e =
-    let high : hexDigit (b / 16) ≡ hexDigit (b' / 16) = cc in
-    let low : hexDigit (b % 16) ≡ hexDigit (b' % 16) = cc in
+    let high : hex_digit (b / 16) ≡ hex_digit (b' / 16) = cc in
+    let low : hex_digit (b % 16) ≡ hex_digit (b' % 16) = cc in
     let p = sym (unhex-hex (b / 16) (omega arith)) ∙ ap unhex high ∙ unhex-hex (b' / 16) (omega arith) in
     let q = sym (unhex-hex (b % 16) (omega arith)) ∙ ap unhex low ∙ unhex-hex (b' % 16) (omega arith) in
     omega (arith, p, q)

@@ -5,11 +5,11 @@ use Rattle.text.specs.Text.{Text}
 use Rattle.lines.specs.Lines.{space}
 
 -- Numbers below 16 are 0 to 9 and A to F.
-abbrev pub hexDigit : ℕ → ℕ
-hexDigit x = cond (ltb x 10) (48 + x) (55 + x)
+abbrev pub hex_digit : ℕ → ℕ
+hex_digit x = cond (ltb x 10) (48 + x) (55 + x)
 
 abbrev pub hex : ℕ → Text
-hex b = hexDigit (b / 16) ∷ hexDigit (b % 16) ∷ []
+hex b = hex_digit (b / 16) ∷ hex_digit (b % 16) ∷ []
 
 -- Bytes in hexadecimal, a space before each.
 unfoldable pub hexes : Text → Text

@@ -3,12 +3,12 @@
 ghost use Rattle.std.specs.Prelude.{◌≡◌, ◌++◌, ◌+◌, ◌<◌, ◌≤◌, length};
 ghost use Rattle.text.specs.Text.{Wrote};
 ghost use Rattle.lines.specs.Lines.{space};
-ghost use Rattle.hex.specs.Hex.{hexDigit, hex, hexes};
+ghost use Rattle.hex.specs.Hex.{hex_digit, hex, hexes};
 
 // The digit of a number below 16.
 fn hex_digit(x: u8) -> u8
     requires { x < 16 }
-    ensures { result ≡ hexDigit x }
+    ensures { result ≡ hex_digit x }
 {
     if x < 10 {
         return 48 + x;

@@ -4,10 +4,10 @@ use mathlib.Core.Bool.{Bool, true}
 use mathlib.Core.List.{[]}
 use mathlib.Core.Path.{◌≡◌, refl, sym, ap, ◌∙◌}
 use lib.ListN.{replicate, length-replicate}
-use Rattle.model.specs.State.{RowState, Entry, entry, openingWith, opened, zeros}
-use Rattle.model.specs.Steps.{Step, withRegistry}
+use Rattle.model.specs.State.{RowState, Entry, entry, opening_with, opened, zeros}
+use Rattle.model.specs.Steps.{Step, with_registry}
 use Rattle.cluster.specs.declared.Controller.{Controller}
-use Rattle.cluster.specs.Layout.{registryOf}
+use Rattle.cluster.specs.Layout.{registry_of}
 use Rattle.refinement.specs.Rows.{TypedController}
 use Rattle.refinement.proofs.Rows.{bits-injective, controllers-equal}
 use Rattle.hub.specs.declared.Report.{Report}
@@ -19,8 +19,8 @@ use Rattle.hub.specs.Lent.{Reported, Lends, TypedReply, LentFixed}
 somewhere : (x : Report) → (s : RowState) × Reported x s
 somewhere x = (
   record {
-    registry = (opened {E = Entry} (openingWith 1)).registry;
-    controller = (opened {E = Entry} (openingWith 1)).controller;
+    registry = (opened {E = Entry} (opening_with 1)).registry;
+    controller = (opened {E = Entry} (opening_with 1)).controller;
     view = λ _. record { epoch = x.epoch; term = 1; leader = 0; members = λ _. true };
     joined = λ _. x.joined;
     acked = λ _. zeros;
@@ -43,9 +43,9 @@ fixed fits Known st c r q c' d hr hq t u s k l l' = (
 pub lent-fixed : LentFixed
 lent-fixed = record {
   news = λ c g r q c' d hr hq t u l l'. fixed _ _ _ c r q c' d hr hq t u
-      (withRegistry (opened (openingWith 1)) (registryOf g)) refl
+      (with_registry (opened (opening_with 1)) (registry_of g)) refl
       l l';
-  readLeader = λ c x r q c' d hr hq t u l l'. fixed _ _ _ c r q c' d hr hq t u (somewhere x).0 (somewhere x).1 l l';
+  read_leader = λ c x r q c' d hr hq t u l l'. fixed _ _ _ c r q c' d hr hq t u (somewhere x).0 (somewhere x).1 l l';
   read = λ c x r q c' d hr hq t u l l'. fixed _ _ _ c r q c' d hr hq t u (somewhere x).0 (somewhere x).1 l l';
   hear = λ c x r q c' d hr hq t u l l'. fixed _ _ _ c r q c' d hr hq t u (somewhere x).0 (somewhere x).1 l l';
 }

@@ -5,30 +5,30 @@ use Prim.Native.Nat.{ℕ}
 use lib.Dec.{T, leb, eqb, eqb→eq}
 use lib.ListN.{length}
 use borrow.Author.Tests.{eqb-false, eq-eqb}
-use Rattle.model.specs.Members.{isReplica, none}
-use Rattle.model.specs.State.{RowState, Outline, outline, entries, stageNumber}
-use Rattle.model.specs.Steps.{Step, accepted, qualified, next, step, withController}
+use Rattle.model.specs.Members.{is_replica, none}
+use Rattle.model.specs.State.{RowState, Outline, outline, entries, stage_number}
+use Rattle.model.specs.Steps.{Step, accepted, qualified, next, step, with_controller}
 use Rattle.model.specs.Ranges.{every}
 use Rattle.model.proofs.Tests.{same-choice, of-true, is_true, split-and}
 use Rattle.model.proofs.Range.{AllTrue, of-every}
 use Rattle.cluster.specs.declared.Controller.{Controller}
 use Rattle.cluster.specs.declared.Told.{Told}
-use Rattle.cluster.specs.Layout.{bits, stageOf, controllerOf}
+use Rattle.cluster.specs.Layout.{bits, stage_of, controller_of}
 use Rattle.cluster.specs.Parts.{Tells}
 use Rattle.cluster.specs.Stages.{HasLeader}
 use Rattle.steps_controller.specs.Known.{LeaderKnown, ReadKnown, HearKnown}
 use Rattle.refinement.proofs.Turning.{bits_none}
 use Rattle.hub.specs.declared.Report.{Report}
 use Rattle.hub.specs.declared.Returned.{Returned}
-use Rattle.hub.specs.Lent.{controllerFits, reportRanges, reportFits, leaderFits, Reported, Lends}
+use Rattle.hub.specs.Lent.{controller_fits, report_ranges, report_fits, leader_fits, Reported, Lends}
 
 -- A step that changes the controller at most: the state before it with the controller after it is the state after it.
-module _ (st : Step) (only : (s : RowState) → next entries s st ≡ withController s (next entries s st).controller)
+module _ (st : Step) (only : (s : RowState) → next entries s st ≡ with_controller s (next entries s st).controller)
     (s : RowState) where
-  put-back : withController s (step entries s st).controller ≡ step entries s st
+  put-back : with_controller s (step entries s st).controller ≡ step entries s st
   put-back = go (accepted (outline s) st)
     where
-      go : (t : Bool) → withController s (cond t (next entries s st) s).controller ≡ cond t (next entries s st) s
+      go : (t : Bool) → with_controller s (cond t (next entries s st) s).controller ≡ cond t (next entries s st) s
       go true = sym (only s)
       go false = refl
 
@@ -44,7 +44,7 @@ turned-away st c fits unfit Known t ea eb ec = record {
 
 -- The core's step of c, which is st and asks no majority, gave a; refusal 1 is checked before it, and what is refused
 -- leaves c.
-module _ (st : Step) (only : (s : RowState) → next entries s st ≡ withController s (next entries s st).controller)
+module _ (st : Step) (only : (s : RowState) → next entries s st ≡ with_controller s (next entries s st).controller)
     (quiet : (m : Outline) → qualified m st ≡ none) (c : Controller) (Known' : RowState → Type 0)
     (core : Step) (a : Told) (by-core : Tells Known' core c a)
     (same_step : core ≡ st) where
@@ -61,11 +61,11 @@ module _ (st : Step) (only : (s : RowState) → next entries s st ≡ withContro
       record {
         answer = λ s f. ea ∙ e ∙ h.answer s (k s refl (f refl));
         behind = λ s f. ap bits eb ∙ bits_none
-            ∙ same-choice (accepted (outline (withController s (controllerOf c))) st)
-            (quiet (outline (withController s (controllerOf c))));
-        state = λ s f. ap (λ d. withController s (controllerOf d)) left
-            ∙ ap (withController s) (h.after s (k s refl (f refl)))
-            ∙ put-back st only (withController s (controllerOf c));
+            ∙ same-choice (accepted (outline (with_controller s (controller_of c))) st)
+            (quiet (outline (with_controller s (controller_of c))));
+        state = λ s f. ap (λ d. with_controller s (controller_of d)) left
+            ∙ ap (with_controller s) (h.after s (k s refl (f refl)))
+            ∙ put-back st only (with_controller s (controller_of c));
         refused = λ z. left ∙ h.refused (λ y. z (ea ∙ e ∙ y));
       }
     where
@@ -77,40 +77,40 @@ module _ (st : Step) (only : (s : RowState) → next entries s st ≡ withContro
 
 -- A report that fits.
 module _ (c : Controller) (x : Report) where
-  fields : reportFits c x ≡ true → AllTrue (reportRanges x)
-  fields t = of-every (reportRanges x) (split-and (controllerFits c) (every (reportRanges x)) (of-true t)).1
+  fields : report_fits c x ≡ true → AllTrue (report_ranges x)
+  fields t = of-every (report_ranges x) (split-and (controller_fits c) (every (report_ranges x)) (of-true t)).1
 
   -- Of the controller's leader: at stage leader it is the leader's.
-  module _ (t : leaderFits c x ≡ true) where
+  module _ (t : leader_fits c x ≡ true) where
     abbrev stage : ℕ
-    stage = stageNumber (stageOf c.stage)
+    stage = stage_number (stage_of c.stage)
 
-    both : T (reportFits c x) × T (not (eqb stage 1) || eqb x.board c.view.leader)
-    both = split-and (reportFits c x) (not (eqb stage 1) || eqb x.board c.view.leader) (of-true t)
+    both : T (report_fits c x) × T (not (eqb stage 1) || eqb x.board c.view.leader)
+    both = split-and (report_fits c x) (not (eqb stage 1) || eqb x.board c.view.leader) (of-true t)
 
-    fit : reportFits c x ≡ true
-    fit = is_true (reportFits c x) both.0
+    fit : report_fits c x ≡ true
+    fit = is_true (report_fits c x) both.0
 
     leaders : stage ≡ 1 → x.board ≡ c.view.leader
     leaders g = eqb→eq x.board c.view.leader
         (subst (λ u. T (not u || eqb x.board c.view.leader)) (eq-eqb stage 1 g) both.1)
 
     pub leader-fits : HasLeader c
-    leader-fits g = subst (λ b. isReplica b ≡ true) (leaders g) (is_true (isReplica x.board) (fields fit).0)
+    leader-fits g = subst (λ b. is_replica b ≡ true) (leaders g) (is_true (is_replica x.board) (fields fit).0)
 
 -- What the core's steps are told is so, where the report fits and is so. In place of the report's length they are told
 -- l, which is a length in any case.
 module _ (c : Controller) (x : Report) (l : ℕ) (short : leb x.len 512 ≡ true → l ≡ x.len) (s : RowState) where
-  len-told : reportFits c x ≡ true → Reported x s → length (s.log x.board) ≡ l
+  len-told : report_fits c x ≡ true → Reported x s → length (s.log x.board) ≡ l
   len-told t k = k.len ∙ sym (short (is_true (leb x.len 512) (fields c x t).1.1.1.0))
 
-  pub read_told : reportFits c x ≡ true → Reported x s → ReadKnown x.board x.joined l s
+  pub read_told : report_fits c x ≡ true → Reported x s → ReadKnown x.board x.joined l s
   read_told t k _ = (k.joined, len-told t k)
 
-  pub hear-told : reportFits c x ≡ true → Reported x s → HearKnown x.board x.epoch x.joined l s
+  pub hear-told : report_fits c x ≡ true → Reported x s → HearKnown x.board x.epoch x.joined l s
   hear-told t k _ = (k.epoch, k.joined, len-told t k)
 
-  pub leader-told : leaderFits c x ≡ true → Reported x s → LeaderKnown c x.epoch l s
+  pub leader-told : leader_fits c x ≡ true → Reported x s → LeaderKnown c x.epoch l s
   leader-told t k g =
       subst (λ b. ((s.view b).epoch ≡ x.epoch) × (length (s.log b) ≡ l)) (leaders c x t g)
       (k.epoch, len-told (fit c x t) k)

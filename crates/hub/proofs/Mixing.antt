@@ -7,17 +7,17 @@ use Rattle.model.specs.Claim.{after}
 use Rattle.steps.specs.Calls as Calls
 use Rattle.steps.specs.Calls.{Held, Called, Calls}
 use Rattle.steps.proofs.Following.{Holds, Reached, fit, goes, takes-up, follow, opening, open-reached, follows}
-use Rattle.hub.specs.Whole.{Link, byValue, news, readLeader, read, hear, Links, stop, link, resume, PutBack, LinksSafe}
+use Rattle.hub.specs.Whole.{Link, by_value, news, read_leader, read, hear, Links, stop, link, resume, PutBack, LinksSafe}
 use Rattle.hub.proofs.Putting.{put-back}
 
 -- A row that a run reaches is one that refusal 1 lets through.
 called : {s : RowState} {st : Step} {h h' : Held} {n q : ℕ} → Reached s → Holds s h → Link st h h' n q
     → Called st h h' n q
 unfolding PutBack
-called k m (byValue d) = d
+called k m (by_value d) = d
 called k m (news {h = h} {r = r} {c' = c'} shape l) = (put-back h.row h.places shape (fit k m)).news r c' l
-called k m (readLeader {h = h} {b = b} {r = r} {c' = c'} shape t l) =
-    (put-back h.row h.places shape (fit k m)).readLeader b r c' t l
+called k m (read_leader {h = h} {b = b} {r = r} {c' = c'} shape t l) =
+    (put-back h.row h.places shape (fit k m)).read_leader b r c' t l
 called k m (read {h = h} {b = b} {r = r} {c' = c'} shape l) =
     (put-back h.row h.places shape (fit k m)).read b r c' l
 called k m (hear {h = h} {b = b} {r = r} {c' = c'} shape l) =

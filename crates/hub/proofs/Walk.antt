@@ -56,8 +56,8 @@ use Rattle.hub.proofs.Returned.TheLaws as Ans'
 abbrev pub mach : Controller → Val
 mach d = LL.val Ctl.the_type Ctl'.the_laws d
 
-abbrev pub machR : Reply → Val
-machR d = LL.val Rpl.the_type Rpl'.the_laws d
+abbrev pub mach_r : Reply → Val
+mach_r d = LL.val Rpl.the_type Rpl'.the_laws d
 
 -- Plain data is seen at exit as it was passed: nothing is bound there, and nothing said.
 module _ {D : Type 0} (e : Exit D) (s : e ≡ unchanged) (x : D) where
@@ -101,8 +101,8 @@ module _ (G : Declared) (GL : LL.Laws G) (GP : Plains (fields G)) (GC : LL.Copya
   }
 
   -- The function that it calls.
-  abbrev pub byValue : Ended
-  byValue = record {
+  abbrev pub by_value : Ended
+  by_value = record {
     signature = record {
       lifetimes = 0;
       outlives = [];
@@ -115,8 +115,8 @@ module _ (G : Declared) (GL : LL.Laws G) (GP : Plains (fields G)) (GC : LL.Copya
   abbrev stayed : Stays lent.signature.params lent.kept
   stayed = (stay_ref (0 ∷ []) tt (plain (λ _. Ctl.the_row)), (stay_none (λ _. row G) yes, tt))
 
-  abbrev machG : G.D → Val
-  machG d = LL.val G GL d
+  abbrev mach_g : G.D → Val
+  mach_g d = LL.val G GL d
 
   module _ {M : Type 1} (𝓤 : Ura M) where
     -- What the two ensure. Neither asks anything.
@@ -127,7 +127,7 @@ module _ (G : Declared) (GL : LL.Laws G) (GP : Plains (fields G)) (GC : LL.Copya
       ensures = λ _ r e. fact 𝓤 (Q a.0.now a.1.0 r e.0.now);
     }
 
-    abbrev pub value-clauses : Clauses 𝓤 byValue
+    abbrev pub value-clauses : Clauses 𝓤 by_value
     value-clauses κs a = record {
       ghost = Unit {0};
       requires = λ _. emp 𝓤;
@@ -139,10 +139,10 @@ module _ (G : Declared) (GL : LL.Laws G) (GP : Plains (fields G)) (GC : LL.Copya
       open 𝓛 use {H}
 
       abbrev pub Cited : Contract 𝓤
-      Cited = triple_of 𝓛 byValue.signature (closing 𝓛 byValue value-clauses)
+      Cited = triple_of 𝓛 by_value.signature (closing 𝓛 by_value value-clauses)
 
       module _ (κ : Lft) (q : Share) (b o : ℕ) (γ : GName) (h : Controller) (n : G.D)
-          (n-is : Is (row G) n (machG n ∷ [])) where
+          (n-is : Is (row G) n (mach_g n ∷ [])) where
         abbrev Arg : Type 0
         Arg = MutBor Controller × (G.D × Unit {0})
 
@@ -150,13 +150,13 @@ module _ (G : Declared) (GL : LL.Laws G) (GP : Plains (fields G)) (GC : LL.Copya
         x = (record { ref_ptr = (b, o); ghost_name = γ; now = h }, (n, tt))
 
         abbrev at : List Val × (List Val × Unit {0})
-        at = (vptr b o ∷ [], (machG n ∷ [], tt))
+        at = (vptr b o ∷ [], (mach_g n ∷ [], tt))
 
         abbrev Post : Val → SProp 𝓤
         Post = (walk_of 𝓛 lent stayed lent-clauses).post (((κ, tt), (q, tt), tt, x, at), tt)
 
         abbrev passed : Cited.Ghost
-        passed = ((tt, tt, tt, (h, (n, tt)), (mach h ∷ [], (machG n ∷ [], tt))), tt)
+        passed = ((tt, tt, tt, (h, (n, tt)), (mach h ∷ [], (mach_g n ∷ [], tt))), tt)
 
         goes : Is Ctl.the_row h (mach h ∷ []) → ent 𝓤 (sem 𝓛 ftrue) (Cited.pre passed)
         goes is =
@@ -165,19 +165,19 @@ module _ (G : Declared) (GL : LL.Laws G) (GP : Plains (fields G)) (GC : LL.Copya
             ! $ move ! (1 ∷ 0 ∷ []) $ join ! $ frame ! $ done !
 
         -- Of what the function called ensures, the promise alone.
-        promised : (r : Returned) → ent 𝓤 (ensured 𝓛 byValue value-clauses tt (h, (n, tt)) tt r)
+        promised : (r : Returned) → ent 𝓤 (ensured 𝓛 by_value value-clauses tt (h, (n, tt)) tt r)
             (fact 𝓤 (Q h n r.reply r.controller))
-        promised r = ex_e 𝓤 _ (λ ws. snd∗ 𝓤 (sem 𝓛 (lasts byValue tt (h, (n, tt)) ws))
+        promised r = ex_e 𝓤 _ (λ ws. snd∗ 𝓤 (sem 𝓛 (lasts by_value tt (h, (n, tt)) ws))
             (fact 𝓤 (Q h n r.reply r.controller)))
 
-        exits : (r : Returned) → Q h n r.reply r.controller → Is Rpl.the_row r.reply (machR r.reply ∷ [])
+        exits : (r : Returned) → Q h n r.reply r.controller → Is Rpl.the_row r.reply (mach_r r.reply ∷ [])
             → ent 𝓤 (⋆ 𝓛 (‵ (fobs γ ((Ctl.the_row).coded.code r.controller))
-            ∷ ‵ (fbor κ (Body (mem Ctl.the_row) b o γ)) ∷ ‵ (flft κ q) ∷ [])) (Post (machR r.reply))
+            ∷ ‵ (fbor κ (Body (mem Ctl.the_row) b o γ)) ∷ ‵ (flft κ q) ∷ [])) (Post (mach_r r.reply))
         exits r e r-is =
             qed 𝓛 (‵ (fobs γ ((Ctl.the_row).coded.code r.controller)) ∷ ‵ (fbor κ (Body (mem Ctl.the_row) b o γ))
             ∷ ‵ (flft κ q) ∷ []) ∵
             suffices ! _ (ends_at 𝓛 lent stayed lent-clauses (((κ, tt), (q, tt), tt, x, at), tt)
-            (machR r.reply) r.reply (r.controller, (bound ((row G).exit yes) (LL.still G GC yes) n, tt))
+            (mach_r r.reply) r.reply (r.controller, (bound ((row G).exit yes) (LL.still G GC yes) n, tt))
             (tt, (tt, tt))) $
             says ! e $ nothing ! $ move ! (3 ∷ 0 ∷ []) $ join ! $
             frame ! $ feq_i ! (List Val) (vptr b o ∷ []) (vptr b o ∷ []) refl $ fjoin3 ! $ nothing ! $ owned ! (row G)
@@ -191,16 +191,16 @@ module _ (G : Declared) (GL : LL.Laws G) (GP : Plains (fields G)) (GC : LL.Copya
         is-controller r w is = (LL.owed Ans.the_type Ans'.the_laws r _ is).1.0
 
         is-reply : (r : Returned) (w : Val) → Is Ans.the_row r (w ∷ [])
-            → Is Rpl.the_row r.reply (machR r.reply ∷ [])
+            → Is Rpl.the_row r.reply (mach_r r.reply ∷ [])
         is-reply r w is = (LL.owed Ans.the_type Ans'.the_laws r _ is).0
 
         module _ (C : Calls 𝓤 H) (Λ : Loops 𝓤 H) (fm : FmC 𝓤 H 𝓛.laws C) (f : Name) (known : Triple 𝓤 (C f) Cited)
           where
             walk : ent 𝓤 (on_entry 𝓛 lent.signature (κ, tt) (q, tt) x at)
-                (WpFn 𝓤 H C Λ (code f) (vptr b o ∷ machG n ∷ []) Post)
+                (WpFn 𝓤 H C Λ (code f) (vptr b o ∷ mach_g n ∷ []) Post)
             walk =
                 qed 𝓛 ((‵ (flft κ q) ⊛ ‵ ftrue) ∷ ‵ (owns (MutRef (named 0) κ Ctl.the_row ∷ row G ∷ []) x at) ∷ []) ∵
-                enter ! C Λ (code f) (vptr b o ∷ machG n ∷ []) _ $
+                enter ! C Λ (code f) (vptr b o ∷ mach_g n ∷ []) _ $
                 alloc1 ! (λ l₀. alloc1 ! (λ l₁. alloc1 !
                 (λ l₂. alloc1 ! (λ l₃. alloc1 !
                 (λ l₄. alloc0 ! $ params1 ! $ pass1 ! (init ! 6 refl (tt, tt)) $ pass1 !
@@ -225,7 +225,7 @@ module _ (G : Declared) (GL : LL.Laws G) (GP : Plains (fields G)) (GC : LL.Copya
                 (and_then ! (load ! (from ! (stop !)) (look ! 7 refl))
                 (and_then ! (load ! (from ! (stop !)) (look ! 11 refl)) (no_more !))) (λ w.
                 use1 𝓛 (later (some (λ (r : Returned). (‵ ftrue ⊛ ‵ ((Ans.the_row).own_val r (w ∷ []))) ⊛ raw
-                (ensured 𝓛 byValue value-clauses tt (h, (n, tt)) tt r)))) (id⊢ 𝓤 _) $ await ! tt $ pick ! (λ r.
+                (ensured 𝓛 by_value value-clauses tt (h, (n, tt)) tt r)))) (id⊢ 𝓤 _) $ await ! tt $ pick ! (λ r.
                 split ! $ move ! (1 ∷ []) $ use1 𝓛 (raw (fact 𝓤 (Q h n r.reply r.controller))) (promised r) $
                 heard
                 ! (Q h n r.reply r.controller) (λ e. split ! $ drop ! $
@@ -284,7 +284,7 @@ module _ (G : Declared) (GL : LL.Laws G) (GP : Plains (fields G)) (GC : LL.Copya
 
       pub met : (env : Env) (key f : Name) → Closed 𝓤 H (tables 𝓤 H 𝓜 𝓡 env).C (tables 𝓤 H 𝓜 𝓡 env).Λ key (code f)
           → (called : Routine) → env f ≡ called
-          → Meets 𝓛 byValue.signature (𝓡.run called) (closing 𝓛 byValue value-clauses)
+          → Meets 𝓛 by_value.signature (𝓡.run called) (closing 𝓛 by_value value-clauses)
           → Meets 𝓛 lent.signature (𝓡.run (env key)) (closing 𝓛 lent lent-clauses)
       unfolding tables_of
       met env key f unfolded called calls thm =

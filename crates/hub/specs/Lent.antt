@@ -1,13 +1,13 @@
 -- What a call over the lent controller promises: its answer, who is behind it and the record that it leaves, accepted
 -- or refused. Cited by the contracts of hub. Assumes nothing.
 use Rattle.std.specs.Prelude.{Bool, true, not, cond, ◌&&◌, ◌||◌, List, [], ◌∷◌, ◌≢◌, ◌≡◌, ◌<◌, leb, eqb, length}
-use Rattle.model.specs.Members.{isReplica, none}
-use Rattle.model.specs.State.{RowState, outline, entries, Entry, openingWith, opened, stageNumber}
-use Rattle.model.specs.Steps.{Step, refreshController, readLeader, read, hear, answer_of, behind, step, withRegistry, withController}
-use Rattle.model.specs.Ranges.{every, isEpoch, in_range}
+use Rattle.model.specs.Members.{is_replica, none}
+use Rattle.model.specs.State.{RowState, outline, entries, Entry, opening_with, opened, stage_number}
+use Rattle.model.specs.Steps.{Step, refreshController, read_leader, read, hear, answer_of, behind, step, with_registry, with_controller}
+use Rattle.model.specs.Ranges.{every, is_epoch, in_range}
 use Rattle.cluster.specs.declared.Registry.{Registry}
 use Rattle.cluster.specs.declared.Controller.{Controller}
-use Rattle.cluster.specs.Layout.{bits, stageOf, registryOf, controllerOf}
+use Rattle.cluster.specs.Layout.{bits, stage_of, registry_of, controller_of}
 use Rattle.refinement.specs.Rows.{TypedController}
 use Rattle.hub.specs.declared.Report.{Report}
 use Rattle.hub.specs.declared.Reply.{Reply}
@@ -15,27 +15,27 @@ use Rattle.hub.specs.declared.Reply.{Reply}
 -- Refusal 1 of a registry, and of a controller: "a number outside the ranges above, the registry's leader 0 while
 -- status is not choosing, or the controller's leader 0 at stage leader or boards". All else in an opened row is in
 -- range, so what is asked is asked of the record put into it.
-unfoldable pub registryFits : Registry → Bool
-registryFits g = in_range (outline {E = Entry} (withRegistry (opened (openingWith 1)) (registryOf g)))
+unfoldable pub registry_fits : Registry → Bool
+registry_fits g = in_range (outline {E = Entry} (with_registry (opened (opening_with 1)) (registry_of g)))
 
-unfoldable pub controllerFits : Controller → Bool
-controllerFits c = in_range (outline {E = Entry} (withController (opened (openingWith 1)) (controllerOf c)))
+unfoldable pub controller_fits : Controller → Bool
+controller_fits c = in_range (outline {E = Entry} (with_controller (opened (opening_with 1)) (controller_of c)))
 
 -- The papers leave to the program what these calls are told. Chosen: every number of a report is in its range, used by
 -- the step or not, and at stage leader its board is the controller's leader; else 1, before a step's own checks.
 
 -- Refusal 1 of what a board tells: "a field outside its values".
-abbrev pub reportRanges : Report → List Bool
-reportRanges x = isReplica x.board ∷ isEpoch x.epoch ∷ isEpoch x.joined ∷ leb x.len 512 ∷ []
+abbrev pub report_ranges : Report → List Bool
+report_ranges x = is_replica x.board ∷ is_epoch x.epoch ∷ is_epoch x.joined ∷ leb x.len 512 ∷ []
 
 -- Steps 12 and 14.
-abbrev pub reportFits : Controller → Report → Bool
-reportFits c x = controllerFits c && every (reportRanges x)
+abbrev pub report_fits : Controller → Report → Bool
+report_fits c x = controller_fits c && every (report_ranges x)
 
 -- Step 11: at stage leader the board that tells is the controller's leader. (At another stage there may be none; any
 -- board's telling is answered 15.)
-abbrev pub leaderFits : Controller → Report → Bool
-leaderFits c x = reportFits c x && (not (eqb (stageNumber (stageOf c.stage)) 1) || eqb x.board c.view.leader)
+abbrev pub leader_fits : Controller → Report → Bool
+leader_fits c x = report_fits c x && (not (eqb (stage_number (stage_of c.stage)) 1) || eqb x.board c.view.leader)
 
 -- What the board tells is so in the state s.
 pub record Reported (x : Report) (s : RowState) : Type 0 where
@@ -50,29 +50,29 @@ pub record Lends (fits : Bool) (Known : RowState → Type 0) (st : Step) (c : Co
     (c' : Controller) : Type 0 where
   -- Refusal 1 first, then the model's answer.
   pub answer : (s : RowState) → (fits ≡ true → Known s) → r.answer
-      ≡ cond fits (answer_of (outline (withController s (controllerOf c))) st) 1
+      ≡ cond fits (answer_of (outline (with_controller s (controller_of c))) st) 1
   -- The set behind it: no one, as none of the four steps asks a majority.
   pub behind : (s : RowState) → (fits ≡ true → Known s) → bits r.behind
-      ≡ cond fits (behind (outline (withController s (controllerOf c))) st) none
+      ≡ cond fits (behind (outline (with_controller s (controller_of c))) st) none
   -- The state with c' put back is the model's step of the state with c.
   pub state : (s : RowState) → (fits ≡ true → Known s)
-      → withController s (controllerOf c')
-      ≡ cond fits (step entries (withController s (controllerOf c)) st) (withController s (controllerOf c))
+      → with_controller s (controller_of c')
+      ≡ cond fits (step entries (with_controller s (controller_of c)) st) (with_controller s (controller_of c))
   -- A refused call leaves the record itself.
   pub refused : r.answer ≢ 0 → c' ≡ c
 
 -- The four steps by what they are told: step 10 of the registry g, the others of a board by x.
 abbrev pub TakesNews : Controller → Registry → Reply → Controller → Type 0
-TakesNews c g = Lends (registryFits g && controllerFits c) (λ s. s.registry ≡ registryOf g) refreshController c
+TakesNews c g = Lends (registry_fits g && controller_fits c) (λ s. s.registry ≡ registry_of g) refreshController c
 
 abbrev pub ReadsLeader : Controller → Report → Reply → Controller → Type 0
-ReadsLeader c x = Lends (leaderFits c x) (Reported x) readLeader c
+ReadsLeader c x = Lends (leader_fits c x) (Reported x) read_leader c
 
 abbrev pub Reads : Controller → Report → Reply → Controller → Type 0
-Reads c x = Lends (reportFits c x) (Reported x) (read x.board) c
+Reads c x = Lends (report_fits c x) (Reported x) (read x.board) c
 
 abbrev pub Hears : Controller → Report → Reply → Controller → Type 0
-Hears c x = Lends (reportFits c x) (Reported x) (hear x.board) c
+Hears c x = Lends (report_fits c x) (Reported x) (hear x.board) c
 
 -- What a reply's type fixes: its set is a mask.
 abbrev pub TypedReply : Reply → Type 0
@@ -86,6 +86,6 @@ Fixes P = (r q : Reply) (c' d : Controller) → TypedReply r → TypedReply q �
 -- The promises of the four steps do: what a call is told is so in some state.
 pub record LentFixed : Type 0 where
   pub news : (c : Controller) (g : Registry) → Fixes (TakesNews c g)
-  pub readLeader : (c : Controller) (x : Report) → Fixes (ReadsLeader c x)
+  pub read_leader : (c : Controller) (x : Report) → Fixes (ReadsLeader c x)
   pub read : (c : Controller) (x : Report) → Fixes (Reads c x)
   pub hear : (c : Controller) (x : Report) → Fixes (Hears c x)

@@ -1,13 +1,13 @@
 -- The lent controller put back into its row: a call over it is a call of the whole row, so demand 3 holds for lists
 -- that mix both. Cited by the promise of `hub::claim`. Assumes nothing.
 use Rattle.std.specs.Prelude.{true, List, [], ◌∷◌, ◌≡◌, ℕ}
-use Rattle.model.specs.Members.{isReplica}
-use Rattle.model.specs.State.{Opening, stageNumber}
+use Rattle.model.specs.Members.{is_replica}
+use Rattle.model.specs.State.{Opening, stage_number}
 use Rattle.model.specs.Steps as S
 use Rattle.model.specs.Steps.{Step}
 use Rattle.cluster.specs.declared.Controller.{Controller}
 use Rattle.cluster.specs.declared.Cluster.{Cluster}
-use Rattle.cluster.specs.Layout.{stageOf, at, no_view}
+use Rattle.cluster.specs.Layout.{stage_of, at, no_view}
 use Rattle.refinement.specs.Refinement.{Places, Shape}
 use Rattle.steps.specs.Call.{valid, Did}
 use Rattle.steps.specs.Calls.{Held, Called, TakenUp, Calls, Begins, Follows}
@@ -28,8 +28,8 @@ put_back row c = record {
 }
 
 -- What the board b of a row tells.
-abbrev pub reportOf : Cluster → ℕ → Report
-reportOf row b = record {
+abbrev pub report_of : Cluster → ℕ → Report
+report_of row b = record {
   board = b;
   epoch = (at no_view row.views b).epoch;
   joined = at 0 row.joined b;
@@ -41,7 +41,7 @@ reportOf row b = record {
 -- In step 11, b is the controller's leader at stage leader, and any board at another.
 abbrev pub TellsOfLeader : Cluster → ℕ → Type 0
 TellsOfLeader row b =
-    (isReplica b ≡ true) × (stageNumber (stageOf row.controller.stage) ≡ 1 → b ≡ row.controller.view.leader)
+    (is_replica b ≡ true) × (stage_number (stage_of row.controller.stage) ≡ 1 → b ≡ row.controller.view.leader)
 
 -- The call replied r and left c'. With c' put back, that is a call of the step with the whole row, which leaves the
 -- lent places.
@@ -52,11 +52,11 @@ AsWhole st row p r c' =
 pub record LentAsWhole (row : Cluster) (p : Places) : Type 0 where
   pub news : (r : Reply) (c' : Controller) → TakesNews row.controller row.registry r c'
       → AsWhole S.refreshController row p r c'
-  pub readLeader : (b : ℕ) (r : Reply) (c' : Controller) → TellsOfLeader row b
-      → ReadsLeader row.controller (reportOf row b) r c' → AsWhole S.readLeader row p r c'
-  pub read : (b : ℕ) (r : Reply) (c' : Controller) → Reads row.controller (reportOf row b) r c'
+  pub read_leader : (b : ℕ) (r : Reply) (c' : Controller) → TellsOfLeader row b
+      → ReadsLeader row.controller (report_of row b) r c' → AsWhole S.read_leader row p r c'
+  pub read : (b : ℕ) (r : Reply) (c' : Controller) → Reads row.controller (report_of row b) r c'
       → AsWhole (S.read b) row p r c'
-  pub hear : (b : ℕ) (r : Reply) (c' : Controller) → Hears row.controller (reportOf row b) r c'
+  pub hear : (b : ℕ) (r : Reply) (c' : Controller) → Hears row.controller (report_of row b) r c'
       → AsWhole (S.hear b) row p r c'
 
 -- So it is for every row and places that refusal 1 lets through. (If it does not, the fault may be in a part of the row
@@ -65,25 +65,25 @@ unfoldable pub PutBack : Type 0
 PutBack = (row : Cluster) (p : Places) → Shape row → valid row p ≡ true → LentAsWhole row p
 
 -- What the caller holds with the controller c put back.
-abbrev pub putInto : Held → Controller → Held
-putInto h c = record { row = put_back h.row c; places = h.places }
+abbrev pub put_into : Held → Controller → Held
+put_into h c = record { row = put_back h.row c; places = h.places }
 
 -- A call of either kind, its answer and the mask of those behind it: by record or by name, or over the lent controller,
 -- which is then put back.
 pub data Link : Step → Held → Held → ℕ → ℕ → Type 0 where
-  byValue : {st : Step} {h h' : Held} {n q : ℕ} → Called st h h' n q → Link st h h' n q
+  by_value : {st : Step} {h h' : Held} {n q : ℕ} → Called st h h' n q → Link st h h' n q
   news : {h : Held} {r : Reply} {c' : Controller} → Shape h.row
       → TakesNews h.row.controller h.row.registry r c'
-      → Link S.refreshController h (putInto h c') r.answer r.behind
-  readLeader : {h : Held} {b : ℕ} {r : Reply} {c' : Controller} → Shape h.row → TellsOfLeader h.row b
-      → ReadsLeader h.row.controller (reportOf h.row b) r c'
-      → Link S.readLeader h (putInto h c') r.answer r.behind
+      → Link S.refreshController h (put_into h c') r.answer r.behind
+  read_leader : {h : Held} {b : ℕ} {r : Reply} {c' : Controller} → Shape h.row → TellsOfLeader h.row b
+      → ReadsLeader h.row.controller (report_of h.row b) r c'
+      → Link S.read_leader h (put_into h c') r.answer r.behind
   read : {h : Held} {b : ℕ} {r : Reply} {c' : Controller} → Shape h.row
-      → Reads h.row.controller (reportOf h.row b) r c'
-      → Link (S.read b) h (putInto h c') r.answer r.behind
+      → Reads h.row.controller (report_of h.row b) r c'
+      → Link (S.read b) h (put_into h c') r.answer r.behind
   hear : {h : Held} {b : ℕ} {r : Reply} {c' : Controller} → Shape h.row
-      → Hears h.row.controller (reportOf h.row b) r c'
-      → Link (S.hear b) h (putInto h c') r.answer r.behind
+      → Hears h.row.controller (report_of h.row b) r c'
+      → Link (S.hear b) h (put_into h c') r.answer r.behind
 
 -- Calls of both kinds one after the other, their answers and the masks of those behind them; anywhere the row may have
 -- been taken up from its image.

@@ -3,7 +3,7 @@
 ghost use Rattle.std.specs.Prelude.{◌≡◌, true, ◌&&◌, [], ◌∷◌, ◌≤◌, leb};
 ghost use Rattle.model.specs.Ranges.{every, eight};
 ghost use Rattle.cluster.specs.Layout.{at};
-ghost use Rattle.hub.specs.Lent.{registryFits, controllerFits, reportRanges, reportFits, leaderFits};
+ghost use Rattle.hub.specs.Lent.{registry_fits, controller_fits, report_ranges, report_fits, leader_fits};
 
 use crate::Report;
 use cluster::ranges::{both, either, epoch, named, reads, view};
@@ -28,7 +28,7 @@ fn hearings(heard: [u16; 8], joined: [u16; 8]) -> bool
 
 // Whether a controller's record is in range.
 fn controller(c: Controller) -> bool
-    ensures { result ≡ controllerFits c }
+    ensures { result ≡ controller_fits c }
 {
     let v = c.view;
     let heard = c.heard;
@@ -39,7 +39,7 @@ fn controller(c: Controller) -> bool
 
 // Whether a registry is.
 fn registry(g: Registry) -> bool
-    ensures { result ≡ registryFits g }
+    ensures { result ≡ registry_fits g }
 {
     let v = g.view;
     both(view(v), named(g))
@@ -47,14 +47,14 @@ fn registry(g: Registry) -> bool
 
 // Step 10: whether both are.
 pub fn news(c: Controller, g: Registry) -> bool
-    ensures { result ≡ (registryFits g && controllerFits c) }
+    ensures { result ≡ (registry_fits g && controller_fits c) }
 {
     both(registry(g), controller(c))
 }
 
 // Whether a report's four numbers are.
 fn tells(x: Report) -> bool
-    ensures { result ≡ every (reportRanges x) }
+    ensures { result ≡ every (report_ranges x) }
 {
     let t3 = both(epoch(x.joined), x.len <= 512);
     let t2 = both(epoch(x.epoch), t3);
@@ -63,14 +63,14 @@ fn tells(x: Report) -> bool
 
 // Steps 12 and 14: whether controller and report are.
 pub fn report(c: Controller, x: Report) -> bool
-    ensures { result ≡ reportFits c x }
+    ensures { result ≡ report_fits c x }
 {
     both(controller(c), tells(x))
 }
 
 // Step 11: and the report is of the controller's leader, at stage leader.
 pub fn leader(c: Controller, x: Report) -> bool
-    ensures { result ≡ leaderFits c x }
+    ensures { result ≡ leader_fits c x }
 {
     let v = c.view;
     let s = c.stage;

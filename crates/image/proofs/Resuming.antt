@@ -13,10 +13,10 @@ use Rattle.marks.specs.Marks.{room}
 use Rattle.cluster.specs.declared.Cluster.{Cluster}
 use Rattle.model.proofs.Tests.{by_cond}
 use Rattle.refinement.specs.Refinement.{Places, Full, abs}
-use Rattle.shown.specs.Shown.{lengthsFit, valid}
+use Rattle.shown.specs.Shown.{lengths_fit, valid}
 use Rattle.shown.proofs.Valid.{fits-full}
 use Rattle.image.specs.declared.Loaded.{Loaded}
-use Rattle.image.specs.Image.{image_of, verdict, row_in, placesIn}
+use Rattle.image.specs.Image.{image_of, verdict, row_in, places_in}
 use Rattle.image.specs.Keeping.{Saves, taken, Loads, ReadsBack, Resumes}
 use Rattle.image.proofs.Fitting.{places-full}
 use Rattle.image.proofs.Returning.{reads-back}
@@ -48,10 +48,10 @@ module _ (row : Cluster) (p : Places) (out : Text) (n : ℕ) (out' : Text) (w : 
 -- The reader was lent enough, and the image is a row's: it takes it.
 module _ (image : Text) (given : Cluster) (q : Places) (s : Text) (x : Loaded) (q' : Places) (s' : Text)
     (l : Loads image given q s x q' s') (f : x.answer ≢ 1) (g : x.answer ≢ 3) (v : verdict image ≡ 0) where
-  lent : (lengthsFit q ≡ true) × (leb room (length s) ≡ true) × (x.answer ≡ verdict image)
-  lent = both_hold (lengthsFit q) (leb room (length s)) (verdict image) x.answer l.answer f g
+  lent : (lengths_fit q ≡ true) × (leb room (length s) ≡ true) × (x.answer ≡ verdict image)
+  lent = both_hold (lengths_fit q) (leb room (length s)) (verdict image) x.answer l.answer f g
 
-  takes : (x.answer ≡ 0) × (x.row ≡ row_in image) × (q' ≡ placesIn image q)
+  takes : (x.answer ≡ 0) × (x.row ≡ row_in image) × (q' ≡ places_in image q)
   takes =
       let t : eqb (verdict image) 0 ≡ true = eq-eqb (verdict image) 0 v in (
         lent.2 ∙ v,
@@ -75,7 +75,7 @@ resumes row p t out n out' w f g given q s x q' s' l h k =
 pub read-full : {image : Text} {given : Cluster} {q : Places} {s : Text} {x : Loaded} {q' : Places} {s' : Text}
     → Loads image given q s x q' s' → x.answer ≢ 1 → x.answer ≢ 3 → Full q'
 read-full {image} {given} {q} {s} {x} {q'} {s'} l f g =
-    let e = both_hold (lengthsFit q) (leb room (length s)) (verdict image) x.answer l.answer f g in
+    let e = both_hold (lengths_fit q) (leb room (length s)) (verdict image) x.answer l.answer f g in
     let full = fits-full given q e.0 in
     subst Full (sym l.places)
     (by_cond Full (taken image q s) (λ t. places-full image q full) (λ t. full))

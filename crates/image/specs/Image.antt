@@ -6,12 +6,12 @@ use Rattle.model.specs.State.{Entry, RowState, outline}
 use Rattle.model.specs.Ranges.{in_range}
 use Rattle.text.specs.Text.{Text, over}
 use Rattle.cluster.specs.declared.Cluster.{Cluster}
-use Rattle.cluster.specs.Layout.{outlineOf}
+use Rattle.cluster.specs.Layout.{outline_of}
 use Rattle.refinement.specs.Refinement.{Places, lent}
-use Rattle.head.specs.Head.{headBytes, row_at, codesFit}
-use Rattle.chains.specs.Image.{epochsFit, holds, values_of, epochsOf}
-use Rattle.loading.specs.Read.{boardsOf, receiptsOf, laid}
-use Rattle.saving.specs.Saved.{firstsFor, recordsAll, bytes_of}
+use Rattle.head.specs.Head.{head_bytes, row_at, codes_fit}
+use Rattle.chains.specs.Image.{epochs_fit, holds, values_of, epochs_of}
+use Rattle.loading.specs.Read.{boards_of, receipts_of, laid}
+use Rattle.saving.specs.Saved.{firsts_for, records_all, bytes_of}
 
 -- Writing
 
@@ -22,43 +22,43 @@ lists_of s =
 
 -- "258 bytes of head and 8-byte records numbered from 1", the lists' one after the other, "each in order".
 unfoldable pub image_of : RowState → Text
-image_of s = headBytes (outline s) (firstsFor 1 (lists_of s)) ++ bytes_of (recordsAll 1 (lists_of s))
+image_of s = head_bytes (outline s) (firsts_for 1 (lists_of s)) ++ bytes_of (records_all 1 (lists_of s))
 
 -- Reading
 
 -- How many records an image has.
-abbrev pub recordsIn : Text → ℕ
-recordsIn image = (length image - 258) / 8
+abbrev pub records_in : Text → ℕ
+records_in image = (length image - 258) / 8
 
 -- Not "17 the length is not 258 plus 8 times 0 to 4,608",
-abbrev pub lengthFits : Text → Bool
-lengthFits image = eqb (length image) (8 * recordsIn image + 258) && leb (recordsIn image) 4608
+abbrev pub length_fits : Text → Bool
+length_fits image = eqb (length image) (8 * records_in image + 258) && leb (records_in image) 4608
 
 -- nor "18 a number outside its range, a zero byte that is not 0, or a row that refusal 1 would turn away": the row as
 -- the head says it and the epoch of every record, met by a chain or not. (An image has no lengths, so they are 0 here.
 -- That no list passes 512 is the next one's; so refusal 1 lets the row that is returned through, `TakenFits`.)
-unfoldable pub numbersFit : Text → Bool
-numbersFit image =
-    codesFit image && in_range (outlineOf (row_at image (replicate 8 0) 0)) && epochsFit (recordsIn image) image
+unfoldable pub numbers_fit : Text → Bool
+numbers_fit image =
+    codes_fit image && in_range (outline_of (row_at image (replicate 8 0) 0)) && epochs_fit (records_in image) image
 
 -- nor "19 a chain points past the last record or passes 512 entries, or a record is met twice, by one chain or two, or
 -- not at all".
-unfoldable pub linksFit : Text → Bool
-linksFit image = holds (recordsIn image) image
+unfoldable pub links_fit : Text → Bool
+links_fit image = holds (records_in image) image
 
 -- The first of these that is wrong, "in that order"; 0 where the image is a row's.
 abbrev pub verdict : Text → ℕ
-verdict image = cond (lengthFits image) (cond (numbersFit image) (cond (linksFit image) 0 19) 18) 17
+verdict image = cond (length_fits image) (cond (numbers_fit image) (cond (links_fit image) 0 19) 18) 17
 
 -- The row that an image says: its head, and the lengths of its chains.
 unfoldable pub row_in : Text → Cluster
-row_in image = row_at image (map length (boardsOf image)) (length (receiptsOf image))
+row_in image = row_at image (map length (boards_of image)) (length (receipts_of image))
 
 -- The lent places with the lists of an image: each in its own part, and every place past a log's or the receipts'
 -- length as it was.
-unfoldable pub placesIn : Text → Places → Places
-placesIn image p = lent
-    (laid p.store 0 (map (values_of image) (boardsOf image)))
-    (laid p.store2 0 (map (epochsOf image) (boardsOf image)))
-    (over p.list 0 (values_of image (receiptsOf image)))
-    (over p.list2 0 (epochsOf image (receiptsOf image)))
+unfoldable pub places_in : Text → Places → Places
+places_in image p = lent
+    (laid p.store 0 (map (values_of image) (boards_of image)))
+    (laid p.store2 0 (map (epochs_of image) (boards_of image)))
+    (over p.list 0 (values_of image (receipts_of image)))
+    (over p.list2 0 (epochs_of image (receipts_of image)))

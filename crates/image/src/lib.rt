@@ -5,8 +5,8 @@
 ghost use Rattle.std.specs.Prelude.{true, cond, ◌≡◌, ◌+◌, ◌*◌, length};
 ghost use Rattle.refinement.specs.Refinement.{lent, Shape};
 ghost use Rattle.shown.specs.Shown.{valid};
-ghost use Rattle.image.specs.Image.{lengthFits, numbersFit};
-ghost use Rattle.image.specs.Keeping.{Saves, lentEnough, Loads, ReadsBack, Resumes, ImagesTell, TakenFits, PastLeft};
+ghost use Rattle.image.specs.Image.{length_fits, numbers_fit};
+ghost use Rattle.image.specs.Keeping.{Saves, lent_enough, Loads, ReadsBack, Resumes, ImagesTell, TakenFits, PastLeft};
 
 use cluster::Cluster;
 
@@ -70,7 +70,7 @@ pub fn save(
 
 // Whether error 17 lets an image through.
 fn length_fits(image: &[u8]) -> bool
-    ensures { result ≡ lengthFits image.now }
+    ensures { result ≡ length_fits image.now }
 {
     let n = image.len();
     if n < 258 {
@@ -83,7 +83,7 @@ fn length_fits(image: &[u8]) -> bool
 // Whether error 18 lets an image of n records through.
 fn numbers_fit(image: &[u8], n: usize) -> bool
     requires { length image.now ≡ 8 * n + 258 }
-    ensures { result ≡ numbersFit image.now }
+    ensures { result ≡ numbers_fit image.now }
 {
     if !head::codes_fit(image) {
         return false;
@@ -97,7 +97,7 @@ fn numbers_fit(image: &[u8], n: usize) -> bool
 
 // Errors 17 and 18 of an image, in that order, or 0.
 fn judge(image: &[u8]) -> u8
-    ensures { result ≡ cond (lengthFits image.now) (cond (numbersFit image.now) 0 18) 17 }
+    ensures { result ≡ cond (length_fits image.now) (cond (numbers_fit image.now) 0 18) 17 }
 {
     if !length_fits(image) {
         return 17;
@@ -119,8 +119,8 @@ fn take_up(
     list2: &mut [u16],
     scratch: &mut [u8],
 ) -> Loaded
-    requires { (lengthFits image.now ≡ true) × (numbersFit image.now ≡ true)
-        × (lentEnough (lent store.old store2.old list.old list2.old) scratch.old ≡ true) }
+    requires { (length_fits image.now ≡ true) × (numbers_fit image.now ≡ true)
+        × (lent_enough (lent store.old store2.old list.old list2.old) scratch.old ≡ true) }
     ensures { Loads image.now given
         (lent store.old store2.old list.old list2.old)
         scratch.old result

@@ -3,8 +3,8 @@
 // second list have their lengths, and that no log and no list of receipts is longer than 512.
 
 ghost use Rattle.std.specs.Prelude.{◌≡◌, List, map, ℕ, ◌≤◌, length};
-ghost use Rattle.model.specs.Ranges.{every, eight, isEpoch, keptInRange};
-ghost use Rattle.logstore.specs.Log.{logOf};
+ghost use Rattle.model.specs.Ranges.{every, eight, is_epoch, kept_in_range};
+ghost use Rattle.logstore.specs.Log.{log_of};
 ghost use Rattle.cluster.specs.Layout.{at};
 ghost use Rattle.refinement.specs.Refinement.{lent, Full, abs, Short};
 
@@ -13,7 +13,7 @@ use cluster::ranges::both;
 
 // Whether each number of a part is an epoch. No early end, so that many are tested at a time.
 fn epochs(part: &[u16]) -> bool
-    ensures { result ≡ every (map isEpoch part.now) }
+    ensures { result ≡ every (map is_epoch part.now) }
 {
     let mut ok = true;
     let mut i: usize = 0;
@@ -28,7 +28,7 @@ fn epochs(part: &[u16]) -> bool
 // Whether the n terms from the place of replica b's first are epochs.
 fn log(terms: &[u16], b: u8, n: u16) -> bool
     requires { (length terms.now ≡ 4096) × (1 ≤ b) × (b ≤ 8) × (n ≤ 512) }
-    ensures { result ≡ every (map isEpoch (logOf terms.now b n)) }
+    ensures { result ≡ every (map is_epoch (log_of terms.now b n)) }
 {
     let start = 512 * ((b - 1) as usize);
     let end = start + (n as usize);
@@ -38,7 +38,7 @@ fn log(terms: &[u16], b: u8, n: u16) -> bool
 // Whether those of all logs are.
 fn logs(terms: &[u16], len: [u16; 8]) -> bool
     requires { (length terms.now ≡ 4096) × Short len }
-    ensures { result ≡ every (eight (λ b. every (map isEpoch (logOf terms.now b (at 0 len b))))) }
+    ensures { result ≡ every (eight (λ b. every (map is_epoch (log_of terms.now b (at 0 len b))))) }
 {
     let mut ok = true;
     let mut b = 8u8;
@@ -56,7 +56,7 @@ fn logs(terms: &[u16], len: [u16; 8]) -> bool
 pub fn in_range(row: Cluster, store2: &[u16], list2: &[u16]) -> bool
     requires { (length store2.now ≡ 4096) × (length list2.now ≡ 512) × Short row.len × (row.issued ≤ 512) }
     ensures { (store list : List ℕ) → Full (lent store store2.now list list2.now)
-        → result ≡ keptInRange (abs row (lent store store2.now list list2.now)) }
+        → result ≡ kept_in_range (abs row (lent store store2.now list list2.now)) }
 {
     let n = row.issued as usize;
     let len = row.len;

@@ -53,17 +53,17 @@ use Rattle.hub.proofs.Reply.TheLaws as Rpl'
 use Rattle.hub.specs.contracts.Returned as Ans
 use Rattle.hub.proofs.Returned.TheLaws as Ans'
 use Rattle.hub.proofs.Walk as hub
-use Rattle.hub.proofs.Walk.{mach, machR}
+use Rattle.hub.proofs.Walk.{mach, mach_r}
 
 -- What is asked of the machine values of a controller and of a reply; the machine value of what is returned.
 abbrev IsCtl : Controller → Type 0
 IsCtl d = Is Ctl.the_row d (mach d ∷ [])
 
 abbrev IsRpl : Reply → Type 0
-IsRpl r = Is Rpl.the_row r (machR r ∷ [])
+IsRpl r = Is Rpl.the_row r (mach_r r ∷ [])
 
-abbrev machA : Returned → Val
-machA t = LL.val Ans.the_type Ans'.the_laws t
+abbrev mach_a : Returned → Val
+mach_a t = LL.val Ans.the_type Ans'.the_laws t
 
 -- A controller in the block b, as the machine has it and as its type has it.
 module _ {M : Type 1} {𝓤 : Ura M} (𝓛 : Logic 𝓤) where
@@ -106,8 +106,8 @@ module _ (G : Declared) (GL : LL.Laws G) (GP : Plains (fields G)) (GC : LL.Copya
   abbrev lent : Ended
   lent = hub.lent G GL GP GC Q
 
-  abbrev byValue : Ended
-  byValue = hub.byValue G GL GP GC Q
+  abbrev by_value : Ended
+  by_value = hub.by_value G GL GP GC Q
 
   -- The code of the one that lends, which is
   --     let r = f(&mut c, x); Returned { reply: r, controller: c }
@@ -131,17 +131,17 @@ module _ (G : Declared) (GL : LL.Laws G) (GP : Plains (fields G)) (GC : LL.Copya
         (seq (assign (place 0 []) (aggregate (copy (place 4 []) ∷ copy (place 6 []) ∷ []))) return))));
   }
 
-  abbrev stayed : Stays byValue.signature.params byValue.kept
+  abbrev stayed : Stays by_value.signature.params by_value.kept
   stayed = (stay_none (λ _. Ctl.the_row) yes, (stay_none (λ _. row G) yes, tt))
 
-  abbrev machG : G.D → Val
-  machG d = LL.val G GL d
+  abbrev mach_g : G.D → Val
+  mach_g d = LL.val G GL d
 
   module _ {M : Type 1} (𝓤 : Ura M) where
     abbrev lent-clauses : Clauses 𝓤 lent
     lent-clauses = hub.lent-clauses G GL GP GC Q 𝓤
 
-    abbrev value-clauses : Clauses 𝓤 byValue
+    abbrev value-clauses : Clauses 𝓤 by_value
     value-clauses = hub.value-clauses G GL GP GC Q 𝓤
 
     module _ (𝓛 : Logic 𝓤) where
@@ -152,17 +152,17 @@ module _ (G : Declared) (GL : LL.Laws G) (GP : Plains (fields G)) (GC : LL.Copya
       Cited = triple_of 𝓛 lent.signature (closing 𝓛 lent lent-clauses)
 
       abbrev Shown : Contract 𝓤
-      Shown = triple_of 𝓛 byValue.signature (closing 𝓛 byValue value-clauses)
+      Shown = triple_of 𝓛 by_value.signature (closing 𝓛 by_value value-clauses)
 
-      module _ (h : Controller) (n : G.D) (h-is : IsCtl h) (n-is : Is (row G) n (machG n ∷ [])) where
+      module _ (h : Controller) (n : G.D) (h-is : IsCtl h) (n-is : Is (row G) n (mach_g n ∷ [])) where
         abbrev x : Controller × (G.D × Unit {0})
         x = (h, (n, tt))
 
         abbrev at : List Val × (List Val × Unit {0})
-        at = (mach h ∷ [], (machG n ∷ [], tt))
+        at = (mach h ∷ [], (mach_g n ∷ [], tt))
 
         abbrev Post : Val → SProp 𝓤
-        Post = (walk_of 𝓛 byValue stayed value-clauses).post ((tt, tt, tt, x, at), tt)
+        Post = (walk_of 𝓛 by_value stayed value-clauses).post ((tt, tt, tt, x, at), tt)
 
         -- The reference passed: to the block b, at the lifetime α, under the name δ. What the lender keeps.
         module _ (α b : ℕ) (δ : GName) where
@@ -176,7 +176,7 @@ module _ (G : Declared) (GL : LL.Laws G) (GP : Plains (fields G)) (GC : LL.Copya
           aside = ‵ (flent (α ∷ []) (Body (mem Ctl.the_row) b 0 δ))
 
           abbrev passed : Cited.Ghost
-          passed = (((α ∷ [], tt), (full_share, tt), tt, arg, (vptr b 0 ∷ [], (machG n ∷ [], tt))), tt)
+          passed = (((α ∷ [], tt), (full_share, tt), tt, arg, (vptr b 0 ∷ [], (mach_g n ∷ [], tt))), tt)
 
           goes : ent 𝓤 (sep 𝓤 (A.lft (α ∷ []) full_share) (mean 𝓛 ref)) (Cited.pre passed)
           goes =
@@ -199,13 +199,13 @@ module _ (G : Declared) (GL : LL.Laws G) (GP : Plains (fields G)) (GC : LL.Copya
           abbrev told : Returned
           told = record { reply = r; controller = y }
 
-          told_is : Is Ans.the_row told (machA told ∷ [])
+          told_is : Is Ans.the_row told (mach_a told ∷ [])
           told_is = LL.owes Ans.the_type Ans'.the_laws told (r-is, (y-is, tt))
 
-          exits : Q h n r y → ent 𝓤 (emp 𝓤) (Post (machA told))
+          exits : Q h n r y → ent 𝓤 (emp 𝓤) (Post (mach_a told))
           exits e =
               qed 𝓛 [] ∵
-              suffices ! _ (ends_at 𝓛 byValue stayed value-clauses ((tt, tt, tt, x, at), tt) (machA told) told
+              suffices ! _ (ends_at 𝓛 by_value stayed value-clauses ((tt, tt, tt, x, at), tt) (mach_a told) told
               (tt, (hub.bound ((row G).exit yes) (LL.still G GC yes) n, tt)) (tt, (tt, tt))) $
               says ! e $ nothing ! $ owned ! (row G) (Is (row G)) (LL.makes G GP 𝓛) n _ n-is $ fjoin ! $
               owned ! Ctl.the_row (Is Ctl.the_row) (makes 𝓛) h _ h-is $ fjoin ! $
@@ -218,11 +218,11 @@ module _ (G : Declared) (GL : LL.Laws G) (GP : Plains (fields G)) (GC : LL.Copya
 
         module _ (C : Calls 𝓤 H) (Λ : Loops 𝓤 H) (fm : FmC 𝓤 H 𝓛.laws C) (f : Name)
             (known : Triple 𝓤 (C f) Cited) where
-          walk : ent 𝓤 (on_entry 𝓛 byValue.signature tt tt x at)
-              (WpFn 𝓤 H C Λ (code f) (mach h ∷ machG n ∷ []) Post)
+          walk : ent 𝓤 (on_entry 𝓛 by_value.signature tt tt x at)
+              (WpFn 𝓤 H C Λ (code f) (mach h ∷ mach_g n ∷ []) Post)
           walk =
               qed 𝓛 (‵ ftrue ∷ ‵ (owns (Ctl.the_row ∷ row G ∷ []) x at) ∷ []) ∵
-              enter ! C Λ (code f) (mach h ∷ machG n ∷ []) _ $
+              enter ! C Λ (code f) (mach h ∷ mach_g n ∷ []) _ $
               alloc1 ! (λ l₀. alloc1 ! (λ l₁. alloc1 ! (λ l₂. alloc1 ! (λ l₃. alloc1 ! (λ l₄. alloc1 ! (λ l₅.
               alloc1 ! (λ l₆. alloc0 ! $ params1 ! $ pass1 ! (init ! 10 refl ((lawful 𝓛).typed h _ h-is).0) $
               pass1 ! (init ! 8 refl ((LL.lawful G GL 𝓛).typed n _ n-is).0) $ pass0 ! $
@@ -268,18 +268,18 @@ module _ (G : Declared) (GL : LL.Laws G) (GP : Plains (fields G)) (GC : LL.Copya
 
       module _ (f : Name) where
         walks : (C : Calls 𝓤 H) (Λ : Loops 𝓤 H) → FmC 𝓤 H 𝓛.laws C → Triple 𝓤 (C f) Cited
-            → Walks 𝓛 byValue stayed (WpFn 𝓤 H C Λ (code f)) value-clauses
+            → Walks 𝓛 by_value stayed (WpFn 𝓤 H C Λ (code f)) value-clauses
         walks C Λ fm known =
-            walked 𝓛 byValue stayed value-clauses (WpFn 𝓤 H C Λ (code f))
+            walked 𝓛 by_value stayed value-clauses (WpFn 𝓤 H C Λ (code f))
             (λ κs. (LL.vals Ctl.the_type Ctl'.the_laws, (LL.vals G GL, tt)))
             (λ κs. (LL.tells Ctl.the_type Ctl'.the_laws, (LL.tells G GL, tt)))
             (λ κs qs bounds a g are. via 𝓤 _ (fst∗ 𝓤 _ (emp 𝓤))
             (walk a.0 a.1.0 are.0 are.1.0 C Λ fm f known))
 
         meets : (𝓣 : Tables 𝓤 H) → Triple 𝓤 (𝓣.C f) Cited
-            → Meets 𝓛 byValue.signature (WpFn 𝓤 H 𝓣.C 𝓣.Λ (code f)) (closing 𝓛 byValue value-clauses)
+            → Meets 𝓛 by_value.signature (WpFn 𝓤 H 𝓣.C 𝓣.Λ (code f)) (closing 𝓛 by_value value-clauses)
         meets 𝓣 known =
-            walk_Meets 𝓛 byValue stayed (
+            walk_Meets 𝓛 by_value stayed (
               Goes-none 𝓛 0 (λ _. Ctl.the_row) yes (λ κs x f. refl),
               (Goes-none 𝓛 0 (λ _. row G) yes (λ κs. hub.unsaid ((row G).exit yes) (LL.still G GC yes)), tt),
             )
@@ -294,7 +294,7 @@ module _ (G : Declared) (GL : LL.Laws G) (GP : Plains (fields G)) (GC : LL.Copya
           → Closed 𝓤 H (tables 𝓤 H 𝓜 𝓡 env).C (tables 𝓤 H 𝓜 𝓡 env).Λ key (code f)
           → (called : Routine) → env f ≡ called
           → Meets 𝓛 lent.signature (𝓡.run called) (closing 𝓛 lent lent-clauses)
-          → Meets 𝓛 byValue.signature (𝓡.run (env key)) (closing 𝓛 byValue value-clauses)
+          → Meets 𝓛 by_value.signature (𝓡.run (env key)) (closing 𝓛 by_value value-clauses)
       unfolding tables_of
       met env key f unfolded called calls thm =
           let tabled = tables 𝓤 H 𝓜 𝓡 env in

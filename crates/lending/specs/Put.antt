@@ -10,8 +10,8 @@ use Rattle.hub.specs.declared.Returned.{Returned}
 use Rattle.hub.specs.Whole.{put_back, Link}
 
 -- The row with the controller that a call left, and the call's reply.
-abbrev pub putTo : Cluster → Returned → Outcome
-putTo row t = record { answer = t.reply.answer; behind = t.reply.behind; row = put_back row t.controller }
+abbrev pub put_to : Cluster → Returned → Outcome
+put_to row t = record { answer = t.reply.answer; behind = t.reply.behind; row = put_back row t.controller }
 
 -- The step is one link of a list that mixes calls by value and over the lent controller. Demand 3 holds for such lists
 -- (`hub::claim`).

@@ -3,8 +3,8 @@
 ghost use Rattle.std.specs.Prelude.{◌≡◌, ◌≤◌};
 ghost use Rattle.model.specs.Steps as S;
 ghost use Rattle.refinement.specs.Refinement.{Shape};
-ghost use Rattle.hub.specs.Whole.{reportOf};
-ghost use Rattle.lending.specs.Put.{putTo, IsLink};
+ghost use Rattle.hub.specs.Whole.{report_of};
+ghost use Rattle.lending.specs.Put.{put_to, IsLink};
 
 use cluster::{Cluster, Outcome};
 use hub::{Report, Returned};
@@ -14,7 +14,7 @@ mod lend;
 // What board b of the row tells.
 fn report(row: Cluster, b: u8) -> Report
     requires { (1 ≤ b) × (b ≤ 8) }
-    ensures { result ≡ reportOf row b }
+    ensures { result ≡ report_of row b }
 {
     let i = (b - 1) as usize;
     let v = row.views[i];
@@ -28,7 +28,7 @@ fn report(row: Cluster, b: u8) -> Report
 
 // The row with the controller as a call left it, and the call's reply. The row's type fixes the lengths of its arrays.
 fn put_back(row: Cluster, t: Returned) -> Outcome
-    ensures { (result ≡ putTo row t) × Shape row }
+    ensures { (result ≡ put_to row t) × Shape row }
 {
     let mut next = row;
     let c = t.controller;
@@ -52,7 +52,7 @@ pub fn refresh_controller(row: Cluster) -> Outcome
 
 // Step 11. If the controller has no leader, some board tells: the step is refused then.
 pub fn read_leader(row: Cluster) -> Outcome
-    ensures { IsLink S.readLeader row result }
+    ensures { IsLink S.read_leader row result }
 {
     let c = row.controller;
     let v = c.view;

@@ -16,26 +16,26 @@ up_to text zero = []
 up_to text (suc n) = up_to text n ++ text (suc n)
 
 module _ (text : ℕ → Text) where
-  pub upTo-next : (n : ℕ) → up_to text (n + 1) ≡ up_to text n ++ text (n + 1)
+  pub up_to-next : (n : ℕ) → up_to text (n + 1) ≡ up_to text n ++ text (n + 1)
   unfolding up_to
-  upTo-next n = rw (add-one n)
+  up_to-next n = rw (add-one n)
 
-  pub upTo-eight : up_to text 8 ≡ eight text
+  pub up_to-eight : up_to text 8 ≡ eight text
   unfolding up_to
-  upTo-eight = simp append_assoc refl
+  up_to-eight = simp append_assoc refl
 
   -- More texts take no less room.
-  upTo-more : (n d : ℕ) → length (up_to text n) ≤ length (up_to text (n + d))
+  up_to-more : (n d : ℕ) → length (up_to text n) ≤ length (up_to text (n + d))
   unfolding up_to
-  upTo-more n zero = rw (add-zero n) (omega arith)
-  upTo-more n (suc d) =
-      rw (add-suc n d) (omega (arith, upTo-more n d, length-append (up_to text (n + d)) (text (suc (n + d)))))
+  up_to-more n zero = rw (add-zero n) (omega arith)
+  up_to-more n (suc d) =
+      rw (add-suc n d) (omega (arith, up_to-more n d, length-append (up_to text (n + d)) (text (suc (n + d)))))
 
   -- Room for all is room for the next one, once those before it are written.
-  pub upTo-fits : {d e : Text} {at p : ℕ} (n : ℕ) → n < 8 → Wrote d at (up_to text n) e p
+  pub up_to-fits : {d e : Text} {at p : ℕ} (n : ℕ) → n < 8 → Wrote d at (up_to text n) e p
       → at + length (eight text) ≤ length d → p + length (text (n + 1)) ≤ length e
-  upTo-fits n h w r =
+  up_to-fits n h w r =
       let e : n + 1 + (8 - (n + 1)) ≡ 8 = omega (arith, h) in
-      let m = subst (λ k. length (up_to text (n + 1)) ≤ length (up_to text k)) e (upTo-more (n + 1) (8 - (n + 1))) in
+      let m = subst (λ k. length (up_to text (n + 1)) ≤ length (up_to text k)) e (up_to-more (n + 1) (8 - (n + 1))) in
       let both = length-append (up_to text n) (text (n + 1)) in
-      omega (arith, wrote-length w, ap length (upTo-next n), both, ap length upTo-eight)
+      omega (arith, wrote-length w, ap length (up_to-next n), both, ap length up_to-eight)

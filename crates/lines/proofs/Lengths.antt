@@ -12,19 +12,19 @@ use Rattle.model.specs.State as M
 use Rattle.model.proofs.Range.{ViewInRange}
 use Rattle.text.specs.Text.{Text, digits}
 use Rattle.text.proofs.Laws.{digits-most}
-use Rattle.lines.specs.Lines.{word, space, newline, eight, memberText, membersText, viewText, statusWord, stageWord, lateWord, hasFourth, fourthField, answerLine, registryLine, controlLine, boardText}
+use Rattle.lines.specs.Lines.{word, space, newline, eight, member_text, members_text, view_text, status_word, stage_word, late_word, has_fourth, fourth_field, answer_line, registry_line, control_line, board_text}
 
 -- A line by its numbers and its fourth field.
 pub line-length : (k n a : ℕ) (q : Members)
-    → length (answerLine k n a q)
-    ≡ length (digits k) + length (digits n) + length (digits a) + length (fourthField n a q) + 3
-unfolding answerLine
+    → length (answer_line k n a q)
+    ≡ length (digits k) + length (digits n) + length (digits a) + length (fourth_field n a q) + 3
+unfolding answer_line
 line-length k n a q = omega (
   arith,
-  length-append (digits k) (space ++ (digits n ++ (space ++ (digits a ++ (fourthField n a q ++ newline))))),
-  length-append (digits n) (space ++ (digits a ++ (fourthField n a q ++ newline))),
-  length-append (digits a) (fourthField n a q ++ newline),
-  length-append (fourthField n a q) newline,
+  length-append (digits k) (space ++ (digits n ++ (space ++ (digits a ++ (fourth_field n a q ++ newline))))),
+  length-append (digits n) (space ++ (digits a ++ (fourth_field n a q ++ newline))),
+  length-append (digits a) (fourth_field n a q ++ newline),
+  length-append (fourth_field n a q) newline,
 )
 
 -- Eight texts of at most n bytes each.
@@ -38,10 +38,10 @@ member-most : (t : Bool) (x : ℕ) → length (cond {A = Text} t (x ∷ []) []) 
 member-most true x = omega arith
 member-most false x = omega arith
 
-pub members-most : (m : Members) → length (membersText m) ≤ 8
-unfolding membersText
+pub members-most : (m : Members) → length (members_text m) ≤ 8
+unfolding members_text
 members-most m =
-    eight-most 1 (memberText m) (member-most (m 1) 49) (member-most (m 2) 50) (member-most (m 3) 51)
+    eight-most 1 (member_text m) (member-most (m 1) 49) (member-most (m 2) 50) (member-most (m 3) 51)
     (member-most (m 4) 52) (member-most (m 5) 53) (member-most (m 6) 54) (member-most (m 7) 55) (member-most (m 8) 56)
 
 -- A set has a digit for each of its members.
@@ -49,8 +49,8 @@ member-length : (t : Bool) (x : ℕ) → length (cond {A = Text} t (x ∷ []) []
 member-length true x = refl
 member-length false x = refl
 
-pub members-length : (m : Members) → length (membersText m) ≡ size m
-unfolding membersText
+pub members-length : (m : Members) → length (members_text m) ≡ size m
+unfolding members_text
 members-length m =
     simp length-append (omega (
       arith,
@@ -66,16 +66,16 @@ members-length m =
 
 -- The fourth field, where a line has none and where it has one.
 module _ (n a : ℕ) (q : Members) where
-  pub fourth-none : hasFourth n a ≡ false → fourthField n a q ≡ []
-  unfolding fourthField
+  pub fourth-none : has_fourth n a ≡ false → fourth_field n a q ≡ []
+  unfolding fourth_field
   fourth-none e = rw e
 
-  pub fourth-some : hasFourth n a ≡ true → fourthField n a q ≡ space ++ membersText q
-  unfolding fourthField
+  pub fourth-some : has_fourth n a ≡ true → fourth_field n a q ≡ space ++ members_text q
+  unfolding fourth_field
   fourth-some e = rw e
 
 -- A line that has one is of an accepted step, whose number has two digits at most.
-pub fourth-of : (n a : ℕ) → hasFourth n a ≡ true → (a ≡ 0) × (n < 16)
+pub fourth-of : (n a : ℕ) → has_fourth n a ≡ true → (a ≡ 0) × (n < 16)
 fourth-of n a e =
     let h = (and-eq-true_iff (eqb a 0) (eqb n 2 || (eqb n 13 || eqb n 15))).0 e in
     (eqb-true a 0 h.0, go (eqb n 2) (eqb n 13) (eqb n 15) refl refl refl h.1)
@@ -110,43 +110,43 @@ three-digits n h = digits-most 2 n (omega arith)
 four-digits : (n : ℕ) → n ≤ 4000 → length (digits n) ≤ 4
 four-digits n h = digits-most 3 n (omega arith)
 
-pub view-most : (v : M.View) → ViewInRange v → length (viewText v) ≤ 20
-unfolding viewText
+pub view-most : (v : M.View) → ViewInRange v → length (view_text v) ≤ 20
+unfolding view_text
 view-most v r =
-    of-view (digits v.epoch) (digits v.term) (digits v.leader) (membersText v.members)
+    of-view (digits v.epoch) (digits v.term) (digits v.leader) (members_text v.members)
     (four-digits v.epoch r.epoch.1) (four-digits v.term r.term.1)
     (one-digit v.leader r.leader) (members-most v.members)
 
-status-most : (g : M.Status) → length (statusWord g) ≤ 8
+status-most : (g : M.Status) → length (status_word g) ≤ 8
 status-most M.normal = omega arith
 status-most M.waiting = omega arith
 status-most M.Status.choosing = omega arith
 
-stage-most : (g : M.Stage) → length (stageWord g) ≤ 8
+stage-most : (g : M.Stage) → length (stage_word g) ≤ 8
 stage-most M.idle = omega arith
 stage-most M.Stage.leader = omega arith
 stage-most M.boards = omega arith
 stage-most M.Stage.choosing = omega arith
 
-late-most : (t : Bool) → length (lateWord t) ≤ 7
+late-most : (t : Bool) → length (late_word t) ≤ 7
 late-most true = omega arith
 late-most false = omega arith
 
-pub registry-most : (r : M.Registry) → ViewInRange r.view → length (registryLine r) ≤ 39
-unfolding registryLine
+pub registry-most : (r : M.Registry) → ViewInRange r.view → length (registry_line r) ≤ 39
+unfolding registry_line
 registry-most r v =
-    of-line 9 (word "registry ") (viewText r.view) (statusWord r.status) (omega arith) (view-most r.view v)
+    of-line 9 (word "registry ") (view_text r.view) (status_word r.status) (omega arith) (view-most r.view v)
     (status-most r.status)
 
-pub control-most : (c : M.Controller) → ViewInRange c.view → length (controlLine c) ≤ 38
-unfolding controlLine
+pub control-most : (c : M.Controller) → ViewInRange c.view → length (control_line c) ≤ 38
+unfolding control_line
 control-most c v =
-    of-line 8 (word "control ") (viewText c.view) (stageWord c.stage) (omega arith) (view-most c.view v)
+    of-line 8 (word "control ") (view_text c.view) (stage_word c.stage) (omega arith) (view-most c.view v)
     (stage-most c.stage)
 
 pub board-most : (b : ℕ) (v : M.View) (joined len : ℕ) (late : Bool) → b ≤ 8 → ViewInRange v → joined ≤ 4000 → len ≤ 512
-    → length (boardText b v joined len late) ≤ 46
-unfolding boardText
+    → length (board_text b v joined len late) ≤ 46
+unfolding board_text
 board-most b v joined len late h r j l =
-    of-board (digits b) (viewText v) (digits joined) (digits len) (lateWord late) (one-digit b h) (view-most v r)
+    of-board (digits b) (view_text v) (digits joined) (digits len) (late_word late) (one-digit b h) (view-most v r)
     (four-digits joined j) (three-digits len l) (late-most late)

@@ -4,12 +4,12 @@
 ghost use Rattle.std.specs.Prelude.{◌≡◌, ◌+◌, ◌≤◌, length};
 ghost use Rattle.members.specs.Mask.{bits};
 ghost use Rattle.text.specs.Text.{Wrote};
-ghost use Rattle.lines.specs.Lines.{memberText, membersText, hasFourth, fourthField, answerLine};
+ghost use Rattle.lines.specs.Lines.{member_text, members_text, has_fourth, fourth_field, answer_line};
 
 // Writes the digit of b if b is a member.
 fn put_member(out: &mut [u8], at: usize, m: u8, b: u8) -> usize
-    requires { (1 ≤ b) × (b ≤ 8) × (at + length (memberText (bits m) b) ≤ length out.old) }
-    ensures { Wrote out.old at (memberText (bits m) b) out.new result }
+    requires { (1 ≤ b) × (b ≤ 8) × (at + length (member_text (bits m) b) ≤ length out.old) }
+    ensures { Wrote out.old at (member_text (bits m) b) out.new result }
 {
     if !members::has(m, b) {
         return at;
@@ -19,8 +19,8 @@ fn put_member(out: &mut [u8], at: usize, m: u8, b: u8) -> usize
 
 // Writes a set of members. Inner layer: callers see to the room.
 pub fn put_members(out: &mut [u8], at: usize, m: u8) -> usize
-    requires { at + length (membersText (bits m)) ≤ length out.old }
-    ensures { Wrote out.old at (membersText (bits m)) out.new result }
+    requires { at + length (members_text (bits m)) ≤ length out.old }
+    ensures { Wrote out.old at (members_text (bits m)) out.new result }
 {
     let mut p = at;
     let mut b: u8 = 0;
@@ -33,7 +33,7 @@ pub fn put_members(out: &mut [u8], at: usize, m: u8) -> usize
 
 // Whether the line of a step with this answer has a fourth field: an accepted 2, 13 or 15 has.
 fn has_fourth(step: u8, answer: u8) -> bool
-    ensures { result ≡ hasFourth step answer }
+    ensures { result ≡ has_fourth step answer }
 {
     if answer != 0 {
         return false;
@@ -43,7 +43,7 @@ fn has_fourth(step: u8, answer: u8) -> bool
 
 // How many bytes that field has, with the space before it.
 pub fn fourth_length(step: u8, answer: u8, q: u8) -> usize
-    ensures { (result ≡ length (fourthField step answer (bits q))) × (result ≤ 9) }
+    ensures { (result ≡ length (fourth_field step answer (bits q))) × (result ≤ 9) }
 {
     if !has_fourth(step, answer) {
         return 0;
@@ -53,8 +53,8 @@ pub fn fourth_length(step: u8, answer: u8, q: u8) -> usize
 
 // Writes that field: a space, then the set q.
 fn put_fourth(out: &mut [u8], at: usize, step: u8, answer: u8, q: u8) -> usize
-    requires { at + length (fourthField step answer (bits q)) ≤ length out.old }
-    ensures { Wrote out.old at (fourthField step answer (bits q)) out.new result }
+    requires { at + length (fourth_field step answer (bits q)) ≤ length out.old }
+    ensures { Wrote out.old at (fourth_field step answer (bits q)) out.new result }
 {
     if !has_fourth(step, answer) {
         return at;
@@ -66,8 +66,8 @@ fn put_fourth(out: &mut [u8], at: usize, step: u8, answer: u8, q: u8) -> usize
 // Writes the line of record k, from 1 on: its step, its answer and, on acceptance of 2, 13 and 15, the set q behind it.
 // Inner layer: callers see to the room.
 pub fn put_answer(out: &mut [u8], at: usize, k: u32, step: u8, answer: u8, q: u8) -> usize
-    requires { at + length (answerLine k step answer (bits q)) ≤ length out.old }
-    ensures { Wrote out.old at (answerLine k step answer (bits q)) out.new result }
+    requires { at + length (answer_line k step answer (bits q)) ≤ length out.old }
+    ensures { Wrote out.old at (answer_line k step answer (bits q)) out.new result }
 {
     let a = text::put_field(&mut *out, at, k);
     let b = text::put_field(&mut *out, a, step as u32);

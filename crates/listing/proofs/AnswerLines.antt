@@ -14,38 +14,38 @@ use Rattle.cluster.specs.Layout.{bits}
 use Rattle.model.proofs.Made.{All}
 use Rattle.text.specs.Text.{Text, digits}
 use Rattle.text.proofs.Laws.{digits-most, digits-most-4, digits-most-10}
-use Rattle.records.specs.Bytes.{recordAt, records}
+use Rattle.records.specs.Bytes.{record_at, records}
 use Rattle.records.proofs.Decoding.{records-suc, records-length}
-use Rattle.lines.specs.Lines.{hasFourth, answerLine}
+use Rattle.lines.specs.Lines.{has_fourth, answer_line}
 use Rattle.lines.proofs.Lengths.{line-length, members-most, fourth-of, fourth-none, fourth-some}
-use Rattle.listing.specs.Listing.{answerLines, lines}
+use Rattle.listing.specs.Listing.{answer_lines, lines}
 
 -- One record, one answer and one set more are one line more.
-answerLines-suc : (k : ℕ) (rs : List Record) (ns : List ℕ) (qs : List Members) → length rs ≡ length ns
+answer_lines-suc : (k : ℕ) (rs : List Record) (ns : List ℕ) (qs : List Members) → length rs ≡ length ns
     → length rs ≡ length qs → (r : Record) (n : ℕ) (q : Members)
-    → answerLines k (rs ++ (r ∷ [])) (ns ++ (n ∷ [])) (qs ++ (q ∷ []))
-    ≡ answerLines k rs ns qs ++ answerLine (k + length rs) r.step n q
-unfolding answerLines
-answerLines-suc k [] [] [] e f r n q =
-    append-nil (answerLine k r.step n q) ∙ ap (λ j. answerLine j r.step n q) (sym (add-zero k))
-answerLines-suc k (t ∷ rs) (m ∷ ns) (p ∷ qs) e f r n q =
+    → answer_lines k (rs ++ (r ∷ [])) (ns ++ (n ∷ [])) (qs ++ (q ∷ []))
+    ≡ answer_lines k rs ns qs ++ answer_line (k + length rs) r.step n q
+unfolding answer_lines
+answer_lines-suc k [] [] [] e f r n q =
+    append-nil (answer_line k r.step n q) ∙ ap (λ j. answer_line j r.step n q) (sym (add-zero k))
+answer_lines-suc k (t ∷ rs) (m ∷ ns) (p ∷ qs) e f r n q =
     let j : suc k + length rs ≡ k + suc (length rs) = omega arith in
-    ap (λ z. answerLine k t.step m p ++ z)
-    (answerLines-suc (suc k) rs ns qs (omega (arith, e)) (omega (arith, f)) r n q)
-    ∙ sym (append_assoc (answerLine k t.step m p) (answerLines (suc k) rs ns qs)
-    (answerLine (suc k + length rs) r.step n q))
-    ∙ ap (λ i. (answerLine k t.step m p ++ answerLines (suc k) rs ns qs) ++ answerLine i r.step n q) j
-answerLines-suc k [] [] (p ∷ qs) e f r n q = absurd (omega (arith, f))
-answerLines-suc k [] (m ∷ ns) qs e f r n q = absurd (omega (arith, e))
-answerLines-suc k (t ∷ rs) [] qs e f r n q = absurd (omega (arith, e))
-answerLines-suc k (t ∷ rs) (m ∷ ns) [] e f r n q = absurd (omega (arith, f))
+    ap (λ z. answer_line k t.step m p ++ z)
+    (answer_lines-suc (suc k) rs ns qs (omega (arith, e)) (omega (arith, f)) r n q)
+    ∙ sym (append_assoc (answer_line k t.step m p) (answer_lines (suc k) rs ns qs)
+    (answer_line (suc k + length rs) r.step n q))
+    ∙ ap (λ i. (answer_line k t.step m p ++ answer_lines (suc k) rs ns qs) ++ answer_line i r.step n q) j
+answer_lines-suc k [] [] (p ∷ qs) e f r n q = absurd (omega (arith, f))
+answer_lines-suc k [] (m ∷ ns) qs e f r n q = absurd (omega (arith, e))
+answer_lines-suc k (t ∷ rs) [] qs e f r n q = absurd (omega (arith, e))
+answer_lines-suc k (t ∷ rs) (m ∷ ns) [] e f r n q = absurd (omega (arith, f))
 
 -- The line of the record after i others.
 abbrev pub line_at : Text → List ℕ → List ℕ → ℕ → Text
-line_at s ns ms i = answerLine (i + 1) (get_or s (8 * i) 0) (get_or ns i 0) (bits (get_or ms i 0))
+line_at s ns ms i = answer_line (i + 1) (get_or s (8 * i) 0) (get_or ns i 0) (bits (get_or ms i 0))
 
 pub lines_none : (s : Text) (ns ms : List ℕ) → lines s ns ms 0 ≡ []
-unfolding lines records answerLines
+unfolding lines records answer_lines
 lines_none s ns ms = refl
 
 pub one_more : (s : Text) (ns ms : List ℕ) (i : ℕ) → i < length ns → i < length ms
@@ -61,11 +61,11 @@ one_more s ns ms i h k =
     let sets : map bits (take (suc i) ms) ≡ map bits (take i ms) ++ (bits (get_or ms i 0) ∷ []) =
     ap (map bits) (take-suc ms i 0 k) ∙ map-append bits (take i ms) (get_or ms i 0 ∷ []) in
     rw (add-one i) (
-    (λ j. answerLines 1 (records-suc i s j) (take-suc ns i 0 h j) (sets j))
-    ∙ answerLines-suc 1 (records i s) (take i ns) (map bits (take i ms)) l l' (recordAt (drop (8 * i) s))
+    (λ j. answer_lines 1 (records-suc i s j) (take-suc ns i 0 h j) (sets j))
+    ∙ answer_lines-suc 1 (records i s) (take i ns) (map bits (take i ms)) l l' (record_at (drop (8 * i) s))
     (get_or ns i 0) (bits (get_or ms i 0))
-    ∙ ap₂ (λ j m. answerLines 1 (records i s) (take i ns) (map bits (take i ms))
-    ++ answerLine j m (get_or ns i 0) (bits (get_or ms i 0))) n d
+    ∙ ap₂ (λ j m. answer_lines 1 (records i s) (take i ns) (map bits (take i ms))
+    ++ answer_line j m (get_or ns i 0) (bits (get_or ms i 0))) n d
     )
 
 -- More records take no less room.
@@ -101,10 +101,10 @@ few n r e h = omega (arith, e, digits-most-10 n h)
 -- A line has at most four digits of its number and byte 10. With a fourth field: three spaces, two digits of its step,
 -- one of its answer, eight of the set, 19 bytes in all; with none: two spaces, three digits of the step's byte, two of
 -- an answer, 12.
-pub line-most : (k n a : ℕ) (q : Members) → k ≤ 4095 → n < 256 → a < 100 → length (answerLine k n a q) ≤ 19
-line-most k n a q hk hn ha = go (hasFourth n a) refl
+pub line-most : (k n a : ℕ) (q : Members) → k ≤ 4095 → n < 256 → a < 100 → length (answer_line k n a q) ≤ 19
+line-most k n a q hk hn ha = go (has_fourth n a) refl
   where
-    go : (t : Bool) → hasFourth n a ≡ t → length (answerLine k n a q) ≤ 19
+    go : (t : Bool) → has_fourth n a ≡ t → length (answer_line k n a q) ≤ 19
     go true e =
         let h = fourth-of n a e in
         omega (
@@ -128,14 +128,14 @@ line-most k n a q hk hn ha = go (hasFourth n a) refl
 -- So have the lines of records whose step is a byte, with answers of two digits.
 pub each-most : (k : ℕ) (rs : List Record) (ns : List ℕ) (qs : List Members) → All (λ r. r.step < 256) rs
     → ((i : ℕ) → i < length rs → get_or ns i 0 < 100) → k + length rs ≤ 4096
-    → length (answerLines k rs ns qs) ≤ 19 * length rs
-unfolding answerLines
+    → length (answer_lines k rs ns qs) ≤ 19 * length rs
+unfolding answer_lines
 each-most k [] ns qs a h l = omega arith
 each-most k (r ∷ rs) [] qs a h l = omega arith
 each-most k (r ∷ rs) (n ∷ ns) [] a h l = omega arith
 each-most k (r ∷ rs) (n ∷ ns) (q ∷ qs) a h l = omega (
   arith,
-  length-append (answerLine k r.step n q) (answerLines (suc k) rs ns qs),
+  length-append (answer_line k r.step n q) (answer_lines (suc k) rs ns qs),
   line-most k r.step n q (omega (arith, l)) a.0 (h 0 (omega arith)),
   each-most (suc k) rs ns qs a.1 (λ i g. h (suc i) (omega (arith, g))) (omega (arith, l)),
 )

@@ -5,7 +5,7 @@
 ghost use Rattle.std.specs.Prelude.{◌≡◌, ◌++◌, ℕ, ◌+◌, ◌/◌, ◌≤◌, ◌<◌, leb, length, get_or};
 ghost use Rattle.cluster.specs.Layout.{bits};
 ghost use Rattle.text.specs.Text.{Wrote, Delivered};
-ghost use Rattle.lines.specs.Lines.{answerLine};
+ghost use Rattle.lines.specs.Lines.{answer_line};
 ghost use Rattle.listing.specs.Listing.{lines};
 
 use lines::{fourth_length, put_answer};
@@ -14,7 +14,7 @@ use text::{number_length, put_bytes};
 // How long the line of record k is: at most three numbers of ten digits, a fourth field of nine bytes and three bytes
 // more, so that no sum overflows.
 fn line_length(k: u32, step: u8, answer: u8, q: u8) -> usize
-    ensures { (result ≡ length (answerLine k step answer (bits q))) × (result ≤ 42) }
+    ensures { (result ≡ length (answer_line k step answer (bits q))) × (result ≤ 42) }
 {
     number_length(k)
         + number_length(step as u32)

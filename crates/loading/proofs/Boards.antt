@@ -9,22 +9,22 @@ use native.Mathlib.Omega.{arith}
 use lib.ListN.{length, replicate, set, length-set, drop_of_length-le}
 use lib.Seq.{sets, sets-eq, length-sets}
 use borrow.Author.Tests.{leb-true}
-use Rattle.chains.specs.Image.{next_of, first_of, firstsFrom, firstsOf, holds}
-use Rattle.chains.specs.Chain.{chainOf, chainsOf, isShort, isRecord, every, joined}
-use Rattle.loading.specs.Read.{Sound, laid, boardsOf, Copied, Filled, Taken}
+use Rattle.chains.specs.Image.{next_of, first_of, firsts_from, firsts_of, holds}
+use Rattle.chains.specs.Chain.{chain_of, chains_of, is_short, is_record, every, joined}
+use Rattle.loading.specs.Read.{Sound, laid, boards_of, Copied, Filled, Taken}
 use Rattle.chains.proofs.Meeting.{every_append, well-linked-tests}
 
 -- What holds of every chain holds of the chain of the list b + i.
 every_first : (p : List ℕ → Bool) (image : List ℕ) (m b i : ℕ) → i < m
-    → every p (chainsOf (next_of image) (firstsFrom image b m)) ≡ true
-    → p (chainOf (next_of image) (first_of image (b + i))) ≡ true
-unfolding chainsOf firstsFrom every
+    → every p (chains_of (next_of image) (firsts_from image b m)) ≡ true
+    → p (chain_of (next_of image) (first_of image (b + i))) ≡ true
+unfolding chains_of firsts_from every
 every_first p image zero b i h e = absurd (not-suc-le-zero h)
 every_first p image (suc m) b zero h e =
-    rw (add-zero b) ((and-eq-true_iff (p (chainOf (next_of image) (first_of image b))) _).0 e).0
+    rw (add-zero b) ((and-eq-true_iff (p (chain_of (next_of image) (first_of image b))) _).0 e).0
 every_first p image (suc m) b (suc i) h e =
     let q : b + suc i ≡ suc b + i = omega arith in
-    let rest = ((and-eq-true_iff (p (chainOf (next_of image) (first_of image b))) _).0 e).1 in
+    let rest = ((and-eq-true_iff (p (chain_of (next_of image) (first_of image b))) _).0 e).1 in
     rw q (every_first p image m (suc b) i (omega arith) rest)
 
 -- What holds of every record that chains meet holds of every chain's.
@@ -35,39 +35,39 @@ every-joined p (ks ∷ kss) = every_append p ks (joined kss) ∙ rw (every-joine
 
 -- A chain of a well-linked image can be copied.
 pub sound-at : (n : ℕ) (image : List ℕ) (b : ℕ) → b < 9 → holds n image ≡ true
-    → Sound n (chainOf (next_of image) (first_of image b))
+    → Sound n (chain_of (next_of image) (first_of image b))
 sound-at n image b h e =
-    let kss = chainsOf (next_of image) (firstsOf image) in
-    let p = (and-eq-true_iff (every isShort kss) _).0 (sym (well-linked-tests n kss) ∙ e) in
-    let q = (and-eq-true_iff (every (isRecord n) (joined kss)) _).0 p.1 in
+    let kss = chains_of (next_of image) (firsts_of image) in
+    let p = (and-eq-true_iff (every is_short kss) _).0 (sym (well-linked-tests n kss) ∙ e) in
+    let q = (and-eq-true_iff (every (is_record n) (joined kss)) _).0 p.1 in
     let z : 0 + b ≡ b = omega arith in
-    let r : every (every (isRecord n)) kss ≡ true = sym (every-joined (isRecord n) kss) ∙ q.0 in
-    let at : (t : List ℕ → Bool) → t (chainOf (next_of image) (first_of image (0 + b))) ≡ true
-    → t (chainOf (next_of image) (first_of image b)) ≡ true =
-    λ t. subst (λ i. t (chainOf (next_of image) (first_of image i)) ≡ true) z in
+    let r : every (every (is_record n)) kss ≡ true = sym (every-joined (is_record n) kss) ∙ q.0 in
+    let at : (t : List ℕ → Bool) → t (chain_of (next_of image) (first_of image (0 + b))) ≡ true
+    → t (chain_of (next_of image) (first_of image b)) ≡ true =
+    λ t. subst (λ i. t (chain_of (next_of image) (first_of image i)) ≡ true) z in
     record {
-      records = at (every (isRecord n)) (every_first (every (isRecord n)) image 9 0 b h r);
-      short = leb-true (length (chainOf (next_of image) (first_of image b))) 512
-          (at isShort (every_first isShort image 9 0 b h p.0));
+      records = at (every (is_record n)) (every_first (every (is_record n)) image 9 0 b h r);
+      short = leb-true (length (chain_of (next_of image) (first_of image b))) 512
+          (at is_short (every_first is_short image 9 0 b h p.0));
     }
 
 -- The chains of the boards from b on.
-abbrev pub boardsFrom : List ℕ → ℕ → List (List ℕ)
-boardsFrom image b = chainsOf (next_of image) (firstsFrom image b (8 - b))
+abbrev pub boards_from : List ℕ → ℕ → List (List ℕ)
+boards_from image b = chains_of (next_of image) (firsts_from image b (8 - b))
 
 boards-step : (image : List ℕ) (b : ℕ) → b < 8
-    → boardsFrom image b ≡ chainOf (next_of image) (first_of image b) ∷ boardsFrom image (b + 1)
-unfolding chainsOf firstsFrom
+    → boards_from image b ≡ chain_of (next_of image) (first_of image b) ∷ boards_from image (b + 1)
+unfolding chains_of firsts_from
 boards-step image b h = let e : 8 - b ≡ suc (8 - (b + 1)) = omega arith in rw (e, add-one b)
 
-boards-end : (image : List ℕ) (b : ℕ) → b ≡ 8 → boardsFrom image b ≡ []
-unfolding chainsOf firstsFrom
+boards-end : (image : List ℕ) (b : ℕ) → b ≡ 8 → boards_from image b ≡ []
+unfolding chains_of firsts_from
 boards-end image b h = rw h
 
 -- The lists f of what is left, laid from the part b on, are those of all boards laid from 0 on.
 pub record Laying (f : List ℕ → List ℕ) (image s₀ s : List ℕ) (b : ℕ) : Type 0 where
   pub long : length s ≡ length s₀
-  pub lays : laid s₀ 0 (map f (boardsOf image)) ≡ laid s (512 * b) (map f (boardsFrom image b))
+  pub lays : laid s₀ 0 (map f (boards_of image)) ≡ laid s (512 * b) (map f (boards_from image b))
 
 -- All are left.
 pub lays_all : (f : List ℕ → List ℕ) (image s : List ℕ) → Laying f image s s 0
@@ -75,19 +75,19 @@ lays_all f image s = record { long = refl; lays = refl }
 
 -- One more is laid.
 pub lays-on : (f : List ℕ → List ℕ) (image s₀ s : List ℕ) (b : ℕ) → b < 8 → Laying f image s₀ s b
-    → (t : List ℕ) → t ≡ sets s (512 * b) (f (chainOf (next_of image) (first_of image b)))
+    → (t : List ℕ) → t ≡ sets s (512 * b) (f (chain_of (next_of image) (first_of image b)))
     → Laying f image s₀ t (b + 1)
 unfolding laid
 lays-on f image s₀ s b h w t e =
     let q : 512 * (b + 1) ≡ 512 * b + 512 = omega arith in
     record {
-      long = ap length e ∙ length-sets s (512 * b) (f (chainOf (next_of image) (first_of image b))) ∙ w.long;
+      long = ap length e ∙ length-sets s (512 * b) (f (chain_of (next_of image) (first_of image b))) ∙ w.long;
       lays = w.lays ∙ rw (boards-step image b h, q, e);
     }
 
 -- All are laid.
 pub laid-all : (f : List ℕ → List ℕ) (image s₀ s : List ℕ) (b : ℕ) → b ≡ 8 → Laying f image s₀ s b
-    → s ≡ laid s₀ 0 (map f (boardsOf image))
+    → s ≡ laid s₀ 0 (map f (boards_of image))
 unfolding laid
 laid-all f image s₀ s b e w = sym (w.lays ∙ rw (boards-end image b e))
 
@@ -99,7 +99,7 @@ sets-whole vs s e =
 -- The lengths of what is left, stored from b on, are those of all boards.
 pub record Counting (image s₀ s : List ℕ) (b : ℕ) : Type 0 where
   pub long : length s ≡ 8
-  pub counts : sets s₀ 0 (map length (boardsOf image)) ≡ sets s b (map length (boardsFrom image b))
+  pub counts : sets s₀ 0 (map length (boards_of image)) ≡ sets s b (map length (boards_from image b))
 
 -- All are left.
 pub counts_all : (image s : List ℕ) → length s ≡ 8 → Counting image s s 0
@@ -107,7 +107,7 @@ counts_all image s l = record { long = l; counts = refl }
 
 -- One more is stored.
 pub counts-on : (image s₀ s : List ℕ) (b : ℕ) → b < 8 → Counting image s₀ s b
-    → (r : ℕ) → r ≡ length (chainOf (next_of image) (first_of image b)) → Counting image s₀ (set s b r) (b + 1)
+    → (r : ℕ) → r ≡ length (chain_of (next_of image) (first_of image b)) → Counting image s₀ (set s b r) (b + 1)
 counts-on image s₀ s b h w r e = record {
   long = length-set s b r ∙ w.long;
   counts = w.counts ∙ rw (boards-step image b h, e, add-one b);
@@ -115,10 +115,10 @@ counts-on image s₀ s b h w r e = record {
 
 -- All are stored.
 pub counted-all : (image s₀ s : List ℕ) (b : ℕ) → b ≡ 8 → length s₀ ≡ 8 → Counting image s₀ s b
-    → s ≡ map length (boardsOf image)
-unfolding chainsOf firstsFrom
+    → s ≡ map length (boards_of image)
+unfolding chains_of firsts_from
 counted-all image s₀ s b e l w =
-    sym (w.counts ∙ rw (boards-end image b e)) ∙ sets-whole (map length (boardsOf image)) s₀ (sym l)
+    sym (w.counts ∙ rw (boards-end image b e)) ∙ sets-whole (map length (boards_of image)) s₀ (sym l)
 
 -- An image that is refused leaves all but the scratch.
 pub left : (ok : Bool) (image v e l p q s s' : List ℕ) → ok ≡ false → s' ≡ replicate (length s) 0
@@ -137,7 +137,7 @@ left ok image v e l p q s s' f z = record {
 module _ (ok : Bool) (image v v' e e' l l' p p' q q' s s' : List ℕ) (r start : ℕ) (t : ok ≡ true)
     (at : start ≡ first_of image 8) where
   abbrev ks : List ℕ
-  ks = chainOf (next_of image) start
+  ks = chain_of (next_of image) start
 
   pub took : s' ≡ replicate (length s) 0 → Filled image v v' e e' l' → Copied image ks 0 p p' q q' r
       → Taken ok image v v' e e' l l' p p' q q' s s' r

@@ -9,18 +9,18 @@ use lib.Dec.{leb}
 use lib.ListN.{length, set, length-set}
 use lib.Seq.{sets}
 use borrow.Author.Tests.{leb-true}
-use Rattle.chains.specs.Chain.{chain, chainOf, isRecord, every}
+use Rattle.chains.specs.Chain.{chain, chain_of, is_record, every}
 use Rattle.loading.specs.Read.{Sound}
 use Rattle.chains.proofs.Walking.{chain-end, chain-step}
 
 -- len records of the chain ks are passed, and at is the next.
 pub record Copying (next : ℕ → ℕ) (n : ℕ) (ks : List ℕ) (at len : ℕ) : Type 0 where
   pub short : length ks ≤ 512
-  pub records : every (isRecord n) (chain next (513 - len) at) ≡ true
+  pub records : every (is_record n) (chain next (513 - len) at) ≡ true
   pub size : length ks ≡ len + length (chain next (513 - len) at)
 
 -- None is passed.
-pub begins : (next : ℕ → ℕ) (n first : ℕ) → Sound n (chainOf next first) → Copying next n (chainOf next first) first 0
+pub begins : (next : ℕ → ℕ) (n first : ℕ) → Sound n (chain_of next first) → Copying next n (chain_of next first) first 0
 begins next n first s = record { short = s.short; records = s.records; size = omega arith }
 
 -- The values `f` of what is left, stored from len on, are those of ks stored from 0 on.
@@ -29,7 +29,7 @@ pub record Storing (next f : ℕ → ℕ) (ks s₀ s : List ℕ) (at len : ℕ) 
   pub stores : sets s₀ 0 (map f ks) ≡ sets s len (map f (chain next (513 - len) at))
 
 -- None is stored.
-pub stores-all : (next f : ℕ → ℕ) (first : ℕ) (s : List ℕ) → Storing next f (chainOf next first) s s first 0
+pub stores-all : (next f : ℕ → ℕ) (first : ℕ) (s : List ℕ) → Storing next f (chain_of next first) s s first 0
 stores-all next f first s = record { long = refl; stores = refl }
 
 module _ (next : ℕ → ℕ) (n : ℕ) (ks : List ℕ) (at len : ℕ) (w : Copying next n ks at len) where
@@ -52,24 +52,24 @@ module _ (next : ℕ → ℕ) (n : ℕ) (ks : List ℕ) (at len : ℕ) (w : Copy
     pub place : len < 512
     place = omega (arith, w.size, w.short, ap length there)
 
-    tests : (isRecord n at && every (isRecord n) (chain next (513 - (len + 1)) (next at))) ≡ true
+    tests : (is_record n at && every (is_record n) (chain next (513 - (len + 1)) (next at))) ≡ true
     unfolding every
-    tests = subst (λ l. every (isRecord n) l ≡ true) there w.records
+    tests = subst (λ l. every (is_record n) l ≡ true) there w.records
 
     -- and it is the image's.
     pub inside : at ≤ n
     inside =
-        let rest = every (isRecord n) (chain next (513 - (len + 1)) (next at)) in
-        let p = (and-eq-true_iff (isRecord n at) rest).0 tests in
+        let rest = every (is_record n) (chain next (513 - (len + 1)) (next at)) in
+        let p = (and-eq-true_iff (is_record n at) rest).0 tests in
         leb-true at n ((and-eq-true_iff (leb 1 at) (leb at n)).0 p.0).1
 
     -- One more is passed,
     pub more : (at' : ℕ) → at' ≡ next at → Copying next n ks at' (len + 1)
     more at' a =
-        let rest = every (isRecord n) (chain next (513 - (len + 1)) (next at)) in
+        let rest = every (is_record n) (chain next (513 - (len + 1)) (next at)) in
         record {
           short = w.short;
-          records = rw a ((and-eq-true_iff (isRecord n at) rest).0 tests).1;
+          records = rw a ((and-eq-true_iff (is_record n at) rest).0 tests).1;
           size = rw a (omega (arith, w.size, ap length there));
         }
 

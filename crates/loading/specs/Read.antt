@@ -2,27 +2,27 @@
 -- image. Assumes nothing.
 use Rattle.std.specs.Prelude.{Bool, true, cond, List, [], ◌∷◌, map, ◌≡◌, ℕ, ◌+◌, ◌≤◌, length, replicate}
 use Rattle.std.proofs.lemmas.List.Edits.{sets}
-use Rattle.chains.specs.Image.{next_of, list_of, firstsFrom, values_of, epochsOf}
-use Rattle.chains.specs.Chain.{chainsOf, isRecord, every}
+use Rattle.chains.specs.Image.{next_of, list_of, firsts_from, values_of, epochs_of}
+use Rattle.chains.specs.Chain.{chains_of, is_record, every}
 
 -- The chains of the eight boards,
-abbrev pub boardsOf : List ℕ → List (List ℕ)
-boardsOf image = chainsOf (next_of image) (firstsFrom image 0 8)
+abbrev pub boards_of : List ℕ → List (List ℕ)
+boards_of image = chains_of (next_of image) (firsts_from image 0 8)
 
 -- and that of the receipts.
-abbrev pub receiptsOf : List ℕ → List ℕ
-receiptsOf image = list_of image 8
+abbrev pub receipts_of : List ℕ → List ℕ
+receipts_of image = list_of image 8
 
 -- A chain that can be copied: its records are the image's, of n, and it does not pass 512 of them.
 pub record Sound (n : ℕ) (ks : List ℕ) : Type 0 where
-  pub records : every (isRecord n) ks ≡ true
+  pub records : every (is_record n) ks ≡ true
   pub short : length ks ≤ 512
 
 -- The chain ks of an image, stored from place at on: its values in v, its epochs in e, and its length r.
 pub record Copied (image ks : List ℕ) (at : ℕ) (v v' e e' : List ℕ) (r : ℕ) : Type 0 where
   pub count : r ≡ length ks
   pub values : v' ≡ sets v at (values_of image ks)
-  pub epochs : e' ≡ sets e at (epochsOf image ks)
+  pub epochs : e' ≡ sets e at (epochs_of image ks)
 
 -- Lists stored in parts of 512 places, one after the other from place at on. Of a part only as many places as its list
 -- has are written: "an accepted read changes no place past a log's or the receipts' length".
@@ -32,18 +32,18 @@ laid s at (vs ∷ vss) = laid (sets s at vs) (at + 512) vss
 
 -- The boards' lists in the store v, the second store e and the lengths.
 pub record Filled (image v v' e e' lens' : List ℕ) : Type 0 where
-  pub values : v' ≡ laid v 0 (map (values_of image) (boardsOf image))
-  pub epochs : e' ≡ laid e 0 (map (epochsOf image) (boardsOf image))
-  pub lens : lens' ≡ map length (boardsOf image)
+  pub values : v' ≡ laid v 0 (map (values_of image) (boards_of image))
+  pub epochs : e' ≡ laid e 0 (map (epochs_of image) (boards_of image))
+  pub lens : lens' ≡ map length (boards_of image)
 
 -- The whole reading of an image, well linked or not (ok): the store v and the second store e, the lengths l, the list p
 -- and the second list q, the scratch s, and the answer r, the receipts' length or 513. One that is refused changes
 -- "only the scratch"; in any case "the whole scratch ends as zeros".
 pub record Taken (ok : Bool) (image v v' e e' l l' p p' q q' s s' : List ℕ) (r : ℕ) : Type 0 where
-  pub count : r ≡ cond ok (length (receiptsOf image)) 513
-  pub values : v' ≡ cond ok (laid v 0 (map (values_of image) (boardsOf image))) v
-  pub epochs : e' ≡ cond ok (laid e 0 (map (epochsOf image) (boardsOf image))) e
-  pub lens : l' ≡ cond ok (map length (boardsOf image)) l
-  pub list : p' ≡ cond ok (sets p 0 (values_of image (receiptsOf image))) p
-  pub dates : q' ≡ cond ok (sets q 0 (epochsOf image (receiptsOf image))) q
+  pub count : r ≡ cond ok (length (receipts_of image)) 513
+  pub values : v' ≡ cond ok (laid v 0 (map (values_of image) (boards_of image))) v
+  pub epochs : e' ≡ cond ok (laid e 0 (map (epochs_of image) (boards_of image))) e
+  pub lens : l' ≡ cond ok (map length (boards_of image)) l
+  pub list : p' ≡ cond ok (sets p 0 (values_of image (receipts_of image))) p
+  pub dates : q' ≡ cond ok (sets q 0 (epochs_of image (receipts_of image))) q
   pub scratch : s' ≡ replicate (length s) 0

@@ -7,7 +7,7 @@ ghost use Rattle.std.specs.Prelude.{true, ◌≡◌, ◌+◌, ◌*◌, ◌<◌, 
 ghost use Rattle.marks.specs.Marks.{most, room};
 ghost use Rattle.chains.specs.Image.{next_of, value_of, list_of, holds};
 ghost use Rattle.loading.specs.Read.{Sound, Copied, Filled, Taken};
-ghost use Rattle.chains.specs.Chain.{chainOf};
+ghost use Rattle.chains.specs.Chain.{chain_of};
 
 // The value of the record k. Callers see to k.
 fn value(image: &[u8], k: usize) -> u32
@@ -20,9 +20,9 @@ fn value(image: &[u8], k: usize) -> u32
 // Copies the chain that starts at first into a part for its values and one for its epochs: its length. Callers see to
 // it that the chain can be copied, and to the lengths.
 fn copy(image: &[u8], n: usize, first: usize, part: &mut [u32], part2: &mut [u16]) -> usize
-    requires { (length image.now ≡ 8 * n + 258) × Sound n (chainOf (next_of image.now) first)
+    requires { (length image.now ≡ 8 * n + 258) × Sound n (chain_of (next_of image.now) first)
         × (512 ≤ length part.old) × (512 ≤ length part2.old) }
-    ensures { Copied image.now (chainOf (next_of image.now) first) 0
+    ensures { Copied image.now (chain_of (next_of image.now) first) 0
         part.old part.new part2.old part2.new result }
 {
     let mut at = first;

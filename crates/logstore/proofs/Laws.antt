@@ -14,7 +14,7 @@ use borrow.Author.Tests.{ltb-true, ltb-false}
 use borrow.Rule.Slice.PartMut.{mid_of, put_mid, set_mid_at, mid_len}
 use Rattle.model.specs.State.{entry}
 use Rattle.model.specs.Steps.{shared}
-use Rattle.logstore.specs.Log.{pairs, place, logOf}
+use Rattle.logstore.specs.Log.{pairs, place, log_of}
 
 -- A part at a slice's start begins where the slice does: a block, and an offset in bytes; a number has w bytes.
 pub from_start : (w : ℕ) (p : ℕ × ℕ) → ◌≡◌ {A = ℕ × ℕ} (p.0, 0 * w + p.1) p
@@ -96,12 +96,12 @@ module _ (vs ts : List ℕ) (b n : ℕ) (e : length vs ≡ length ts) where
   dropped : length (drop (512 * (b - 1)) vs) ≡ length (drop (512 * (b - 1)) ts)
   dropped = length-drop (512 * (b - 1)) vs ∙ ap (λ m. m - 512 * (b - 1)) e ∙ sym (length-drop (512 * (b - 1)) ts)
 
-  pub log-values : map (λ x. x.value) (logOf (pairs vs ts) b n) ≡ logOf vs b n
+  pub log-values : map (λ x. x.value) (log_of (pairs vs ts) b n) ≡ log_of vs b n
   log-values =
       ap (λ xs. map (λ x. x.value) (take n xs)) (pairs-drop (512 * (b - 1)) vs ts)
       ∙ take-values (drop (512 * (b - 1)) vs) (drop (512 * (b - 1)) ts) n dropped
 
-  pub log-terms : map (λ x. x.term) (logOf (pairs vs ts) b n) ≡ logOf ts b n
+  pub log-terms : map (λ x. x.term) (log_of (pairs vs ts) b n) ≡ log_of ts b n
   log-terms =
       ap (λ xs. map (λ x. x.term) (take n xs)) (pairs-drop (512 * (b - 1)) vs ts)
       ∙ take-terms (drop (512 * (b - 1)) vs) (drop (512 * (b - 1)) ts) n dropped
@@ -122,20 +122,20 @@ list-gains s n v h = rw (add-one n, take-suc-set s n v h)
 -- Logs
 
 -- The entry at a place of a log.
-pub log-entry : {A : Type 0} (d : A) (s : List A) (b n k : ℕ) → k < n → get_or (logOf s b n) k d ≡ get_or s (place b k) d
+pub log-entry : {A : Type 0} (d : A) (s : List A) (b n k : ℕ) → k < n → get_or (log_of s b n) k d ≡ get_or s (place b k) d
 log-entry d s b n k h = rw (get_or-take n (drop (512 * (b - 1)) s) k d h, get_or-drop)
 
 -- A log cut to k entries.
-pub log-cut : {A : Type 0} (s : List A) (b n k : ℕ) → k ≤ n → take k (logOf s b n) ≡ logOf s b k
+pub log-cut : {A : Type 0} (s : List A) (b n k : ℕ) → k ≤ n → take k (log_of s b n) ≡ log_of s b k
 log-cut s b n k h = take-take k n (drop (512 * (b - 1)) s) h
 
 -- A write in b's part leaves every other replica's log as it was.
 module _ {A : Type 0} (s : List A) (b c n k : ℕ) (v : A) (hb : 1 ≤ b) (hc : 1 ≤ c) (apart : c ≢ b) (hn : n < 512)
     (hk : k ≤ 512) where
-  pub log-other : logOf (set s (place b n) v) c k ≡ logOf s c k
+  pub log-other : log_of (set s (place b n) v) c k ≡ log_of s c k
   log-other = go (ltb c b) refl
     where
-      go : (t : Bool) → ltb c b ≡ t → logOf (set s (place b n) v) c k ≡ logOf s c k
+      go : (t : Bool) → ltb c b ≡ t → log_of (set s (place b n) v) c k ≡ log_of s c k
       go true e =
           let l = ltb-true c b e in
           let a = 512 * (c - 1) in
@@ -167,8 +167,8 @@ module _ {A : Type 0} (same : A → A → Bool) where
       omega (arith, e)
 
   -- How many entries they share from i on.
-  abbrev pub sharedFrom : List A → List A → ℕ → ℕ
-  sharedFrom xs ys i = length (shared same (drop i xs) (drop i ys))
+  abbrev pub shared_from : List A → List A → ℕ → ℕ
+  shared_from xs ys i = length (shared same (drop i xs) (drop i ys))
 
   counted : (x : A) (zs : List A) (t : Bool) → length (cond t (x ∷ zs) []) ≡ cond t (suc (length zs)) 0
   counted x zs true = refl
@@ -180,34 +180,34 @@ module _ {A : Type 0} (same : A → A → Bool) where
 
   -- None where one of them ends.
   module _ (xs ys : List A) (i : ℕ) where
-    pub shared-first : length xs ≤ i → sharedFrom xs ys i ≡ 0
+    pub shared-first : length xs ≤ i → shared_from xs ys i ≡ 0
     shared-first h = rw (drop_of_length-le xs h)
 
-    pub shared_second : length ys ≤ i → sharedFrom xs ys i ≡ 0
+    pub shared_second : length ys ≤ i → shared_from xs ys i ≡ 0
     shared_second h = rw (drop_of_length-le ys h, shared-nil (drop i xs))
 
   -- One more where the entries at i are the same, none where they differ.
   pub shared-next : (d : A) (xs ys : List A) (i : ℕ) → i < length xs → i < length ys
-      → sharedFrom xs ys i ≡ cond (same (get_or xs i d) (get_or ys i d)) (suc (sharedFrom xs ys (i + 1))) 0
+      → shared_from xs ys i ≡ cond (same (get_or xs i d) (get_or ys i d)) (suc (shared_from xs ys (i + 1))) 0
   shared-next d xs ys i h k =
       rw (add-one i, drop-cons xs i d h, drop-cons ys i d k)
       (counted (get_or xs i d) _ (same (get_or xs i d) (get_or ys i d)))
 
 -- The log of a replica b in a whole store
 module _ {A : Type 0} (s : List A) (full : length s ≡ 4096) (b : ℕ) (low : 1 ≤ b) (high : b ≤ 8) (n : ℕ) where
-  pub log-length : n ≤ 512 → length (logOf s b n) ≡ n
+  pub log-length : n ≤ 512 → length (log_of s b n) ≡ n
   log-length h = length-take-le n (drop (512 * (b - 1)) s) (rw length-drop (omega arith))
 
   -- The log that gets v has v at its end.
-  pub log-gains : (v : A) → n < 512 → logOf (set s (place b n) v) b (n + 1) ≡ logOf s b n ++ (v ∷ [])
+  pub log-gains : (v : A) → n < 512 → log_of (set s (place b n) v) b (n + 1) ≡ log_of s b n ++ (v ∷ [])
   log-gains v h =
       let l : n < length (drop (512 * (b - 1)) s) = rw length-drop (omega arith) in
       rw (drop-set-add (512 * (b - 1)) s n v) (list-gains (drop (512 * (b - 1)) s) n v l)
 
   -- The log cut to what it shares with another.
   pub log-joins : (same : A → A → Bool) (ys : List A) → n ≤ 512
-      → logOf s b (length (shared same (logOf s b n) ys)) ≡ shared same (logOf s b n) ys
+      → log_of s b (length (shared same (log_of s b n) ys)) ≡ shared same (log_of s b n) ys
   log-joins same ys h =
-      let k : length (shared same (logOf s b n) ys) ≤ n =
-      omega (arith, shared-length same (logOf s b n) ys, log-length h) in
-      sym (shared-take same (logOf s b n) ys ∙ log-cut s b n (length (shared same (logOf s b n) ys)) k)
+      let k : length (shared same (log_of s b n) ys) ≤ n =
+      omega (arith, shared-length same (log_of s b n) ys, log-length h) in
+      sym (shared-take same (log_of s b n) ys ∙ log-cut s b n (length (shared same (log_of s b n) ys)) k)

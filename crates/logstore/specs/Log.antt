@@ -15,14 +15,14 @@ abbrev pub place : ℕ → ℕ → ℕ
 place b n = 512 * (b - 1) + n
 
 -- The log of replica b at the length n: of a store of entries, or of their values or terms alone.
-abbrev pub logOf : {A : Type 0} → List A → ℕ → ℕ → List A
-logOf store b n = take n (drop (512 * (b - 1)) store)
+abbrev pub log_of : {A : Type 0} → List A → ℕ → ℕ → List A
+log_of store b n = take n (drop (512 * (b - 1)) store)
 
 -- The shown list of document 01: the leader's log, or the receipts while no leader is named.
-abbrev pub visibleOf : {A : Type 0} → List A → List A → ℕ → ℕ → ℕ → List A
-visibleOf store committed leader len issued = cond (eqb leader 0) (take issued committed) (logOf store leader len)
+abbrev pub visible_of : {A : Type 0} → List A → List A → ℕ → ℕ → ℕ → List A
+visible_of store committed leader len issued = cond (eqb leader 0) (take issued committed) (log_of store leader len)
 
 -- Where that part begins, a block and an offset in bytes, if a number has w bytes: at the leader's first place of the
 -- store, or where the committed list does.
-abbrev pub visibleAt : ℕ → ℕ × ℕ → ℕ × ℕ → ℕ → ℕ × ℕ
-visibleAt w store committed leader = cond (eqb leader 0) committed (store.0, store.1 + w * place leader 0)
+abbrev pub visible_at : ℕ → ℕ × ℕ → ℕ × ℕ → ℕ → ℕ × ℕ
+visible_at w store committed leader = cond (eqb leader 0) committed (store.0, store.1 + w * place leader 0)

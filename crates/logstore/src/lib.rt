@@ -4,9 +4,9 @@
 // to it that b is a replica, 1 to 8, and that a place is inside its log.
 
 ghost use Rattle.std.specs.Prelude.{◌≡◌, ◌<◌, ◌≤◌, length, set, get_or};
-ghost use Rattle.model.specs.State.{entry, sameEntry};
+ghost use Rattle.model.specs.State.{entry, same_entry};
 ghost use Rattle.model.specs.Steps as S;
-ghost use Rattle.logstore.specs.Log.{pairs, place, logOf, visibleOf, visibleAt};
+ghost use Rattle.logstore.specs.Log.{pairs, place, log_of, visible_of, visible_at};
 
 // The value of the entry n of replica b's log. Inner layer: callers see to b and n.
 pub fn value(store: &[u32], b: u8, n: u16) -> u32
@@ -29,7 +29,7 @@ pub fn term(terms: &[u16], b: u8, n: u16) -> u16
 // Whether the logs of a and b have the same entry n: the same value and the same term. Callers see to these three.
 fn same(store: &[u32], terms: &[u16], a: u8, b: u8, n: u16) -> bool
     requires { (length store.now ≡ 4096) × (length terms.now ≡ 4096) × (1 ≤ a) × (a ≤ 8) × (1 ≤ b) × (b ≤ 8) × (n < 512) }
-    ensures { result ≡ sameEntry (get_or (pairs store.now terms.now) (place a n) (entry 0 0))
+    ensures { result ≡ same_entry (get_or (pairs store.now terms.now) (place a n) (entry 0 0))
         (get_or (pairs store.now terms.now) (place b n) (entry 0 0)) }
 {
     (value(store, a, n) == value(store, b, n)) & (term(terms, a, n) == term(terms, b, n))
@@ -39,8 +39,8 @@ fn same(store: &[u32], terms: &[u16], a: u8, b: u8, n: u16) -> bool
 pub fn shared(store: &[u32], terms: &[u16], a: u8, m: u16, b: u8, n: u16) -> u16
     requires { (length store.now ≡ 4096) × (length terms.now ≡ 4096)
         × (1 ≤ a) × (a ≤ 8) × (m ≤ 512) × (1 ≤ b) × (b ≤ 8) × (n ≤ 512) }
-    ensures { result ≡ length (S.shared sameEntry (logOf (pairs store.now terms.now) a m)
-        (logOf (pairs store.now terms.now) b n)) }
+    ensures { result ≡ length (S.shared same_entry (log_of (pairs store.now terms.now) a m)
+        (log_of (pairs store.now terms.now) b n)) }
 {
     let mut i: u16 = 0;
     while i < m {
@@ -77,8 +77,8 @@ pub fn visible<'a>(
 ) -> &'a [u32]
     requires { (length store.now ≡ 4096) × (length committed.now ≡ 512)
         × (leader ≤ 8) × (len ≤ 512) × (issued ≤ 512) }
-    ensures { (result.now ≡ visibleOf store.now committed.now leader len issued)
-        × (result.ref_ptr ≡ visibleAt 4 store.entry.ref_ptr committed.entry.ref_ptr leader) }
+    ensures { (result.now ≡ visible_of store.now committed.now leader len issued)
+        × (result.ref_ptr ≡ visible_at 4 store.entry.ref_ptr committed.entry.ref_ptr leader) }
 {
     if leader == 0 {
         let all = issued as usize;
@@ -100,8 +100,8 @@ pub fn visible_terms<'a>(
 ) -> &'a [u16]
     requires { (length store.now ≡ 4096) × (length committed.now ≡ 512)
         × (leader ≤ 8) × (len ≤ 512) × (issued ≤ 512) }
-    ensures { (result.now ≡ visibleOf store.now committed.now leader len issued)
-        × (result.ref_ptr ≡ visibleAt 2 store.entry.ref_ptr committed.entry.ref_ptr leader) }
+    ensures { (result.now ≡ visible_of store.now committed.now leader len issued)
+        × (result.ref_ptr ≡ visible_at 2 store.entry.ref_ptr committed.entry.ref_ptr leader) }
 {
     if leader == 0 {
         let all = issued as usize;

@@ -9,9 +9,9 @@ use native.Mathlib.Omega.{arith}
 use lib.Dec.{T, eqb, eqb→eq, T_not}
 use borrow.Author.Tests.{ne_eqb}
 use Rattle.model.specs.Prelude.{upd, ◌⊑◌}
-use Rattle.model.specs.Members.{isReplica, size}
-use Rattle.model.specs.State.{outline, Entries, View, State, Registry, isChoosing}
-use Rattle.model.specs.Steps.{Step, append, commit, add, remove, changeLeader, refresh, join, receive, acknowledge, refreshController, readLeader, read, setNormal, hear, install, malformed, checks, next, accepted, step}
+use Rattle.model.specs.Members.{is_replica, size}
+use Rattle.model.specs.State.{outline, Entries, View, State, Registry, is_choosing}
+use Rattle.model.specs.Steps.{Step, append, commit, add, remove, change_leader, refresh, join, receive, acknowledge, refreshController, read_leader, read, set_normal, hear, install, malformed, checks, next, accepted, step}
 use Rattle.model.specs.Runs.{run}
 use Rattle.model.proofs.Tests.{Holds, facts, is_true, is_false, split-and, by-test, by_cond, at-or, eqb_same}
 use Rattle.model.proofs.Prefix.{begins-nil}
@@ -19,7 +19,7 @@ use Rattle.model.proofs.Quorum.{replica-ne}
 use Rattle.model.proofs.Invariant.{Inv}
 use Rattle.model.proofs.Static.{named, vacant}
 use Rattle.model.proofs.Theorem.{step_keeps}
-use Rattle.mark.specs.Mark.{lateIn}
+use Rattle.mark.specs.Mark.{late_in}
 use Rattle.mark.proofs.Current.{parts}
 
 -- Replica b, with the view v and the joined term j, where the registry is at term u: it has not joined that term, and
@@ -38,8 +38,8 @@ module _ (𝓔 : Entries) (b : ℕ) where
     open s use {registry, view, joined}
 
     -- b is not the leader that the registry names
-    not_named : T (not (registry.view.members b)) → T (isReplica b) → registry.view.leader ≢ b
-    not_named out real e = by-test (isChoosing registry.status)
+    not_named : T (not (registry.view.members b)) → T (is_replica b) → registry.view.leader ≢ b
+    not_named out real e = by-test (is_choosing registry.status)
         (λ c. replica-ne b real (sym e ∙ vacant i c))
         (λ c. T_not (registry.view.members b) out
         (subst (λ x. T (registry.view.members x)) (sym (named i c) ∙ e) (i.registry.member c)))
@@ -87,7 +87,7 @@ module _ (𝓔 : Entries) (b : ℕ) where
     keeps (commit x) h k = (k refl).1
     keeps (add x) h k = (k refl).1
     keeps (remove x) h k = (k refl).1
-    keeps changeLeader h k =
+    keeps change_leader h k =
         let left = upd registry.view.members registry.view.leader false in
         by_cond
         (λ (r : Registry). (r.view.term ≡ registry.view.term → Known) → Barred r.view.term (view b) (joined b) b)
@@ -99,9 +99,9 @@ module _ (𝓔 : Entries) (b : ℕ) where
     keeps (receive x) h k = (k refl).1
     keeps (acknowledge a x) h k = (k refl).1
     keeps refreshController h k = (k refl).1
-    keeps readLeader h k = (k refl).1
+    keeps read_leader h k = (k refl).1
     keeps (read x) h k = (k refl).1
-    keeps setNormal h k = (k refl).1
+    keeps set_normal h k = (k refl).1
     keeps (hear x) h k = (k refl).1
     keeps (install x) h k = new_term
     keeps malformed h k = (k refl).1
@@ -135,8 +135,8 @@ module _ (𝓔 : Entries) (b : ℕ) where
   -- The steps end in another term than they began in, so nothing is asked of the first state.
   pub outside : {L : ℕ → ℕ} {s : State Entry} → Inv L s → (sts : List Step) → term (run 𝓔 s sts) ≢ term s
       → OutsideFrom s sts
-      → T (lateIn (outline (run 𝓔 s sts)) b)
+      → T (late_in (outline (run 𝓔 s sts)) b)
   outside {s} i sts n out =
       let z = run 𝓔 s sts in
       let k = barred i sts out (λ e. absurd (n e)) in
-      by-test (lateIn (outline z) b) (λ y. y) (λ y. absurd (omega (arith, k.joined, (parts z b y).1)))
+      by-test (late_in (outline z) b) (λ y. y) (λ y. absurd (omega (arith, k.joined, (parts z b y).1)))

@@ -26,17 +26,17 @@ below f (suc n) t k h =
     last f n k (eqb k n) refl h both.0 (λ l. below f n both.1 k l)
 
 -- The rule's numbers at i, i + 1 and so on, n of them.
-abbrev pub tableFrom : (ℕ → ℕ) → ℕ → ℕ → List ℕ
-tableFrom rule i zero = []
-tableFrom rule i (suc n) = rule i ∷ tableFrom rule (suc i) n
+abbrev pub table_from : (ℕ → ℕ) → ℕ → ℕ → List ℕ
+table_from rule i zero = []
+table_from rule i (suc n) = rule i ∷ table_from rule (suc i) n
 
 -- The table of a rule: its numbers at 0 to n - 1. Where an array stands in a goal and this table in what is offered for
 -- it, antt computes the rule at all n places and compares: the test that the array is the rule's.
 abbrev pub table : (ℕ → ℕ) → ℕ → List ℕ
-table rule n = tableFrom rule 0 n
+table rule n = table_from rule 0 n
 
 -- The number at place k of what begins at i.
-from : (rule : ℕ → ℕ) (i n k : ℕ) → k < n → get_or (tableFrom rule i n) k 0 ≡ rule (i + k)
+from : (rule : ℕ → ℕ) (i n k : ℕ) → k < n → get_or (table_from rule i n) k 0 ≡ rule (i + k)
 from rule i zero k h = absurd (not-suc-le-zero h)
 from rule i (suc n) zero h = ap rule (sym (add-zero i))
 from rule i (suc n) (suc k) h = from rule (suc i) n k (le_of_suc-le-suc h) ∙ ap rule (suc-add i k ∙ sym (add-suc i k))

@@ -10,39 +10,39 @@ use lib.Dec.{eqb, leb, ltb}
 use mir.Val.{bool_byte}
 use borrow.Author.Tests.{eqb-true, eqb-false, leb-true, ltb-true, ltb-false, le-leb, lt-ltb, le-ltb, ne_eqb}
 use Rattle.model.specs.Prelude.{upd}
-use Rattle.model.specs.Members.{Members, isReplica, none, only, ◌∩◌, bit, size, lowest}
+use Rattle.model.specs.Members.{Members, is_replica, none, only, ◌∩◌, bit, size, lowest}
 use Rattle.members.specs.Mask.{bits, under}
 use Rattle.members.proofs.Finite.{all, below, each, at-replica, at-replicas, beq-true}
 
 -- Replicas
 
-pub replica : (b : ℕ) → 1 ≤ b → b ≤ 8 → isReplica b ≡ true
+pub replica : (b : ℕ) → 1 ≤ b → b ≤ 8 → is_replica b ≡ true
 replica b h k = rw (le-leb 1 b h, le-leb b 8 k)
 
-pub replica-range : (b : ℕ) → isReplica b ≡ true → (1 ≤ b) × (b ≤ 8)
+pub replica-range : (b : ℕ) → is_replica b ≡ true → (1 ≤ b) × (b ≤ 8)
 replica-range b e =
     let p = (and-eq-true_iff (leb 1 b) (leb b 8)).0 e in
     (leb-true 1 b p.0, leb-true b 8 p.1)
 
 -- What is no replica differs from one.
-apart : (b x : ℕ) → 1 ≤ b → b ≤ 8 → isReplica x ≡ false → x ≡ b → ⊥
+apart : (b x : ℕ) → 1 ≤ b → b ≤ 8 → is_replica x ≡ false → x ≡ b → ⊥
 apart b x h k e q =
-    let z : ◌≡◌ {A = ℕ} 0 1 = cc (ap isReplica q, replica b h k) in
+    let z : ◌≡◌ {A = ℕ} 0 1 = cc (ap is_replica q, replica b h k) in
     omega arith
 
 -- Two sets with the same replicas, and the same of what is no replica, are equal.
 pub same-members :
-    (p q : Members) → ((x : ℕ) → isReplica x ≡ false → p x ≡ q x) → ((x : ℕ) → 1 ≤ x → x ≤ 8 → p x ≡ q x) → p ≡ q
-same-members p q out inside = fun_ext (λ x. go x (isReplica x) refl)
+    (p q : Members) → ((x : ℕ) → is_replica x ≡ false → p x ≡ q x) → ((x : ℕ) → 1 ≤ x → x ≤ 8 → p x ≡ q x) → p ≡ q
+same-members p q out inside = fun_ext (λ x. go x (is_replica x) refl)
   where
-    go : (x : ℕ) (t : Bool) → isReplica x ≡ t → p x ≡ q x
+    go : (x : ℕ) (t : Bool) → is_replica x ≡ t → p x ≡ q x
     go x true e = let h = replica-range x e in inside x h.0 h.1
     go x false e = out x e
 
 -- Masks
 
 -- No mask has what is no replica.
-pub bits_out : (m x : ℕ) → isReplica x ≡ false → bits m x ≡ false
+pub bits_out : (m x : ℕ) → is_replica x ≡ false → bits m x ≡ false
 unfolding bits
 bits_out m x e = rw e
 
@@ -53,44 +53,44 @@ bits_at m b h k = rw (replica b h k)
 
 -- A mask's set is the set that has the same replicas, and nothing else.
 pub bits_is :
-    (m : ℕ) (p : Members) → ((x : ℕ) → isReplica x ≡ false → p x ≡ false) → ((x : ℕ) → 1 ≤ x → x ≤ 8 → bits m x ≡ p x)
+    (m : ℕ) (p : Members) → ((x : ℕ) → is_replica x ≡ false → p x ≡ false) → ((x : ℕ) → 1 ≤ x → x ≤ 8 → bits m x ≡ p x)
     → bits m ≡ p
 bits_is m p out inside = same-members (bits m) p (λ x e. bits_out m x e ∙ sym (out x e)) inside
 
 -- What put makes of a mask: the bit of b taken out, then present put there.
-abbrev pub putMask : ℕ → ℕ → Bool → ℕ
-putMask m b present = bit_or (bit_and m (255 - 1 * 2 ^ (b - 1) % 256)) (bool_byte present * 2 ^ (b - 1) % 256)
+abbrev pub put_mask : ℕ → ℕ → Bool → ℕ
+put_mask m b present = bit_or (bit_and m (255 - 1 * 2 ^ (b - 1) % 256)) (bool_byte present * 2 ^ (b - 1) % 256)
 
-putTest : Bool → ℕ → ℕ → ℕ → Bool
-putTest present m b x = beq (bits (putMask m b present) x) (upd (bits m) b present x)
+put_test : Bool → ℕ → ℕ → ℕ → Bool
+put_test present m b x = beq (bits (put_mask m b present) x) (upd (bits m) b present x)
 
-put-passes : (present : Bool) → all (λ m. each (λ b. each (putTest present m b))) 256 ≡ true
-unfolding bits putTest
+put-passes : (present : Bool) → all (λ m. each (λ b. each (put_test present m b))) 256 ≡ true
+unfolding bits put_test
 put-passes true = refl
 put-passes false = refl
 
 -- A mask after put.
 pub bits_put : (m b : ℕ) (present : Bool) → m < 256 → 1 ≤ b → b ≤ 8
-    → bits (putMask m b present) ≡ upd (bits m) b present
-unfolding putTest
+    → bits (put_mask m b present) ≡ upd (bits m) b present
+unfolding put_test
 bits_put m b present hm h k =
-    let passes = below (λ n. each (λ c. each (putTest present n c))) 256 (put-passes present) m hm in
-    bits_is (putMask m b present) (upd (bits m) b present) (λ x e. rw (ne_eqb x b (apart b x h k e), bits_out m x e))
-    (λ x hx kx. beq-true _ _ (at-replicas (putTest present m) passes b x h k hx kx))
+    let passes = below (λ n. each (λ c. each (put_test present n c))) 256 (put-passes present) m hm in
+    bits_is (put_mask m b present) (upd (bits m) b present) (λ x e. rw (ne_eqb x b (apart b x h k e), bits_out m x e))
+    (λ x hx kx. beq-true _ _ (at-replicas (put_test present m) passes b x h k hx kx))
 
-singleTest : ℕ → ℕ → Bool
-singleTest b x = beq (bits (1 * 2 ^ (b - 1) % 256) x) (only b x)
+single_test : ℕ → ℕ → Bool
+single_test b x = beq (bits (1 * 2 ^ (b - 1) % 256) x) (only b x)
 
-single-passes : each (λ b. each (singleTest b)) ≡ true
-unfolding bits singleTest
+single-passes : each (λ b. each (single_test b)) ≡ true
+unfolding bits single_test
 single-passes = refl
 
 -- The mask of one replica.
 pub bits-single : (b : ℕ) → 1 ≤ b → b ≤ 8 → bits (1 * 2 ^ (b - 1) % 256) ≡ only b
-unfolding singleTest
+unfolding single_test
 bits-single b h k =
     bits_is (1 * 2 ^ (b - 1) % 256) (only b) (λ x e. ne_eqb x b (apart b x h k e))
-    (λ x hx kx. beq-true _ _ (at-replicas singleTest single-passes b x h k hx kx))
+    (λ x hx kx. beq-true _ _ (at-replicas single_test single-passes b x h k hx kx))
 
 -- The mask of no replica.
 pub bits_none : bits 0 ≡ none
@@ -98,12 +98,12 @@ unfolding bits
 bits_none =
     bits_is 0 none (λ x e. refl) (λ x h k. beq-true _ _ (at-replica (λ b. beq (bits 0 b) false) refl x h k))
 
-andTest : ℕ → ℕ → Bool
-andTest a c = beq (eqb (bit_and a c) 1) (eqb a 1 && eqb c 1)
+and_test : ℕ → ℕ → Bool
+and_test a c = beq (eqb (bit_and a c) 1) (eqb a 1 && eqb c 1)
 
 digit_and : (a c : ℕ) → a < 2 → c < 2 → eqb (bit_and a c) 1 ≡ (eqb a 1 && eqb c 1)
-unfolding andTest
-digit_and a c ha hc = beq-true _ _ (below (andTest a) 2 (below (λ d. all (andTest d) 2) 2 refl a ha) c hc)
+unfolding and_test
+digit_and a c ha hc = beq-true _ _ (below (and_test a) 2 (below (λ d. all (and_test d) 2) 2 refl a ha) c hc)
 
 -- The members of both masks.
 pub bits-both : (m q : ℕ) → bits (bit_and m q) ≡ bits m ∩ bits q

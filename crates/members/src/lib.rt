@@ -92,7 +92,7 @@ pub fn both(m: u8, q: u8) -> u8
 
 // Whether q, a set of members of m, has as many as a majority of m.
 pub fn is_quorum(m: u8, q: u8) -> bool
-    ensures { result ≡ Q.isQuorum (bits m) (bits q) }
+    ensures { result ≡ Q.is_quorum (bits m) (bits q) }
 {
     majority(m) <= size(q)
 }

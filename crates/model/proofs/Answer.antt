@@ -7,10 +7,10 @@ use mathlib.Core.Path.{◌≡◌, refl, sym, ap, ◌∙◌}
 use Prim.Native.Nat.{ℕ, ◌≤◌}
 use native.Mathlib.Omega.{arith}
 use lib.Dec.{T, leb, leb→le}
-use Rattle.model.specs.Prelude.{Check, ◌else◌, firstFailed, passes}
+use Rattle.model.specs.Prelude.{Check, ◌else◌, first_failed, passes}
 use Rattle.model.specs.Members.{Members, none}
 use Rattle.model.specs.State.{Entries, State, Outline, outline}
-use Rattle.model.specs.Steps.{Step, append, commit, add, remove, changeLeader, refresh, join, receive, acknowledge, refreshController, readLeader, read, setNormal, hear, install, malformed, checks, accepted, answer_of, qualified, behind, next, step}
+use Rattle.model.specs.Steps.{Step, append, commit, add, remove, change_leader, refresh, join, receive, acknowledge, refreshController, read_leader, read, set_normal, hear, install, malformed, checks, accepted, answer_of, qualified, behind, next, step}
 use Rattle.model.proofs.Tests.{split-and, ne-fact, eq-or-ne, of-true, Holds, facts}
 
 -- Refusals have the numbers 1 to 16.
@@ -19,7 +19,7 @@ numbered [] = true
 numbered ((c else n) ∷ cs) = (leb 1 n && leb n 16) && numbered cs
 
 -- Where the answer is 0, no check fails.
-pub zero-passes : (cs : List Check) → T (numbered cs) → firstFailed cs ≡ 0 → passes cs ≡ true
+pub zero-passes : (cs : List Check) → T (numbered cs) → first_failed cs ≡ 0 → passes cs ≡ true
 zero-passes [] t e = refl
 zero-passes ((true else n) ∷ cs) t e = zero-passes cs (split-and (leb 1 n && leb n 16) (numbered cs) t).1 e
 zero-passes ((false else n) ∷ cs) t e =
@@ -30,16 +30,16 @@ zero-passes ((false else n) ∷ cs) t e =
     ))
 
 -- So each of them holds, and is found by its refusal.
-pub zero-holds : (cs : List Check) → T (numbered cs) → firstFailed cs ≡ 0 → Holds cs
+pub zero-holds : (cs : List Check) → T (numbered cs) → first_failed cs ≡ 0 → Holds cs
 zero-holds cs t e = facts cs (of-true (zero-passes cs t e))
 
-first-most : (cs : List Check) → T (numbered cs) → firstFailed cs ≤ 16
+first-most : (cs : List Check) → T (numbered cs) → first_failed cs ≤ 16
 first-most [] t = omega arith
 first-most ((true else n) ∷ cs) t = first-most cs (split-and (leb 1 n && leb n 16) (numbered cs) t).1
 first-most ((false else n) ∷ cs) t =
     leb→le n 16 (split-and (leb 1 n) (leb n 16) (split-and (leb 1 n && leb n 16) (numbered cs) t).0).1
 
-passes-zero : (cs : List Check) → passes cs ≡ true → firstFailed cs ≡ 0
+passes-zero : (cs : List Check) → passes cs ≡ true → first_failed cs ≡ 0
 passes-zero [] e = refl
 passes-zero ((true else n) ∷ cs) e = passes-zero cs e
 passes-zero ((false else n) ∷ cs) e = let z : ◌≡◌ {A = ℕ} 0 1 = cc in absurd (ne-fact 0 1 tt z)
@@ -49,15 +49,15 @@ all-numbered m (append b v) = tt
 all-numbered m (commit b) = tt
 all-numbered m (add b) = tt
 all-numbered m (remove b) = tt
-all-numbered m changeLeader = tt
+all-numbered m change_leader = tt
 all-numbered m (refresh b) = tt
 all-numbered m (join b) = tt
 all-numbered m (receive b) = tt
 all-numbered m (acknowledge a b) = tt
 all-numbered m refreshController = tt
-all-numbered m readLeader = tt
+all-numbered m read_leader = tt
 all-numbered m (read b) = tt
-all-numbered m setNormal = tt
+all-numbered m set_normal = tt
 all-numbered m (hear b) = tt
 all-numbered m (install b) = tt
 all-numbered m malformed = tt
@@ -78,7 +78,7 @@ nonzero-refused m st n = go (accepted m st) refl
 -- The checks cs answer n, and so does the step st of the state s. What is left of a part of s: refused that part,
 -- accepted what the model leaves of it.
 module _ (𝓔 : Entries) (s : State 𝓔.Entry) (st : Step) (cs : List Check) (own : T (numbered cs))
-    (same : firstFailed cs ≡ answer_of (outline s) st) (n : ℕ) (e : n ≡ firstFailed cs) {P : Type 0}
+    (same : first_failed cs ≡ answer_of (outline s) st) (n : ℕ) (e : n ≡ first_failed cs) {P : Type 0}
     (part : State 𝓔.Entry → P) (p : P) where
   pub part_left : (n ≢ 0 → p ≡ part s) → (n ≡ 0 → Holds cs → p ≡ part (next 𝓔 s st)) → p ≡ part (step 𝓔 s st)
   part_left refused taken = ⊎_elim yes no (eq-or-ne n 0)

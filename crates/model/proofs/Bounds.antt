@@ -10,9 +10,9 @@ use lib.Dec.{T, eqb, eqb→eq, ltb→lt}
 use lib.ListN.{length}
 use borrow.Author.Tests.{ne_eqb}
 use Rattle.model.specs.Prelude.{upd}
-use Rattle.model.specs.Members.{isReplica, size}
-use Rattle.model.specs.State.{outline, Entries, View, Status, normal, waiting, Stage, Registry, Controller, State, Opening, canOpen, opened, isChoosing, stageNumber, stageFor, zeros}
-use Rattle.model.specs.Steps.{Step, append, commit, add, remove, changeLeader, refresh, join, receive, acknowledge, refreshController, readLeader, read, setNormal, hear, install, malformed, checks, next, accepted, step, heardOf, succeeded, vacated}
+use Rattle.model.specs.Members.{is_replica, size}
+use Rattle.model.specs.State.{outline, Entries, View, Status, normal, waiting, Stage, Registry, Controller, State, Opening, can_open, opened, is_choosing, stage_number, stage_for, zeros}
+use Rattle.model.specs.Steps.{Step, append, commit, add, remove, change_leader, refresh, join, receive, acknowledge, refreshController, read_leader, read, set_normal, hear, install, malformed, checks, next, accepted, step, heard_of, succeeded, vacated}
 use Rattle.model.specs.Runs.{run}
 use Rattle.model.specs.Claim.{after}
 use Rattle.model.specs.Ranges.{in_range}
@@ -28,9 +28,9 @@ use Rattle.model.proofs.Theorem.{opened-inv, step_keeps, run-keeps}
 pub record ControllerIn (c : Controller) : Type 0 where
   pub view : ViewInRange c.view
   pub heard : (b : ℕ) → c.heard b ≤ 513
-  pub heardJoined : (b : ℕ) → c.heardJoined b ≤ 4000
-  pub reads : stageNumber c.stage ≡ 1 → c.view.leader ≢ 0
-  pub readsOn : stageNumber c.stage ≡ 2 → c.view.leader ≢ 0
+  pub heard_joined : (b : ℕ) → c.heard_joined b ≤ 4000
+  pub reads : stage_number c.stage ≡ 1 → c.view.leader ≢ 0
+  pub reads_on : stage_number c.stage ≡ 2 → c.view.leader ≢ 0
 
 pub record ReplicaIn (v : View) (j : ℕ) : Type 0 where
   pub epoch : 1 ≤ v.epoch
@@ -43,7 +43,7 @@ pub record LogsIn {E : Type 0} (counts : ℕ → ℕ → ℕ) (logs : ℕ → Li
 pub record Bounds {E : Type 0} (s : State E) : Type 0 where
   pub registry : s.registry.view.epoch ≤ 4000
   pub controller : ControllerIn s.controller
-  pub replicas : (b : ℕ) → T (isReplica b) → ReplicaIn (s.view b) (s.joined b)
+  pub replicas : (b : ℕ) → T (is_replica b) → ReplicaIn (s.view b) (s.joined b)
   pub logs : LogsIn s.acked s.log
 
 -- Counts and logs that change at one replica.
@@ -78,11 +78,11 @@ module _ {E : Type 0} {L : ℕ → ℕ} {s : State E} (i : Inv L s) (k : Bounds 
     epoch = omega (arith, first, k.registry);
     term = omega (arith, first, k.registry);
     leader = subst (λ x. x ≤ 8) (sym i.registry.named)
-        (by_cond (λ x. x ≤ 8) (isChoosing registry.status) (λ _. omega arith)
+        (by_cond (λ x. x ≤ 8) (is_choosing registry.status) (λ _. omega arith)
         (λ _. leader-in registry.view.term));
   }
 
-  pub view_in : (b : ℕ) → T (isReplica b) → ViewInRange (view b)
+  pub view_in : (b : ℕ) → T (is_replica b) → ViewInRange (view b)
   view_in b real =
       let v = i.views b in
       let q = k.replicas b real in
@@ -96,10 +96,10 @@ module _ {E : Type 0} {L : ℕ → ℕ} {s : State E} (i : Inv L s) (k : Bounds 
       led (inl e) = omega arith
       led (inr n) = subst (λ x. x ≤ 8) (sym ((i.views b).led n)) (leader-in (view b).term)
 
-  joined_in : (b : ℕ) → T (isReplica b) → IsEpoch (joined b)
+  joined_in : (b : ℕ) → T (is_replica b) → IsEpoch (joined b)
   joined_in b real = omega (arith, (k.replicas b real).joined, (i.views b).joined, (i.views b).term, first, k.registry)
 
-  named_in : T (not (isChoosing registry.status)) → registry.view.leader ≢ 0
+  named_in : T (not (is_choosing registry.status)) → registry.view.leader ≢ 0
   named_in t e = replica-ne (o i) (i.real registry.view.term) (sym (Static.named i t) ∙ e)
 
   pub all_in : InRange (outline s)
@@ -109,26 +109,26 @@ module _ {E : Type 0} {L : ℕ → ℕ} {s : State E} (i : Inv L s) (k : Bounds 
     views = view_in;
     joined = joined_in;
     heard = λ b _. k.controller.heard b;
-    heardJoined = λ b _. k.controller.heardJoined b;
+    heard_joined = λ b _. k.controller.heard_joined b;
     acked = λ a b _ _. k.logs.acked a b;
     logs = λ b _. k.logs.log b;
     committed = omega (arith, begins-length i.safe.begins, k.logs.log (o i));
     named = named_in;
     reads = k.controller.reads;
-    readsOn = k.controller.readsOn;
+    reads_on = k.controller.reads_on;
   }
 
-pub opened-bounds : {E : Type 0} (o : Opening) → T (canOpen o) → Bounds {E = E} (opened o)
+pub opened-bounds : {E : Type 0} (o : Opening) → T (can_open o) → Bounds {E = E} (opened o)
 opened-bounds o real = record {
   registry = omega arith;
   controller = record {
     view = record { epoch = omega arith; term = omega arith; leader = (replica-range o.board real).1 };
     heard = λ _. omega arith;
-    heardJoined = λ _. omega arith;
+    heard_joined = λ _. omega arith;
     reads = λ e. absurd (omega arith);
-    readsOn = λ e. absurd (omega arith);
+    reads_on = λ e. absurd (omega arith);
   };
-  replicas = λ x t. rw (is_true (isReplica x) t) (record { epoch = omega arith; joined = omega arith });
+  replicas = λ x t. rw (is_true (is_replica x) t) (record { epoch = omega arith; joined = omega arith });
   logs = record { acked = λ _ _. omega arith; log = λ _. omega arith };
 }
 
@@ -138,15 +138,15 @@ module _ (𝓔 : Entries) where
   module _ {L : ℕ → ℕ} {s : State Entry} (i : Inv L s) (k : Bounds s) where
     open s use {registry, controller, view, joined, acked, log, committed}
 
-    heard-in : (g : Stage) (b j : ℕ) → j ≤ 4000 → (stageNumber g ≡ 1 → controller.view.leader ≢ 0)
-        → (stageNumber g ≡ 2 → controller.view.leader ≢ 0)
-        → ControllerIn (heardOf controller g b (length (log b)) j)
+    heard-in : (g : Stage) (b j : ℕ) → j ≤ 4000 → (stage_number g ≡ 1 → controller.view.leader ≢ 0)
+        → (stage_number g ≡ 2 → controller.view.leader ≢ 0)
+        → ControllerIn (heard_of controller g b (length (log b)) j)
     heard-in g b j h p q = let c = k.controller in record {
       view = c.view;
       heard = upd-in controller.heard 513 b (suc (length (log b))) (omega (arith, k.logs.log b)) c.heard;
-      heardJoined = upd-in controller.heardJoined 4000 b j h c.heardJoined;
+      heard_joined = upd-in controller.heard_joined 4000 b j h c.heard_joined;
       reads = p;
-      readsOn = q;
+      reads_on = q;
     }
 
     pub bounds-keep : (st : Step) → Holds (checks (outline s) st) → Bounds (next 𝓔 s st)
@@ -173,7 +173,7 @@ module _ (𝓔 : Entries) where
       replicas = k.replicas;
       logs = k.logs;
     }
-    bounds-keep changeLeader h = record {
+    bounds-keep change_leader h = record {
       registry =
           let left = upd registry.view.members registry.view.leader false in
           let up = ltb→lt registry.view.epoch 4000 (h 7) in
@@ -244,35 +244,35 @@ module _ (𝓔 : Entries) where
       controller = record {
         view = registry-in i k;
         heard = λ _. omega arith;
-        heardJoined = λ _. omega arith;
+        heard_joined = λ _. omega arith;
         reads = λ e. named_in i k (leads registry.status e);
-        readsOn = λ e. absurd (never registry.status e);
+        reads_on = λ e. absurd (never registry.status e);
       };
     }
       where
-        leads : (g : Status) → stageNumber (stageFor g) ≡ 1 → T (not (isChoosing g))
+        leads : (g : Status) → stage_number (stage_for g) ≡ 1 → T (not (is_choosing g))
         leads normal e = tt
         leads waiting e = tt
         leads Status.choosing e = absurd (omega arith)
 
-        never : (g : Status) → stageNumber (stageFor g) ≡ 2 → ⊥
+        never : (g : Status) → stage_number (stage_for g) ≡ 2 → ⊥
         never normal e = omega arith
         never waiting e = omega arith
         never Status.choosing e = omega arith
-    bounds-keep readLeader h = record {
+    bounds-keep read_leader h = record {
       registry = k.registry;
       replicas = k.replicas;
       logs = k.logs;
       controller = heard-in _ controller.view.leader 0 (omega arith) (λ e. absurd (omega arith))
-          (λ _. k.controller.reads (eqb→eq (stageNumber controller.stage) 1 (h 15)));
+          (λ _. k.controller.reads (eqb→eq (stage_number controller.stage) 1 (h 15)));
     }
     bounds-keep (read b) h = record {
       registry = k.registry;
       replicas = k.replicas;
       logs = k.logs;
-      controller = heard-in _ b 0 (omega arith) k.controller.reads k.controller.readsOn;
+      controller = heard-in _ b 0 (omega arith) k.controller.reads k.controller.reads_on;
     }
-    bounds-keep setNormal h = record {
+    bounds-keep set_normal h = record {
       registry = ltb→lt registry.view.epoch 4000 (h 7);
       replicas = k.replicas;
       logs = k.logs;
@@ -283,16 +283,16 @@ module _ (𝓔 : Entries) where
           leader = k.controller.view.leader;
         };
         heard = λ _. omega arith;
-        heardJoined = λ _. omega arith;
+        heard_joined = λ _. omega arith;
         reads = λ e. absurd (omega arith);
-        readsOn = λ e. absurd (omega arith);
+        reads_on = λ e. absurd (omega arith);
       };
     }
     bounds-keep (hear b) h = record {
       registry = k.registry;
       replicas = k.replicas;
       logs = k.logs;
-      controller = heard-in _ b (joined b) (joined_in i k b (h 1)).1 k.controller.reads k.controller.readsOn;
+      controller = heard-in _ b (joined b) (joined_in i k b (h 1)).1 k.controller.reads k.controller.reads_on;
     }
     bounds-keep (install b) h = record {
       registry = ltb→lt registry.view.epoch 4000 (h 7);
@@ -305,9 +305,9 @@ module _ (𝓔 : Entries) where
           leader = (replica-range b (h 1)).1;
         };
         heard = λ _. omega arith;
-        heardJoined = λ _. omega arith;
+        heard_joined = λ _. omega arith;
         reads = λ _. replica-ne b (h 1);
-        readsOn = λ e. absurd (omega arith);
+        reads_on = λ e. absurd (omega arith);
       };
     }
     bounds-keep malformed h = absurd (h 1)
@@ -321,7 +321,7 @@ module _ (𝓔 : Entries) where
   run-bounds i k [] = k
   run-bounds i k (st ∷ sts) = run-bounds (step_keeps 𝓔 i st).inv (step-bounds i k st) sts
 
-  pub in-range : (o : Opening) → T (canOpen o) → (sts : List Step) → T (in_range (outline (after 𝓔 o sts)))
+  pub in-range : (o : Opening) → T (can_open o) → (sts : List Step) → T (in_range (outline (after 𝓔 o sts)))
   in-range o real sts =
       from-ranges (outline (after 𝓔 o sts))
       (all_in (run-keeps 𝓔 (opened-inv o real) sts).inv (run-bounds (opened-inv o real) (opened-bounds o real) sts))

@@ -9,7 +9,7 @@ use lib.ListN.{length}
 use Rattle.model.specs.Prelude.{◌⊑◌}
 use Rattle.model.specs.Members.{Members, none, ◌∩◌}
 use Rattle.model.specs.State.{RowState, entries, outline}
-use Rattle.model.specs.Steps.{Step, commit, setNormal, install, checks, accepted, answer_of, countedAbove, heardEnough, rankedNotAbove, qualified, behind, next, step}
+use Rattle.model.specs.Steps.{Step, commit, set_normal, install, checks, accepted, answer_of, counted_above, heard_enough, ranked_not_above, qualified, behind, next, step}
 use Rattle.model.specs.Carried.{Carriers, CarriersHold}
 use Rattle.model.proofs.Tests.{split-and, of-true, Holds, facts}
 use Rattle.model.proofs.Invariant.{Inv}
@@ -38,19 +38,19 @@ module _ {L : ℕ → ℕ} {s : RowState} (i : Inv L s) where
   late : (b : ℕ) → answer_of (outline s) (commit b) ≡ 0 → (x : ℕ) → T (behind (outline s) (commit b) x)
       → joined x ≤ (view b).term → (step entries s (commit b)).committed ⊑ log x
   late b e x t j =
-      let z = passes-test (commit b) e (view b).members (countedAbove (acked b) (length committed)) refl x t in
+      let z = passes-test (commit b) e (view b).members (counted_above (acked b) (length committed)) refl x t in
       subst (λ k. (cond k (next entries s (commit b)) s).committed ⊑ log x) (sym (taken (commit b) e))
       (commit-carried entries i b (holds (commit b) e) x z.1 j)
 
   carriers : Carriers s
   carriers = record {
     receipt = λ b e now x t. late b e x t (omega (arith, (i.views x).joined, (i.views x).term));
-    lateReceipt = late;
+    late_receipt = late;
     normal = λ e x t.
-        let z = passes-test setNormal e controller.view.members (heardEnough controller) refl x t in
-        set-normal-carried entries i (holds setNormal e) x z.0 z.1;
+        let z = passes-test set_normal e controller.view.members (heard_enough controller) refl x t in
+        set-normal-carried entries i (holds set_normal e) x z.0 z.1;
     installed = λ b e x t.
-        let z = passes-test (install b) e controller.view.members (rankedNotAbove controller b) refl x t in
+        let z = passes-test (install b) e controller.view.members (ranked_not_above controller b) refl x t in
         let k = install-stands entries i b (holds (install b) e) x z.0 z.1 in
         (k.0.1, sym k.0.2, k.1);
   }

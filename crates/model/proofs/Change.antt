@@ -9,9 +9,9 @@ use native.Mathlib.Omega.{arith}
 use lib.Dec.{T, leb, eqb, eqb→eq, leb→le, eqb_refl}
 use lib.ListN.{length}
 use Rattle.model.specs.Prelude.{upd, ◌⊑◌}
-use Rattle.model.specs.Members.{Members, isReplica, only, ◌∩◌, size, lowest}
-use Rattle.model.specs.State.{outline, Entries, Status, normal, waiting, Stage, idle, leader, Registry, State, isNormal, isChoosing, stageNumber}
-use Rattle.model.specs.Steps.{changeLeader, checks, next, withRegistry, succeeded, vacated}
+use Rattle.model.specs.Members.{Members, is_replica, only, ◌∩◌, size, lowest}
+use Rattle.model.specs.State.{outline, Entries, Status, normal, waiting, Stage, idle, leader, Registry, State, is_normal, is_choosing, stage_number}
+use Rattle.model.specs.Steps.{change_leader, checks, next, with_registry, succeeded, vacated}
 use Rattle.model.proofs.Tests.{Holds, split-and, join-and, by_cond, upd_same, upd_other, upd-twice, upd-idle, is_true}
 use Rattle.model.proofs.Prefix.{begins-refl, begins-compare}
 use Rattle.model.proofs.Quorum.{overlap, size-without, size-some, lowest-in}
@@ -21,7 +21,7 @@ use Rattle.model.proofs.Static.{o, ◌⇒◌, holding-of, Later, later}
 use Rattle.model.proofs.Raise.{raised-views, raised-logs, raised-controller, raised-heard, not-reading, outvoted-under}
 use Rattle.model.proofs.Succession.{new-leader, renamed}
 
-normal-named : (g : Status) → T (isNormal g) → T (not (isChoosing g))
+normal-named : (g : Status) → T (is_normal g) → T (not (is_choosing g))
 normal-named normal t = tt
 normal-named waiting t = tt
 normal-named Status.choosing t = t
@@ -32,7 +32,7 @@ module _ (𝓔 : Entries) where
   module _ {L : ℕ → ℕ} {s : State Entry} (i : Inv L s) where
     open s use {registry, controller, view, joined, acked, log, committed}
 
-    module _ (h : Holds (checks (outline s) changeLeader)) where
+    module _ (h : Holds (checks (outline s) change_leader)) where
       abbrev members : Members
       members = registry.view.members
 
@@ -57,11 +57,11 @@ module _ (𝓔 : Entries) where
       unread : T (reading registry controller) → ⊥
       unread t =
           let z = split-and (eqb controller.view.epoch registry.view.epoch)
-          (eqb (stageNumber controller.stage) 2) t in
-          no-boards registry.status controller.stage (h 4) (eqb→eq (stageNumber controller.stage) 2 z.1)
+          (eqb (stage_number controller.stage) 2) t in
+          no-boards registry.status controller.stage (h 4) (eqb→eq (stage_number controller.stage) 2 z.1)
           (i.controller.stage (eqb→eq controller.view.epoch registry.view.epoch z.0))
         where
-          no-boards : (g : Status) (x : Stage) → T (isNormal g) → stageNumber x ≡ 2 → T (fits g x) → ⊥
+          no-boards : (g : Status) (x : Stage) → T (is_normal g) → stage_number x ≡ 2 → T (fits g x) → ⊥
           no-boards normal idle t e f = omega arith
           no-boards normal leader t e f = f
           no-boards normal Stage.boards t e f = f
@@ -81,7 +81,7 @@ module _ (𝓔 : Entries) where
           go (read t _) = absurd (unread t)
 
       -- Three or more: nobody is named, and the electors are the members that were.
-      to-choosing : Inv L (withRegistry s (vacated registry left))
+      to-choosing : Inv L (with_registry s (vacated registry left))
       to-choosing = record {
         real = i.real;
         views = raised-views i L r'.view refl (omega arith) (λ _ _. refl);
@@ -113,7 +113,7 @@ module _ (𝓔 : Entries) where
 
       -- Two: both hold every safe list, so the one that is left does.
       to-other : size left ≡ 1 → Inv (upd L (suc registry.view.epoch) (lowest left))
-          (withRegistry s (succeeded registry left))
+          (with_registry s (succeeded registry left))
       to-other one =
           new-leader i firm n in_left.0 left normal controller (known committed i.safe).0 holds loose tt
           in_left.1 (raised-controller i r' refl) (raised-heard i r' refl) newly
@@ -124,7 +124,7 @@ module _ (𝓔 : Entries) where
           r' : Registry
           r' = succeeded registry left
 
-          in_left : T (isReplica (lowest left)) × T (left (lowest left))
+          in_left : T (is_replica (lowest left)) × T (left (lowest left))
           in_left = lowest-in left (omega (arith, one))
 
           other : lowest left ≢ registry.view.leader
@@ -183,7 +183,7 @@ module _ (𝓔 : Entries) where
                 (λ _. record { begins = begins-refl (log (lowest left)); backed = λ f. absurd (loose f) }));
           }
 
-      pub change-keeps : Later L s (next 𝓔 s changeLeader)
-      change-keeps = by_cond (λ (r' : Registry). Later L s (withRegistry s r')) (eqb (size left) 1)
+      pub change-keeps : Later L s (next 𝓔 s change_leader)
+      change-keeps = by_cond (λ (r' : Registry). Later L s (with_registry s r')) (eqb (size left) 1)
           (λ t. renamed (lowest left) (to-other (eqb→eq (size left) 1 t)) (omega arith))
           (λ _. later to-choosing (omega arith))

@@ -8,32 +8,32 @@ use native.Mathlib.Omega.{arith}
 use lib.Dec.{T, eqb, eqb→eq, ltb→lt, T_not}
 use lib.ListN.{length}
 use borrow.Author.Tests.{ne_eqb}
-use Rattle.model.specs.State.{outline, Entries, View, Status, normal, waiting, Stage, idle, leader, boards, Controller, State, isChoosing, stageNumber, stageFor}
-use Rattle.model.specs.Steps.{refreshController, readLeader, read, hear, checks, next, withController, heardOf, deaf}
+use Rattle.model.specs.State.{outline, Entries, View, Status, normal, waiting, Stage, idle, leader, boards, Controller, State, is_choosing, stage_number, stage_for}
+use Rattle.model.specs.Steps.{refreshController, read_leader, read, hear, checks, next, with_controller, heard_of, deaf}
 use Rattle.model.proofs.Tests.{Holds, split-and, join-and, by-test, at-or, eqb_same, eq_test, upd-idle, is_true}
 use Rattle.model.proofs.Prefix.{begins-length}
 use Rattle.model.proofs.Invariant as Invariant
-use Rattle.model.proofs.Invariant.{isWaiting, fits, ControllerOk, reading, Firm, vacant, steady, reads, electors, LeaderOk, HeardOk, Backed, held, Ok, SafeIn, Inv}
+use Rattle.model.proofs.Invariant.{is_waiting, fits, ControllerOk, reading, Firm, vacant, steady, reads, electors, LeaderOk, HeardOk, Backed, held, Ok, SafeIn, Inv}
 use Rattle.model.proofs.Static as Static
 use Rattle.model.proofs.Static.{o, ◌⇒◌, still-outvoted}
 
-fits-stageFor : (g : Status) → T (fits g (stageFor g))
-fits-stageFor normal = tt
-fits-stageFor waiting = tt
-fits-stageFor Status.choosing = tt
+fits-stage_for : (g : Status) → T (fits g (stage_for g))
+fits-stage_for normal = tt
+fits-stage_for waiting = tt
+fits-stage_for Status.choosing = tt
 
-not-boards : (g : Status) → T (eqb (stageNumber (stageFor g)) 2) → T false
+not-boards : (g : Status) → T (eqb (stage_number (stage_for g)) 2) → T false
 not-boards normal t = t
 not-boards waiting t = t
 not-boards Status.choosing t = t
 
-pub waits : (g : Status) (x : Stage) (n : ℕ) → stageNumber x ≡ n → 1 ≤ n → n ≤ 2 → T (fits g x) → T (isWaiting g)
+pub waits : (g : Status) (x : Stage) (n : ℕ) → stage_number x ≡ n → 1 ≤ n → n ≤ 2 → T (fits g x) → T (is_waiting g)
 waits g idle n e h k t = absurd (omega arith)
 waits g leader n e h k t = t
 waits g boards n e h k t = t
 waits g Stage.choosing n e h k t = absurd (omega arith)
 
-pub waits-named : (g : Status) → T (isWaiting g) → T (not (isChoosing g))
+pub waits-named : (g : Status) → T (is_waiting g) → T (not (is_choosing g))
 waits-named normal t = tt
 waits-named waiting t = tt
 waits-named Status.choosing t = t
@@ -44,7 +44,7 @@ module _ {E : Type 0} {L : ℕ → ℕ} {s : State E} (i : Inv L s) where
   -- Another controller, before which safe lists stay safe.
   with-controller : (c : Controller) → ControllerOk registry c.view c.stage
       → LeaderOk (o i) registry c (view (o i)) (joined (o i))
-      → HeardOk registry c view joined log → (SafeIn L s ⇒ Ok (o i) registry c joined log) → Inv L (withController s c)
+      → HeardOk registry c view joined log → (SafeIn L s ⇒ Ok (o i) registry c joined log) → Inv L (with_controller s c)
   with-controller c ok lead heard safe = record {
     real = i.real;
     registry = i.registry;
@@ -69,7 +69,7 @@ module _ {E : Type 0} {L : ℕ → ℕ} {s : State E} (i : Inv L s) where
   -- One more length is heard, of b, longer than what was heard of it.
   module _ (b j : ℕ) (longer : controller.heard b < suc (length (log b))) where
     abbrev c' : Controller
-    c' = heardOf controller controller.stage b (length (log b)) j
+    c' = heard_of controller controller.stage b (length (log b)) j
 
     same-firm : Firm registry c' → Firm registry controller
     same-firm (vacant t) = vacant t
@@ -79,7 +79,7 @@ module _ {E : Type 0} {L : ℕ → ℕ} {s : State E} (i : Inv L s) where
     grows : (x : ℕ) → controller.heard x ≤ c'.heard x
     grows = at-or b (rw (eqb_same b) (omega arith)) (λ x n. rw (ne_eqb x b n) (omega arith))
 
-    one-heard : HeardOk registry c' view joined log → Inv L (withController s c')
+    one-heard : HeardOk registry c' view joined log → Inv L (with_controller s c')
     one-heard heard = with-controller c' i.controller (same-leader c' same-firm) heard
         (λ x k. record { begins = k.begins; backed = λ f. go (k.backed (same-firm f)) })
       where
@@ -101,19 +101,19 @@ module _ (𝓔 : Entries) where
 
     pub refresh-controller-keeps : Holds (checks (outline s) refreshController) → Inv L (next 𝓔 s refreshController)
     refresh-controller-keeps h = with-controller i c'
-        (record { epoch = omega arith; current = λ _. refl; stage = λ _. fits-stageFor registry.status })
+        (record { epoch = omega arith; current = λ _. refl; stage = λ _. fits-stage_for registry.status })
         (same-leader i c' firm)
         (record { read = λ _ _ b _ k. absurd (omega arith); heard = λ _ _ b _ k. absurd (omega arith) })
         (λ x k. record { begins = k.begins; backed = λ f. go (k.backed (firm f)) })
       where
         c' : Controller
-        c' = deaf r (stageFor registry.status)
+        c' = deaf r (stage_for registry.status)
 
         firm : Firm registry c' → Firm registry controller
         firm (vacant t) = vacant t
         firm (steady t n) = steady t n
         firm (reads t) = absurd (not-boards registry.status
-            (split-and (eqb r.epoch r.epoch) (eqb (stageNumber (stageFor registry.status)) 2) t).1)
+            (split-and (eqb r.epoch r.epoch) (eqb (stage_number (stage_for registry.status)) 2) t).1)
 
         go : {n : ℕ} → Backed (o i) registry controller joined log n → Backed (o i) registry c' joined log n
         go (held k) = held k
@@ -122,7 +122,7 @@ module _ (𝓔 : Entries) where
               arith,
               ltb→lt c.epoch r.epoch (h 12),
               eqb→eq c.epoch r.epoch
-                  (split-and (eqb c.epoch r.epoch) (eqb (stageNumber controller.stage) 2) t).0,
+                  (split-and (eqb c.epoch r.epoch) (eqb (stage_number controller.stage) 2) t).0,
             ))
 
     pub read_keeps : (b : ℕ) → Holds (checks (outline s) (read b)) → Inv L (next 𝓔 s (read b))
@@ -133,30 +133,30 @@ module _ (𝓔 : Entries) where
             rw (eqb_same b) (omega arith),
           ))
           (λ x n m. rw (ne_eqb x b n) (i.heard.read e g x m));
-      heard = λ e g. absurd (omega (arith, eqb→eq (stageNumber controller.stage) 2 (h 15)));
+      heard = λ e g. absurd (omega (arith, eqb→eq (stage_number controller.stage) 2 (h 15)));
     })
 
     pub hear-keeps : (b : ℕ) → Holds (checks (outline s) (hear b)) → Inv L (next 𝓔 s (hear b))
     hear-keeps b h = one-heard i b (joined b) (ltb→lt (controller.heard b) (suc (length (log b))) (h 12)) (record {
-      read = λ e g. absurd (g (eqb→eq (stageNumber controller.stage) 3 (h 15)));
+      read = λ e g. absurd (g (eqb→eq (stage_number controller.stage) 3 (h 15)));
       heard = λ e g. at-or b
           (λ m k. (eqb→eq (view b).epoch c.epoch (h 16) ∙ e, rw (eqb_same b), rw (eqb_same b)))
           (λ x n m. rw (ne_eqb x b n) (i.heard.heard e g x m));
     })
 
     -- Read leader: the controller has its length, and its view is the registry's.
-    module _ (h : Holds (checks (outline s) readLeader)) where
+    module _ (h : Holds (checks (outline s) read_leader)) where
       abbrev lead : ℕ
       lead = c.leader
 
       abbrev after : Controller
-      after = heardOf controller boards lead (length (log lead)) 0
+      after = heard_of controller boards lead (length (log lead)) 0
 
-      at-leader : stageNumber controller.stage ≡ 1
-      at-leader = eqb→eq (stageNumber controller.stage) 1 (h 15)
+      at-leader : stage_number controller.stage ≡ 1
+      at-leader = eqb→eq (stage_number controller.stage) 1 (h 15)
 
       module _ (e : c.epoch ≡ r.epoch) where
-        not-choosing : T (not (isChoosing registry.status))
+        not-choosing : T (not (is_choosing registry.status))
         not-choosing = waits-named registry.status
             (waits registry.status controller.stage 1 at-leader (omega arith) (omega arith)
             (i.controller.stage e))
@@ -174,7 +174,7 @@ module _ (𝓔 : Entries) where
       up-to-date : T (reading registry after) → c.epoch ≡ r.epoch
       up-to-date t = eqb→eq c.epoch r.epoch (split-and (eqb c.epoch r.epoch) true t).0
 
-      pub read-leader-keeps : Inv L (next 𝓔 s readLeader)
+      pub read-leader-keeps : Inv L (next 𝓔 s read_leader)
       read-leader-keeps = with-controller i after
           (record {
             epoch = i.controller.epoch;
@@ -227,7 +227,7 @@ module _ (𝓔 : Entries) where
               keep (held h) = held h
               keep (Invariant.read u _) = absurd
                   (T_not (eqb c.epoch r.epoch) t
-                  (split-and (eqb c.epoch r.epoch) (eqb (stageNumber controller.stage) 2) u).0)
+                  (split-and (eqb c.epoch r.epoch) (eqb (stage_number controller.stage) 2) u).0)
 
               go : Firm registry after → Backed (o i) registry after joined log (length x)
               go (vacant u) = keep (k.backed (vacant u))

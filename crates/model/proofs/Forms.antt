@@ -9,11 +9,11 @@ use native.Mathlib.Omega.{arith}
 use lib.Dec.{T, eqb}
 use lib.ListN.{length, get_or}
 use borrow.Author.Tests.{eq-eqb, ne_eqb, lt-leb}
-use Rattle.model.specs.Prelude.{Check, ◌else◌, firstFailed, asks}
-use Rattle.model.specs.Members.{isReplica}
+use Rattle.model.specs.Prelude.{Check, ◌else◌, first_failed, asks}
+use Rattle.model.specs.Members.{is_replica}
 use Rattle.model.specs.State.{Outline}
-use Rattle.model.specs.Steps.{Step, append, commit, add, remove, changeLeader, refresh, join, receive, acknowledge, refreshController, readLeader, read, setNormal, hear, install, malformed, checks, answer_of}
-use Rattle.model.specs.Records.{Record, wellFormed, isOpening, unused, rules, step_of, Forms}
+use Rattle.model.specs.Steps.{Step, append, commit, add, remove, change_leader, refresh, join, receive, acknowledge, refreshController, read_leader, read, set_normal, hear, install, malformed, checks, answer_of}
+use Rattle.model.specs.Records.{Record, well_formed, is_opening, unused, rules, step_of, Forms}
 use Rattle.model.proofs.Tests.{split-and, is_false, by_cond, eq-or-ne}
 use Rattle.model.proofs.Refusals.{absent, absent-not}
 use Rattle.model.proofs.Theorem.{All}
@@ -42,17 +42,17 @@ abbrev at-step : Record → ℕ → Record
 at-step r n = record { step = n; board = r.board; other = r.other; spare = r.spare; value = r.value }
 
 -- All fields that a step does not use are zero.
-abbrev allZero : List ℕ → Bool
-allZero [] = true
-allZero (n ∷ ns) = eqb n 0 && allZero ns
+abbrev all_zero : List ℕ → Bool
+all_zero [] = true
+all_zero (n ∷ ns) = eqb n 0 && all_zero ns
 
 -- The first check alone may have refusal 1.
 abbrev leading : List Check → Bool
 leading [] = true
 leading (c ∷ cs) = absent 1 cs
 
-not-one : (cs : List Check) → T (absent 1 cs) → not (eqb (firstFailed cs) 1) ≡ true
-not-one cs t = rw (ne_eqb (firstFailed cs) 1 (absent-not 1 (λ e. omega arith) cs t))
+not-one : (cs : List Check) → T (absent 1 cs) → not (eqb (first_failed cs) 1) ≡ true
+not-one cs t = rw (ne_eqb (first_failed cs) 1 (absent-not 1 (λ e. omega arith) cs t))
 
 absent-asks : (cs : List Check) → T (absent 1 cs) → asks 1 cs ≡ true
 absent-asks [] t = refl
@@ -61,7 +61,7 @@ absent-asks ((c else n) ∷ cs) t =
     rw (is_false (eqb 1 n) h.0) (absent-asks cs h.1)
 
 -- Then the answer is 1 just where that check fails.
-one-asks : (cs : List Check) → T (leading cs) → not (eqb (firstFailed cs) 1) ≡ asks 1 cs
+one-asks : (cs : List Check) → T (leading cs) → not (eqb (first_failed cs) 1) ≡ asks 1 cs
 one-asks [] t = refl
 one-asks ((true else n) ∷ cs) t =
     not-one cs t ∙ sym (by_cond (λ x. x ≡ true) (eqb 1 n) (λ _. refl) (λ _. absent-asks cs t))
@@ -76,62 +76,62 @@ module _ (m : Outline) where
   abbrev fine : Step → Bool
   fine st = not (eqb (answer_of m st) 1)
 
-  fine-unused : (ns : List ℕ) (st : Step) → fine (unused ns st) ≡ (allZero ns && fine st)
+  fine-unused : (ns : List ℕ) (st : Step) → fine (unused ns st) ≡ (all_zero ns && fine st)
   fine-unused [] st = refl
   fine-unused (n ∷ ns) st = go (eqb n 0) (fine-unused ns st)
     where
-      go : (t : Bool) → fine (unused ns st) ≡ (allZero ns && fine st)
-          → fine (cond t (unused ns st) malformed) ≡ (t && allZero ns && fine st)
+      go : (t : Bool) → fine (unused ns st) ≡ (all_zero ns && fine st)
+          → fine (cond t (unused ns st) malformed) ≡ (t && all_zero ns && fine st)
       go true e = e
       go false e = refl
 
   -- A rule: unused fields zero, and the first check.
   rule : (ns : List ℕ) (st : Step) → T (leading (checks m st))
-      → (allZero ns && asks 1 (checks m st)) ≡ fine (unused ns st)
-  rule ns st t = sym (fine-unused ns st ∙ ap (λ x. allZero ns && x) (one-asks (checks m st) t))
+      → (all_zero ns && asks 1 (checks m st)) ≡ fine (unused ns st)
+  rule ns st t = sym (fine-unused ns st ∙ ap (λ x. all_zero ns && x) (one-asks (checks m st) t))
 
   module _ (r : Record) where
     open r use {board, other, spare, value}
 
     -- That one is well formed just where st is not answered 1.
     abbrev Formed : ℕ → Step → Type 0
-    Formed n st = n ≢ 0 → wellFormed (at-step r n) ≡ fine st
+    Formed n st = n ≢ 0 → well_formed (at-step r n) ≡ fine st
 
     abbrev rest : List ℕ
     rest = other ∷ spare ∷ value ∷ []
 
-    with-board : (st : Step) → T (leading (checks m st)) → asks 1 (checks m st) ≡ isReplica board
-        → (isReplica board && eqb other 0 && eqb spare 0 && eqb value 0) ≡ fine (unused rest st)
-    with-board st t e = turn (isReplica board) (eqb other 0) (eqb spare 0) (eqb value 0)
-        ∙ ap (λ x. allZero rest && x) (sym e) ∙ rule rest st t
+    with-board : (st : Step) → T (leading (checks m st)) → asks 1 (checks m st) ≡ is_replica board
+        → (is_replica board && eqb other 0 && eqb spare 0 && eqb value 0) ≡ fine (unused rest st)
+    with-board st t e = turn (is_replica board) (eqb other 0) (eqb spare 0) (eqb value 0)
+        ∙ ap (λ x. all_zero rest && x) (sym e) ∙ rule rest st t
 
     with_none : (st : Step) → T (leading (checks m st)) → asks 1 (checks m st) ≡ true
         → (eqb board 0 && eqb other 0 && eqb spare 0 && eqb value 0) ≡ fine (unused (board ∷ rest) st)
     with_none st t e = same (eqb board 0) (eqb other 0) (eqb spare 0) (eqb value 0)
-        ∙ ap (λ x. allZero (board ∷ rest) && x) (sym e) ∙ rule (board ∷ rest) st t
+        ∙ ap (λ x. all_zero (board ∷ rest) && x) (sym e) ∙ rule (board ∷ rest) st t
 
     rules-formed : All Formed 0 (rules r)
     rules-formed = (λ n. absurd (n refl))
-        then (λ _. turn (isReplica board) (eqb other 0) (eqb spare 0) true
+        then (λ _. turn (is_replica board) (eqb other 0) (eqb spare 0) true
         ∙ rule (other ∷ spare ∷ []) (append board value) tt)
         then (λ _. with-board (commit board) tt refl)
         then (λ _. with-board (add board) tt refl)
         then (λ _. with-board (remove board) tt refl)
-        then (λ _. with_none changeLeader tt refl)
+        then (λ _. with_none change_leader tt refl)
         then (λ _. with-board (refresh board) tt refl)
         then (λ _. with-board (join board) tt refl)
         then (λ _. with-board (receive board) tt refl)
-        then (λ _. turn-pair (isReplica board) (isReplica other) (not (eqb board other)) (eqb spare 0) (eqb value 0)
+        then (λ _. turn-pair (is_replica board) (is_replica other) (not (eqb board other)) (eqb spare 0) (eqb value 0)
         ∙ rule (spare ∷ value ∷ []) (acknowledge board other) tt)
         then (λ _. with_none refreshController tt refl)
-        then (λ _. with_none readLeader tt refl)
+        then (λ _. with_none read_leader tt refl)
         then (λ _. with-board (read board) tt refl)
-        then (λ _. with_none setNormal tt refl)
+        then (λ _. with_none set_normal tt refl)
         then (λ _. with-board (hear board) tt refl)
         then (λ _. with-board (install board) tt refl)
         then tt
 
-    formed : r.step ≢ 0 → wellFormed r ≡ fine (step_of r)
+    formed : r.step ≢ 0 → well_formed r ≡ fine (step_of r)
     formed n = subst (λ k. Formed k (step_of r)) (zero-add r.step)
         (at Formed malformed (rules r) 0 r.step above rules-formed) n
       where
@@ -141,5 +141,5 @@ module _ (m : Outline) where
 pub forms : Forms
 forms = record {
   steps = formed;
-  openings = λ r e. subst (λ n. wellFormed (at-step r n) ≡ isOpening (at-step r n)) (sym e) refl;
+  openings = λ r e. subst (λ n. well_formed (at-step r n) ≡ is_opening (at-step r n)) (sym e) refl;
 }

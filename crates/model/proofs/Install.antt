@@ -9,11 +9,11 @@ use lib.Dec.{T, leb, ltb, eqb, eqb→eq, leb→le, nltb→le}
 use lib.ListN.{length}
 use Rattle.model.specs.Prelude.{◌⊑◌}
 use Rattle.model.specs.Members.{Members, ◌∩◌, size}
-use Rattle.model.specs.State.{outline, Entries, View, waiting, leader, Registry, Controller, State, isChoosing, stageNumber}
-use Rattle.model.specs.Steps.{install, checks, next, above, rankedNotAbove}
+use Rattle.model.specs.State.{outline, Entries, View, waiting, leader, Registry, Controller, State, is_choosing, stage_number}
+use Rattle.model.specs.Steps.{install, checks, next, above, ranked_not_above}
 use Rattle.model.proofs.Tests.{Holds, split-and, join-and, by-test, by_cond, not_left, not_right, not-both, eq_test}
 use Rattle.model.proofs.Prefix.{begins-trans, begins-compare}
-use Rattle.model.proofs.Quorum.{meet-sub, hasQuorum, quorum-half, size-with}
+use Rattle.model.proofs.Quorum.{meet-sub, has_quorum, quorum-half, size-with}
 use Rattle.model.proofs.Invariant.{reading, Firm, vacant, steady, reads, electors, read, Ok, Blocked, stuck, Outvoted, SafeIn, Inv}
 use Rattle.model.proofs.Static as Static
 use Rattle.model.proofs.Static.{o, ◌⇒◌, chooses, frozen, Holder, witness, Later}
@@ -30,10 +30,10 @@ module _ (𝓔 : Entries) where
       m = registry.view.members
 
       abbrev behind : Members
-      behind = rankedNotAbove controller b
+      behind = ranked_not_above controller b
 
-      at-choosing : stageNumber controller.stage ≡ 3
-      at-choosing = eqb→eq (stageNumber controller.stage) 3 (h 15)
+      at-choosing : stage_number controller.stage ≡ 3
+      at-choosing = eqb→eq (stage_number controller.stage) 3 (h 15)
 
       now : controller.view.epoch ≡ registry.view.epoch
       now = eqb→eq controller.view.epoch registry.view.epoch (h 16)
@@ -41,14 +41,14 @@ module _ (𝓔 : Entries) where
       current : controller.view ≡ registry.view
       current = i.controller.current now
 
-      open-office : T (isChoosing registry.status)
+      open-office : T (is_choosing registry.status)
       open-office = chooses registry.status controller.stage at-choosing (i.controller.stage now)
 
-      asked : T (leb 1 (controller.heard b)) × T (hasQuorum controller.view.members behind)
-      asked = split-and (leb 1 (controller.heard b)) (hasQuorum controller.view.members behind) (h 14)
+      asked : T (leb 1 (controller.heard b)) × T (has_quorum controller.view.members behind)
+      asked = split-and (leb 1 (controller.heard b)) (has_quorum controller.view.members behind) (h 14)
 
-      quorum : T (hasQuorum m behind)
-      quorum = subst (λ (v : View). T (hasQuorum v.members behind)) current asked.1
+      quorum : T (has_quorum m behind)
+      quorum = subst (λ (v : View). T (has_quorum v.members behind)) current asked.1
 
       member : T (m b)
       member = subst (λ (v : View). T (v.members b)) current (h 5)
@@ -57,7 +57,7 @@ module _ (𝓔 : Entries) where
       abbrev Stands : ℕ → Type 0
       Stands x =
           ((view x).epoch ≡ registry.view.epoch) × (controller.heard x ≡ suc (length (log x)))
-          × (joined x ≡ controller.heardJoined x)
+          × (joined x ≡ controller.heard_joined x)
 
       stands : (x : ℕ) → T (m x) → T (leb 1 (controller.heard x)) → Stands x
       stands x k t = i.heard.heard now at-choosing x k (leb→le 1 (controller.heard x) t)
@@ -78,16 +78,16 @@ module _ (𝓔 : Entries) where
           let z = behind-of x t in
           let sx = stands x k z.0 in
           let sb = stands b member asked.0 in
-          let lower = ltb (controller.heardJoined b) (controller.heardJoined x) in
-          let shorter = eqb (controller.heardJoined b) (controller.heardJoined x)
+          let lower = ltb (controller.heard_joined b) (controller.heard_joined x) in
+          let shorter = eqb (controller.heard_joined b) (controller.heard_joined x)
           && ltb (controller.heard b) (controller.heard x) in
-          let hj = nltb→le (controller.heardJoined b) (controller.heardJoined x) (not_left lower shorter z.1) in
+          let hj = nltb→le (controller.heard_joined b) (controller.heard_joined x) (not_left lower shorter z.1) in
           let jb : joined b ≡ registry.view.term =
           omega (arith, sx.2, sb.2, (i.views b).joined, (i.views b).term) in
           let hl = nltb→le (controller.heard b) (controller.heard x)
-          (not-both (eqb (controller.heardJoined b) (controller.heardJoined x))
+          (not-both (eqb (controller.heard_joined b) (controller.heard_joined x))
           (ltb (controller.heard b) (controller.heard x)) (not_right lower shorter z.1)
-          (eq_test (controller.heardJoined b) (controller.heardJoined x) (sym sb.2 ∙ jb ∙ sym j ∙ sx.2))) in
+          (eq_test (controller.heard_joined b) (controller.heard_joined x) (sym sb.2 ∙ jb ∙ sym j ∙ sx.2))) in
           (jb, omega (arith, sx.1, sb.1))
 
       firm : Firm registry controller
@@ -102,9 +102,9 @@ module _ (𝓔 : Entries) where
           (λ t. absurd (omega (
             arith,
             at-choosing,
-            eqb→eq (stageNumber controller.stage) 2
+            eqb→eq (stage_number controller.stage) 2
                 (split-and (eqb controller.view.epoch registry.view.epoch)
-                (eqb (stageNumber controller.stage) 2)
+                (eqb (stage_number controller.stage) 2)
                 t).1,
           )))
           (λ t. t)) k behind quorum

@@ -14,15 +14,15 @@ use Prim.Native.Nat.{ℕ, suc, ◌*◌, ◌≤◌, ◌<◌}
 use lib.Dec.{T, leb, eqb}
 use lib.ListN.{length, take}
 use Rattle.model.specs.Prelude.{upd, ◌⊑◌}
-use Rattle.model.specs.Members.{Members, isReplica, ◌∩◌, size}
-use Rattle.model.specs.State.{View, Status, normal, waiting, Stage, idle, leader, boards, Registry, Controller, State, isNormal, isChoosing, stageNumber}
+use Rattle.model.specs.Members.{Members, is_replica, ◌∩◌, size}
+use Rattle.model.specs.State.{View, Status, normal, waiting, Stage, idle, leader, boards, Registry, Controller, State, is_normal, is_choosing, stage_number}
 
 -- Views: each is a copy of what the registry once held.
 
 pub record RegistryOk (L : ℕ → ℕ) (r : Registry) : Type 0 where
   pub term : r.view.term ≤ r.view.epoch
-  pub named : r.view.leader ≡ cond (isChoosing r.status) 0 (L r.view.term)
-  pub member : T (not (isChoosing r.status)) → T (r.view.members (L r.view.term))
+  pub named : r.view.leader ≡ cond (is_choosing r.status) 0 (L r.view.term)
+  pub member : T (not (is_choosing r.status)) → T (r.view.members (L r.view.term))
 
 -- a replica's view v, beside the registry's view r; j is the replica's joined term
 pub record ViewOk (L : ℕ → ℕ) (r v : View) (j : ℕ) : Type 0 where
@@ -32,17 +32,17 @@ pub record ViewOk (L : ℕ → ℕ) (r v : View) (j : ℕ) : Type 0 where
   pub current : v.epoch ≡ r.epoch → v ≡ r
   pub led : v.leader ≢ 0 → v.leader ≡ L v.term
 
-abbrev pub isWaiting : Status → Bool
-isWaiting normal = false
-isWaiting waiting = true
-isWaiting Status.choosing = false
+abbrev pub is_waiting : Status → Bool
+is_waiting normal = false
+is_waiting waiting = true
+is_waiting Status.choosing = false
 
 -- the stage that a status brings the controller to, or a later one
 abbrev pub fits : Status → Stage → Bool
-fits g idle = isNormal g
-fits g leader = isWaiting g
-fits g boards = isWaiting g
-fits g Stage.choosing = isChoosing g
+fits g idle = is_normal g
+fits g leader = is_waiting g
+fits g boards = is_waiting g
+fits g Stage.choosing = is_choosing g
 
 pub record ControllerOk (r : Registry) (v : View) (g : Stage) : Type 0 where
   pub epoch : v.epoch ≤ r.view.epoch
@@ -53,12 +53,12 @@ pub record ControllerOk (r : Registry) (v : View) (g : Stage) : Type 0 where
 
 -- the controller is up to date and has read the leader
 abbrev pub reading : Registry → Controller → Bool
-reading r c = eqb c.view.epoch r.view.epoch && eqb (stageNumber c.stage) 2
+reading r c = eqb c.view.epoch r.view.epoch && eqb (stage_number c.stage) 2
 
 -- the leader may be replaced at the next raise, or at the one after set normal
 pub data Firm (r : Registry) (c : Controller) : Type 0 where
-  vacant : T (isChoosing r.status) → Firm r c
-  steady : T (isNormal r.status) → 2 ≤ size r.view.members → Firm r c
+  vacant : T (is_choosing r.status) → Firm r c
+  steady : T (is_normal r.status) → 2 ≤ size r.view.members → Firm r c
   reads : T (reading r c) → Firm r c
 
 -- the members, and the leader o that may have left them
@@ -95,12 +95,12 @@ module _ {E : Type 0} where
 
   pub record HeardOk (r : Registry) (c : Controller) (view : ℕ → View) (joined : ℕ → ℕ) (log : ℕ → List E) : Type 0
     where
-      pub read : c.view.epoch ≡ r.view.epoch → stageNumber c.stage ≢ 3 → (b : ℕ) → T (r.view.members b)
+      pub read : c.view.epoch ≡ r.view.epoch → stage_number c.stage ≢ 3 → (b : ℕ) → T (r.view.members b)
           → 1 ≤ c.heard b
           → (joined b ≡ r.view.term) × (c.heard b ≤ suc (length (log b)))
-      pub heard : c.view.epoch ≡ r.view.epoch → stageNumber c.stage ≡ 3 → (b : ℕ) → T (r.view.members b)
+      pub heard : c.view.epoch ≡ r.view.epoch → stage_number c.stage ≡ 3 → (b : ℕ) → T (r.view.members b)
           → 1 ≤ c.heard b
-          → ((view b).epoch ≡ r.view.epoch) × (c.heard b ≡ suc (length (log b))) × (joined b ≡ c.heardJoined b)
+          → ((view b).epoch ≡ r.view.epoch) × (c.heard b ≡ suc (length (log b))) × (joined b ≡ c.heard_joined b)
 
   -- Safety
 
@@ -130,7 +130,7 @@ module _ {E : Type 0} where
       (log : ℕ → List E) (a : ℕ) : Type 0 where
     pub some : Members
     pub enough : size (view a).members ≤ 2 * size ((view a).members ∩ some)
-    pub blocked : (b : ℕ) → T (isReplica b) → T (some b)
+    pub blocked : (b : ℕ) → T (is_replica b) → T (some b)
         → Blocked Safe l (view a) (view b) (acked a b) (joined b) (log a) (log b) b
 
   -- a list that is safe in a state
@@ -141,7 +141,7 @@ module _ {E : Type 0} where
   OutvotedIn L s = Outvoted (SafeIn L s) s.registry.view.leader s.view s.joined s.acked s.log
 
   pub record Inv (L : ℕ → ℕ) (s : State E) : Type 0 where
-    pub real : (t : ℕ) → T (isReplica (L t))
+    pub real : (t : ℕ) → T (is_replica (L t))
     pub registry : RegistryOk L s.registry
     pub views : (b : ℕ) → ViewOk L s.registry.view (s.view b) (s.joined b)
     pub controller : ControllerOk s.registry s.controller.view s.controller.stage

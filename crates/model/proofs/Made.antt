@@ -9,12 +9,12 @@ use native.Mathlib.Omega.{arith}
 use lib.Dec.{T, eqb, ltb→lt}
 use lib.ListN.{length, get_or}
 use Rattle.model.specs.Prelude.{upd}
-use Rattle.model.specs.State.{outline, Entries, Entry, entries, State, RowState, Opening, canOpen, opened}
-use Rattle.model.specs.Steps.{Step, Writes, appends, commits, receives, nothing, writes, append, commit, add, remove, changeLeader, refresh, join, receive, acknowledge, refreshController, readLeader, read, setNormal, hear, install, malformed, checks, accepted, next, step, shared}
+use Rattle.model.specs.State.{outline, Entries, Entry, entries, State, RowState, Opening, can_open, opened}
+use Rattle.model.specs.Steps.{Step, Writes, appends, commits, receives, nothing, writes, append, commit, add, remove, change_leader, refresh, join, receive, acknowledge, refreshController, read_leader, read, set_normal, hear, install, malformed, checks, accepted, next, step, shared}
 use Rattle.model.specs.Records.{Record, step_of}
 use Rattle.model.specs.Runs.{steps_of, run}
 use Rattle.model.specs.Claim.{after}
-use Rattle.model.specs.Ranges.{every, eight, isEpoch, termsInRange, keptInRange}
+use Rattle.model.specs.Ranges.{every, eight, is_epoch, terms_in_range, kept_in_range}
 use Rattle.model.proofs.Tests.{Holds, facts, by_cond, join-and}
 use Rattle.model.proofs.Range.{IsEpoch, to-epoch, to-eight}
 use Rattle.model.proofs.Invariant.{Inv}
@@ -90,13 +90,13 @@ module _ (𝓔 : Entries) (P : 𝓔.Entry → Type 0) (Q : ℕ → Type 0)
         }
     keeps (add b) w h = record { logs = m.logs; committed = m.committed }
     keeps (remove b) w h = record { logs = m.logs; committed = m.committed }
-    keeps changeLeader w h = record { logs = m.logs; committed = m.committed }
+    keeps change_leader w h = record { logs = m.logs; committed = m.committed }
     keeps (refresh b) w h = record { logs = m.logs; committed = m.committed }
     keeps (acknowledge a b) w h = record { logs = m.logs; committed = m.committed }
     keeps refreshController w h = record { logs = m.logs; committed = m.committed }
-    keeps readLeader w h = record { logs = m.logs; committed = m.committed }
+    keeps read_leader w h = record { logs = m.logs; committed = m.committed }
     keeps (read b) w h = record { logs = m.logs; committed = m.committed }
-    keeps setNormal w h = record { logs = m.logs; committed = m.committed }
+    keeps set_normal w h = record { logs = m.logs; committed = m.committed }
     keeps (hear b) w h = record { logs = m.logs; committed = m.committed }
     keeps (install b) w h = record { logs = m.logs; committed = m.committed }
     keeps malformed w h = absurd (h 1)
@@ -115,7 +115,7 @@ module _ (𝓔 : Entries) (P : 𝓔.Entry → Type 0) (Q : ℕ → Type 0)
   run-made i k m (st ∷ sts) w =
       run-made (step_keeps 𝓔 i st).inv (step-bounds 𝓔 i k st) (step-made i k m st w.0) sts w.1
 
-  pub all_made : (o : Opening) → T (canOpen o) → (sts : List Step) → All (λ st. Brings Q (writes st)) sts
+  pub all_made : (o : Opening) → T (can_open o) → (sts : List Step) → All (λ st. Brings Q (writes st)) sts
       → Kept P (after 𝓔 o sts)
   all_made o real sts w = run-made (opened-inv o real) (opened-bounds o real) (opened-made o) sts w
 
@@ -123,15 +123,15 @@ module _ (𝓔 : Entries) (P : 𝓔.Entry → Type 0) (Q : ℕ → Type 0)
 abbrev pub TermIn : Entry → Type 0
 TermIn x = IsEpoch x.term
 
-terms-in : (xs : List Entry) → All TermIn xs → T (termsInRange xs)
+terms-in : (xs : List Entry) → All TermIn xs → T (terms_in_range xs)
 terms-in [] h = tt
-terms-in (x ∷ xs) h = join-and (isEpoch x.term) (termsInRange xs) (to-epoch x.term h.0) (terms-in xs h.1)
+terms-in (x ∷ xs) h = join-and (is_epoch x.term) (terms_in_range xs) (to-epoch x.term h.0) (terms-in xs h.1)
 
-pub kept_in : {s : RowState} → Kept TermIn s → T (keptInRange s)
+pub kept_in : {s : RowState} → Kept TermIn s → T (kept_in_range s)
 kept_in {s} m =
-    join-and (termsInRange s.committed) (every (eight (λ b. termsInRange (s.log b))))
+    join-and (terms_in_range s.committed) (every (eight (λ b. terms_in_range (s.log b))))
     (terms-in s.committed m.committed)
-    (to-eight (λ b. termsInRange (s.log b)) (λ b _. terms-in (s.log b) (m.logs b)))
+    (to-eight (λ b. terms_in_range (s.log b)) (λ b _. terms-in (s.log b) (m.logs b)))
 
 -- Any value will do.
 abbrev Any : ℕ → Type 0
@@ -154,7 +154,7 @@ pub terms-step : {L : ℕ → ℕ} {s : RowState} → Inv L s → Bounds s → K
     → Kept TermIn (step entries s st)
 terms-step i k m st = step-made entries TermIn Any (λ v t _ h. h) i k m st (any (writes st))
 
-pub terms-run : (o : Opening) → T (canOpen o) → (sts : List Step) → Kept TermIn (after entries o sts)
+pub terms-run : (o : Opening) → T (can_open o) → (sts : List Step) → Kept TermIn (after entries o sts)
 terms-run o real sts = all_made entries TermIn Any (λ v t _ h. h) o real sts (anys sts)
 
 -- Their values have 32 bits, if those of the records do.
@@ -176,6 +176,6 @@ records-bring : (rs : List Record) → All (λ r. r.value < 2 ^ 32) rs → All b
 records-bring [] w = tt
 records-bring (r ∷ rs) w = (record-brings r w.0, records-bring rs w.1)
 
-pub words-run : (o : Opening) → T (canOpen o) → (rs : List Record) → All (λ r. r.value < 2 ^ 32) rs
+pub words-run : (o : Opening) → T (can_open o) → (rs : List Record) → All (λ r. r.value < 2 ^ 32) rs
     → Kept Word (after entries o (steps_of rs))
 words-run o real rs w = all_made entries Word Small (λ v t h _. h) o real (steps_of rs) (records-bring rs w)

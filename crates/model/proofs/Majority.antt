@@ -8,20 +8,20 @@ use Prim.Native.Nat.{ℕ, zero, suc, ◌≤◌, ◌<◌}
 use native.Mathlib.Omega.{arith}
 use lib.Dec.{T, leb, ltb, eqb, leb→le, le→leb, ltb→lt, lt→ltb, eqb→eq, T_not, not_T}
 use Rattle.model.specs.Prelude.{asks}
-use Rattle.model.specs.Members.{Members, isReplica, none, ◌∩◌, size, quorum}
+use Rattle.model.specs.Members.{Members, is_replica, none, ◌∩◌, size, quorum}
 use Rattle.model.specs.State.{Outline}
-use Rattle.model.specs.Steps.{Step, commit, setNormal, install, checks, accepted, answer_of, above, countedAbove, heardEnough, rankedNotAbove, qualified, behind}
+use Rattle.model.specs.Steps.{Step, commit, set_normal, install, checks, accepted, answer_of, above, counted_above, heard_enough, ranked_not_above, qualified, behind}
 use Rattle.model.specs.Records.{Record, step_of}
 use Rattle.model.specs.Majority.{SomeMajority, Heard, RanksAbove, Question, Questions, AllWith, Sets, Majorities}
 use Rattle.model.proofs.Tests.{split-and, join-and, eq_test, of-true, by_cond, Holds, facts}
 use Rattle.model.proofs.Answer.{zero-accepted, nonzero-refused}
-use Rattle.model.proofs.Quorum.{size-sub, hasQuorum}
+use Rattle.model.proofs.Quorum.{size-sub, has_quorum}
 use Rattle.model.proofs.Refusals.{once, once-fails}
 use Rattle.model.proofs.Rules.{◌then◌, by-rule}
 
 -- Those that qualify, by a test q that says P.
 module _ (m q : Members) (P : ℕ → Type 0) (says : (x : ℕ) → T (q x) ↔ P x) where
-  counted : T (hasQuorum m q) → SomeMajority m P
+  counted : T (has_quorum m q) → SomeMajority m P
   counted t = record {
     set = m ∩ q;
     majority = record {
@@ -31,16 +31,16 @@ module _ (m q : Members) (P : ℕ → Type 0) (says : (x : ℕ) → T (q x) ↔ 
     each = λ x _ h. (says x).0 (split-and (m x) (q x) h).1;
   }
 
-  enough : SomeMajority m P → T (hasQuorum m q)
+  enough : SomeMajority m P → T (has_quorum m q)
   enough s = le→leb (quorum (size m)) (size (m ∩ q)) (most s.majority.most (size-sub s.set (m ∩ q) among))
     where
-      among : (x : ℕ) → T (isReplica x) → T (s.set x) → T ((m ∩ q) x)
+      among : (x : ℕ) → T (is_replica x) → T (s.set x) → T ((m ∩ q) x)
       among x k h = join-and (m x) (q x) (s.majority.within x k h) ((says x).1 (s.each x k h))
 
       most : {a b c : ℕ} → a ≤ b → b ≤ c → a ≤ c
       most h k = omega arith
 
-  just : T (hasQuorum m q) ↔ SomeMajority m P
+  just : T (has_quorum m q) ↔ SomeMajority m P
   just = (counted, enough)
 
 -- The tests as words.
@@ -70,7 +70,7 @@ some-says (suc n) = ((λ _ e. omega arith), (λ _. le→leb 1 (suc n) (omega ari
 
 module _ (m : Outline) where
   open m use {controller, view, acked, issued}
-  open controller use {heard, heardJoined}
+  open controller use {heard, heard_joined}
 
   abbrev lead : ℕ
   lead = controller.view.leader
@@ -78,14 +78,14 @@ module _ (m : Outline) where
   abbrev members : Members
   members = controller.view.members
 
-  heard-enough : (x : ℕ) → T (heardEnough controller x) ↔ (Heard m x × (heard lead ≤ heard x))
+  heard-enough : (x : ℕ) → T (heard_enough controller x) ↔ (Heard m x × (heard lead ≤ heard x))
   heard-enough x = both_say (leb 1 (heard x)) (leb (heard lead) (heard x))
       (some-says (heard x)) (le-says (heard lead) (heard x))
 
   ranks-above : (b x : ℕ) → T (above controller b x) ↔ RanksAbove m b x
   ranks-above b x =
-      let i = heardJoined b in
-      let j = heardJoined x in
+      let i = heard_joined b in
+      let j = heard_joined x in
       either-says (ltb i j) (eqb i j && ltb (heard b) (heard x)) (lt-says i j)
       (both_say (eqb i j) (ltb (heard b) (heard x)) (eq-says i j) (lt-says (heard b) (heard x)))
 
@@ -98,24 +98,24 @@ module _ (m : Outline) where
     Fit x = Heard m x × ¬ RanksAbove m b x
 
     abbrev fit : Members
-    fit = rankedNotAbove controller b
+    fit = ranked_not_above controller b
 
     not-above : (x : ℕ) → T (fit x) ↔ Fit x
     not-above x = both_say (leb 1 (heard x)) (not (above controller b x))
         (some-says (heard x)) (not-says (above controller b x) (ranks-above b x))
 
     -- Step 15's test asks too that b is heard: the set that the count finds then contains b.
-    found : T (members b) → T (leb 1 (heard b) && hasQuorum members fit) → (q : SomeMajority members Fit) × T (q.set b)
+    found : T (members b) → T (leb 1 (heard b) && has_quorum members fit) → (q : SomeMajority members Fit) × T (q.set b)
     unfolding counted
     found member t =
-        let h = split-and (leb 1 (heard b)) (hasQuorum members fit) t in (
+        let h = split-and (leb 1 (heard b)) (has_quorum members fit) t in (
           counted members fit Fit not-above h.1,
           join-and (members b) (fit b) member ((not-above b).1 ((some-says (heard b)).0 h.0, level b)),
         )
 
-    finds : T (isReplica b) → (q : SomeMajority members Fit) × T (q.set b)
-        → T (leb 1 (heard b) && hasQuorum members fit)
-    finds real f = join-and (leb 1 (heard b)) (hasQuorum members fit)
+    finds : T (is_replica b) → (q : SomeMajority members Fit) × T (q.set b)
+        → T (leb 1 (heard b) && has_quorum members fit)
+    finds real f = join-and (leb 1 (heard b)) (has_quorum members fit)
         ((some-says (heard b)).1 (f.0.each b real f.1).0) (enough members fit Fit not-above f.0)
 
   asking : (st : Step) (Q : Type 0) → T (once 14 (checks m st)) → T (asks 14 (checks m st)) ↔ Q → Question m st Q
@@ -126,10 +126,10 @@ module _ (m : Outline) where
 
   questions : Questions m
   questions = record {
-    stepTwo = λ b. asking (commit b) _ tt
-        (just (view b).members (countedAbove (acked b) issued) _ (λ x. lt-says issued (acked b x)));
-    stepThirteen = asking setNormal _ tt (just members (heardEnough controller) _ heard-enough);
-    stepFifteen = λ b real member. asking (install b) _ tt (found b member, finds b real);
+    step_two = λ b. asking (commit b) _ tt
+        (just (view b).members (counted_above (acked b) issued) _ (λ x. lt-says issued (acked b x)));
+    step_thirteen = asking set_normal _ tt (just members (heard_enough controller) _ heard-enough);
+    step_fifteen = λ b real member. asking (install b) _ tt (found b member, finds b real);
   }
 
   -- An accepted step whose question is of the members ms by the test q, which says P.
@@ -138,7 +138,7 @@ module _ (m : Outline) where
     is_set : behind m st ≡ ms ∩ q
     is_set = ap (λ t. cond t (qualified m st) none) (zero-accepted m st e) ∙ those
 
-    stood : T (hasQuorum ms q) → AllWith ms P (behind m st)
+    stood : T (has_quorum ms q) → AllWith ms P (behind m st)
     unfolding counted
     stood t = subst (AllWith ms P) (sym is_set) record {
       all = λ x. both_say (ms x) (q x) Iff.rfl (says x);
@@ -158,11 +158,11 @@ module _ (m : Outline) where
 
   sets : Sets m
   sets = record {
-    stepTwo = λ b e. stood (commit b) (view b).members (countedAbove (acked b) issued) _
+    step_two = λ b e. stood (commit b) (view b).members (counted_above (acked b) issued) _
         (λ x. lt-says issued (acked b x)) refl e (holds (commit b) e 14);
-    stepThirteen = λ e. stood setNormal members (heardEnough controller) _ heard-enough refl e (holds setNormal e 14);
-    stepFifteen = λ b e.
-        let h = split-and (leb 1 (heard b)) (hasQuorum members (fit b)) (holds (install b) e 14) in
+    step_thirteen = λ e. stood set_normal members (heard_enough controller) _ heard-enough refl e (holds set_normal e 14);
+    step_fifteen = λ b e.
+        let h = split-and (leb 1 (heard b)) (has_quorum members (fit b)) (holds (install b) e 14) in
         let z = stood (install b) members (fit b) (Fit b) (not-above b) refl e h.1 in
         (z, (z.all b).1 (holds (install b) e 5, ((some-says (heard b)).0 h.0, level b)));
     refused = λ st n. ap (λ t. cond t (qualified m st) none) (nonzero-refused m st n);

@@ -10,13 +10,13 @@ use lib.Dec.{T, leb, eqb, eqb→eq, leb→le, T_not}
 use lib.ListN.{length, take}
 use lib.Seq.{length-take-le}
 use Rattle.model.specs.Prelude.{upd, ◌⊑◌}
-use Rattle.model.specs.Members.{Members, isReplica, ◌∩◌, size}
-use Rattle.model.specs.State.{outline, Entries, View, Status, waiting, Registry, State, isNormal, isChoosing, stageNumber}
+use Rattle.model.specs.Members.{Members, is_replica, ◌∩◌, size}
+use Rattle.model.specs.State.{outline, Entries, View, Status, waiting, Registry, State, is_normal, is_choosing, stage_number}
 use Rattle.model.specs.Steps as Steps
-use Rattle.model.specs.Steps.{add, remove, setNormal, checks, next, withRegistry, heardEnough}
+use Rattle.model.specs.Steps.{add, remove, set_normal, checks, next, with_registry, heard_enough}
 use Rattle.model.proofs.Tests.{Holds, split-and, join-and, by_cond, ne-fact, upd_other, upd-idle, is_true}
 use Rattle.model.proofs.Prefix.{begins-take, begins-length, begins-compare}
-use Rattle.model.proofs.Quorum.{meet-sub, hasQuorum, quorum-half, replica-ne}
+use Rattle.model.proofs.Quorum.{meet-sub, has_quorum, quorum-half, replica-ne}
 use Rattle.model.proofs.Invariant as Invariant
 use Rattle.model.proofs.Invariant.{ViewOk, ControllerOk, reading, Firm, vacant, steady, reads, electors, LogsOk, HeardOk, holding, Backed, held, Ok, Stale, Blocked, passed, stuck, Outvoted, SafeIn, Inv}
 use Rattle.model.proofs.Static as Static
@@ -73,7 +73,7 @@ module _ {E : Type 0} {L : ℕ → ℕ} {s : State E} (i : Inv L s) where
     pub not-reading : T (reading r' controller) → ⊥
     not-reading t =
         behind (eqb→eq controller.view.epoch r'.view.epoch
-        (split-and (eqb controller.view.epoch r'.view.epoch) (eqb (stageNumber controller.stage) 2) t).0)
+        (split-and (eqb controller.view.epoch r'.view.epoch) (eqb (stage_number controller.stage) 2) t).0)
 
   -- Where the leader had taken up its term, those that were outvoted are so under another named leader too.
   pub outvoted-under : (l' : ℕ) {S' : List E → Type 0} → (SafeIn L s ⇒ S') → Firm registry controller → (a : ℕ)
@@ -82,7 +82,7 @@ module _ {E : Type 0} {L : ℕ → ℕ} {s : State E} (i : Inv L s) where
       let out = i.outvoted a st in record
       { some = out.some; enough = out.enough; blocked = λ b k t. go b k (out.blocked b k t) }
     where
-      go : (b : ℕ) → T (isReplica b)
+      go : (b : ℕ) → T (is_replica b)
           → Blocked (SafeIn L s) r.leader (view a) (view b) (acked a b) (joined b) (log a) (log b) b
           → Blocked S' l' (view a) (view b) (acked a b) (joined b) (log a) (log b) b
       go b k (passed lt n safe) = passed lt n (f _ safe)
@@ -92,9 +92,9 @@ module _ {E : Type 0} {L : ℕ → ℕ} {s : State E} (i : Inv L s) where
           absurd (omega (arith, st.old, i.leader.took firm, ap (λ x. (view x).term) at))
 
   -- Leader and term are kept, the members are m, and the leader's office is not firm (3 and 4).
-  loosened : (m : Members) (g : Status) → T (not (isChoosing registry.status)) → T (not (isChoosing g)) → T (m (o i))
-      → (T (isNormal g) → 2 ≤ size m → ⊥)
-      → Inv L (withRegistry s (record
+  loosened : (m : Members) (g : Status) → T (not (is_choosing registry.status)) → T (not (is_choosing g)) → T (m (o i))
+      → (T (is_normal g) → 2 ≤ size m → ⊥)
+      → Inv L (with_registry s (record
       { view = record { epoch = suc r.epoch; term = r.term; leader = r.leader; members = m }; status = g }))
   loosened m g before after member few = record {
     real = i.real;
@@ -102,7 +102,7 @@ module _ {E : Type 0} {L : ℕ → ℕ} {s : State E} (i : Inv L s) where
     controller = raised-controller r' refl;
     registry = record {
       term = omega (arith, i.registry.term);
-      named = Static.named i before ∙ by_cond (λ x. o i ≡ x) (isChoosing g) (λ t. absurd (T_not (isChoosing g) after t))
+      named = Static.named i before ∙ by_cond (λ x. o i ≡ x) (is_choosing g) (λ t. absurd (T_not (is_choosing g) after t))
           (λ _. refl);
       member = λ _. member;
     };
@@ -120,7 +120,7 @@ module _ {E : Type 0} {L : ℕ → ℕ} {s : State E} (i : Inv L s) where
       }
 
       loose : Firm r' controller → ⊥
-      loose (vacant t) = T_not (isChoosing g) after t
+      loose (vacant t) = T_not (is_choosing g) after t
       loose (steady t n) = few t n
       loose (reads t) = not-reading r' refl t
 
@@ -140,20 +140,20 @@ module _ (𝓔 : Entries) where
 
     pub remove-keeps : (b : ℕ) → Holds (checks (outline s) (remove b)) → Inv L (next 𝓔 s (remove b))
     remove-keeps b h =
-        loosened i left _ (h 4) (by_cond (λ g. T (not (isChoosing g))) (eqb (size left) 1) (λ _. tt) (λ _. tt))
+        loosened i left _ (h 4) (by_cond (λ g. T (not (is_choosing g))) (eqb (size left) 1) (λ _. tt) (λ _. tt))
         (subst T (sym (upd_other registry.view.members b false (o i)
         (λ e. ne-fact b registry.view.leader (h 6) (sym e ∙ sym (Static.named i (h 4))))))
         (i.registry.member (h 4)))
-        (by_cond (λ g. T (isNormal g) → 2 ≤ size left → ⊥) (eqb (size left) 1)
+        (by_cond (λ g. T (is_normal g) → 2 ≤ size left → ⊥) (eqb (size left) 1)
         (λ t _ two. omega (arith, eqb→eq (size left) 1 t)) (λ _ t. absurd t))
       where
         left : Members
         left = upd registry.view.members b false
 
     -- Set normal: a quorum of the members holds what the controller read of the leader.
-    module _ (h : Holds (checks (outline s) setNormal)) where
-      at-boards : stageNumber controller.stage ≡ 2
-      at-boards = eqb→eq (stageNumber controller.stage) 2 (h 15)
+    module _ (h : Holds (checks (outline s) set_normal)) where
+      at-boards : stage_number controller.stage ≡ 2
+      at-boards = eqb→eq (stage_number controller.stage) 2 (h 15)
 
       now : controller.view.epoch ≡ registry.view.epoch
       now = eqb→eq controller.view.epoch registry.view.epoch (h 16)
@@ -161,7 +161,7 @@ module _ (𝓔 : Entries) where
       current : controller.view ≡ registry.view
       current = i.controller.current now
 
-      not-choosing : T (not (isChoosing registry.status))
+      not-choosing : T (not (is_choosing registry.status))
       not-choosing =
           waits-named registry.status
           (waits registry.status controller.stage 2 at-boards (omega arith) (omega arith)
@@ -170,10 +170,10 @@ module _ (𝓔 : Entries) where
       firm : Firm registry controller
       firm =
           reads (join-and (eqb controller.view.epoch registry.view.epoch)
-          (eqb (stageNumber controller.stage) 2) (h 16) (h 15))
+          (eqb (stage_number controller.stage) 2) (h 16) (h 15))
 
       -- whoever is heard at the leader's length or more holds as many entries
-      holds : (n x : ℕ) → suc n ≤ controller.heard (o i) → T (registry.view.members x) → T (heardEnough controller x)
+      holds : (n x : ℕ) → suc n ≤ controller.heard (o i) → T (registry.view.members x) → T (heard_enough controller x)
           → T (holding joined log registry.view.term n x)
       holds n x l m t =
           let z = split-and (leb 1 (controller.heard x))
@@ -188,7 +188,7 @@ module _ (𝓔 : Entries) where
           ))
 
       -- and its log begins with what the leader had when it was read
-      pub set-normal-carried : (x : ℕ) → T (controller.view.members x) → T (heardEnough controller x)
+      pub set-normal-carried : (x : ℕ) → T (controller.view.members x) → T (heard_enough controller x)
           → take (controller.heard controller.view.leader - 1) (log controller.view.leader) ⊑ log x
       set-normal-carried x m t =
           let n = controller.heard controller.view.leader - 1 in
@@ -214,13 +214,13 @@ module _ (𝓔 : Entries) where
           (is_true (registry.view.members (o i)) (i.registry.member not-choosing))))
           (omega (
             arith,
-            quorum-half registry.view.members (heardEnough controller)
-                (subst (λ (v : View). T (hasQuorum v.members (heardEnough controller))) current (h 14)),
-            meet-sub registry.view.members (heardEnough controller) registry.view.members
+            quorum-half registry.view.members (heard_enough controller)
+                (subst (λ (v : View). T (has_quorum v.members (heard_enough controller))) current (h 14)),
+            meet-sub registry.view.members (heard_enough controller) registry.view.members
                 (holding joined log registry.view.term n) (λ x _ m t. (m, holds n x l m t)),
           ))
 
-      pub set-normal-keeps : Inv L (next 𝓔 s setNormal)
+      pub set-normal-keeps : Inv L (next 𝓔 s set_normal)
       set-normal-keeps = record {
         real = i.real;
         views = raised-views i L r'.view refl (omega arith) (λ _ _. refl);
@@ -248,12 +248,12 @@ module _ (𝓔 : Entries) where
       }
         where
           r' : Registry
-          r' = Steps.madeNormal registry
+          r' = Steps.made_normal registry
 
-          safe : SafeIn L s ⇒ SafeIn L (next 𝓔 s setNormal)
+          safe : SafeIn L s ⇒ SafeIn L (next 𝓔 s set_normal)
           safe x k = record { begins = k.begins; backed = λ _. go (k.backed firm) }
             where
               go : Backed (o i) registry controller joined log (length x)
-                  → Backed (o i) r' (next 𝓔 s setNormal).controller joined log (length x)
+                  → Backed (o i) r' (next 𝓔 s set_normal).controller joined log (length x)
               go (held m) = held m
               go (Invariant.read _ l) = held (most (length x) l)

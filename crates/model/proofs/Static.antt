@@ -8,14 +8,14 @@ use native.Mathlib.Omega.{arith}
 use lib.Dec.{T, leb, eqb, eqb→eq, leb→le, le→leb, T_not}
 use lib.ListN.{length, take}
 use Rattle.model.specs.Prelude.{◌⊑◌}
-use Rattle.model.specs.Members.{Members, isReplica, ◌∩◌, size}
-use Rattle.model.specs.State.{View, Status, Stage, idle, leader, boards, Registry, Controller, State, isChoosing, stageNumber}
+use Rattle.model.specs.Members.{Members, is_replica, ◌∩◌, size}
+use Rattle.model.specs.State.{View, Status, Stage, idle, leader, boards, Registry, Controller, State, is_choosing, stage_number}
 use Rattle.model.proofs.Tests.{split-and, join-and, by-test, by_cond, eq_test, le-or-lt, is_true, is_false}
 use Rattle.model.proofs.Prefix.{begins-nil, begins-trans, begins-take, begins-length, begins-compare, take-grown}
-use Rattle.model.proofs.Quorum.{overlap, meet-sub, hasQuorum, quorum-half, size-with}
+use Rattle.model.proofs.Quorum.{overlap, meet-sub, has_quorum, quorum-half, size-with}
 use Rattle.model.proofs.Invariant.{fits, reading, Firm, electors, holding, Backed, held, read, Ok, Blocked, passed, stuck, Outvoted, SafeIn, Inv}
 
-pub chooses : (g : Status) (x : Stage) → stageNumber x ≡ 3 → T (fits g x) → T (isChoosing g)
+pub chooses : (g : Status) (x : Stage) → stage_number x ≡ 3 → T (fits g x) → T (is_choosing g)
 chooses g idle n t = absurd (omega arith)
 chooses g leader n t = absurd (omega arith)
 chooses g boards n t = absurd (omega arith)
@@ -103,14 +103,14 @@ module _ {E : Type 0} {L : ℕ → ℕ} {s : State E} (i : Inv L s) where
   acting a n e = sym ((i.views a).led (λ z. n (sym e ∙ z))) ∙ e
 
   -- The registry names the leader of its term, or nobody.
-  pub named : T (not (isChoosing registry.status)) → registry.view.leader ≡ o
-  named t = i.registry.named ∙ ap (λ x. cond x 0 o) (is_false (isChoosing registry.status) t)
+  pub named : T (not (is_choosing registry.status)) → registry.view.leader ≡ o
+  named t = i.registry.named ∙ ap (λ x. cond x 0 o) (is_false (is_choosing registry.status) t)
 
-  pub vacant : T (isChoosing registry.status) → registry.view.leader ≡ 0
-  vacant t = i.registry.named ∙ ap (λ x. cond x 0 o) (is_true (isChoosing registry.status) t)
+  pub vacant : T (is_choosing registry.status) → registry.view.leader ≡ 0
+  vacant t = i.registry.named ∙ ap (λ x. cond x 0 o) (is_true (is_choosing registry.status) t)
 
   pub named-only : registry.view.leader ≢ 0 → registry.view.leader ≡ o
-  named-only n = by-test (isChoosing registry.status) (λ t. absurd (n (vacant t))) named
+  named-only n = by-test (is_choosing registry.status) (λ t. absurd (n (vacant t))) named
 
   -- What a stale leader has counted of a blocked replica is safe: it is nothing, or that replica's log has not moved
   -- since.
@@ -137,7 +137,7 @@ module _ {E : Type 0} {L : ℕ → ℕ} {s : State E} (i : Inv L s) where
           )
 
   -- While it is choosing, a replica that is up to date follows nobody.
-  pub frozen : controller.view.epoch ≡ registry.view.epoch → stageNumber controller.stage ≡ 3 → (b : ℕ)
+  pub frozen : controller.view.epoch ≡ registry.view.epoch → stage_number controller.stage ≡ 3 → (b : ℕ)
       → (view b).epoch ≡ registry.view.epoch → (view b).leader ≡ 0
   frozen e g b h =
       ap (λ v. v.leader) ((i.views b).current h)
@@ -151,7 +151,7 @@ module _ {E : Type 0} {L : ℕ → ℕ} {s : State E} (i : Inv L s) where
   -- A member within q whose log begins with x.
   pub record Holder (q : Members) (x : List E) : Type 0 where
     pub replica : ℕ
-    pub real : T (isReplica replica)
+    pub real : T (is_replica replica)
     pub member : T (registry.view.members replica)
     pub inside : T (q replica)
     pub joins : joined replica ≡ registry.view.term
@@ -159,14 +159,14 @@ module _ {E : Type 0} {L : ℕ → ℕ} {s : State E} (i : Inv L s) where
 
   -- Where the leader may be replaced and is not being read, every quorum of the members has one that holds a safe list.
   pub witness : Firm registry controller → T (not (reading registry controller)) → {x : List E} → SafeIn L s x
-      → (q : Members) → T (hasQuorum registry.view.members q) → Holder q x
+      → (q : Members) → T (has_quorum registry.view.members q) → Holder q x
   witness f n {x} k q t = go (k.backed f)
     where
       m : Members
       m = registry.view.members
 
-      inK : (b : ℕ) → T (m b) → T (electors registry o b)
-      inK b h = by_cond T (eqb b o) (λ _. tt) (λ _. h)
+      in_k : (b : ℕ) → T (m b) → T (electors registry o b)
+      in_k b h = by_cond T (eqb b o) (λ _. tt) (λ _. h)
 
       go : Backed o registry controller joined log (length x) → Holder q x
       go (read r _) = absurd (T_not (reading registry controller) n r)
@@ -177,7 +177,7 @@ module _ {E : Type 0} {L : ℕ → ℕ} {s : State E} (i : Inv L s) where
             quorum-half m q t,
             size-with m o (i.real registry.view.term),
             h,
-            meet-sub m q (electors registry o) (m ∩ q) (λ b _ mb qb. (inK b mb, join-and (m b) (q b) mb qb)),
+            meet-sub m q (electors registry o) (m ∩ q) (λ b _ mb qb. (in_k b mb, join-and (m b) (q b) mb qb)),
           )) in
           let y = split-and (m c.replica) (q c.replica) c.first in
           let z = holding-of joined log registry.view.term (length x) c.replica c.second in

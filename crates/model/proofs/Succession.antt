@@ -8,8 +8,8 @@ use Prim.Native.Nat.{ℕ, suc, ◌≤◌, ◌<◌}
 use native.Mathlib.Omega.{arith}
 use lib.Dec.{T, eqb}
 use Rattle.model.specs.Prelude.{upd, ◌⊑◌}
-use Rattle.model.specs.Members.{Members, isReplica}
-use Rattle.model.specs.State.{View, Status, leader, Registry, Controller, State, isChoosing}
+use Rattle.model.specs.Members.{Members, is_replica}
+use Rattle.model.specs.State.{View, Status, leader, Registry, Controller, State, is_choosing}
 use Rattle.model.proofs.Tests.{by_cond, eqb_same, le-or-lt, upd_other, is_false}
 use Rattle.model.proofs.Invariant.{ControllerOk, Firm, HeardOk, Ok, Stale, Outvoted, SafeIn, Inv}
 use Rattle.model.proofs.Static as Static
@@ -23,7 +23,7 @@ module _ {E : Type 0} {L : ℕ → ℕ} {s : State E} (i : Inv L s) where
   r = registry.view
 
   -- A leader b under a new term, with the members m. It had joined the old term and holds every safe list.
-  module _ (firm : Firm registry controller) (b : ℕ) (real : T (isReplica b)) (m : Members) (g : Status)
+  module _ (firm : Firm registry controller) (b : ℕ) (real : T (is_replica b)) (m : Members) (g : Status)
       (c : Controller)
       (joins : joined b ≡ r.term) (holds : SafeIn L s ⇒ (λ x. x ⊑ log b)) where
     abbrev r' : Registry
@@ -48,15 +48,15 @@ module _ {E : Type 0} {L : ℕ → ℕ} {s : State E} (i : Inv L s) where
       pub new-safe : (x : List E) → x ⊑ log b → Ok b r' c joined log x
       new-safe x p = record { begins = p; backed = λ f. absurd (loose f) }
 
-      pub new-leader : T (not (isChoosing g)) → T (m b) → ControllerOk r' c.view c.stage
+      pub new-leader : T (not (is_choosing g)) → T (m b) → ControllerOk r' c.view c.stage
           → HeardOk r' c view joined log
           → ((view (o i)).leader ≡ o i → Outvoted (Ok b r' c joined log) b view joined acked log (o i)) → Inv L' s'
       new-leader named member ok heard newly = record {
-        real = λ t. by_cond (λ x. T (isReplica x)) (eqb t (suc r.epoch)) (λ _. real) (λ _. i.real t);
+        real = λ t. by_cond (λ x. T (is_replica x)) (eqb t (suc r.epoch)) (λ _. real) (λ _. i.real t);
         registry = record {
           term = omega arith;
           member = λ _. rw (eqb_same (suc r.epoch)) member;
-          named = rw (is_false (isChoosing g) named) (rw (eqb_same (suc r.epoch)));
+          named = rw (is_false (is_choosing g) named) (rw (eqb_same (suc r.epoch)));
         };
         views = raised-views i L' r'.view refl later same;
         logs = raised-logs i L' r'.view refl later same;

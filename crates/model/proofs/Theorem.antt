@@ -8,9 +8,9 @@ use native.Mathlib.Omega.{arith}
 use lib.Dec.{T, eqb_refl}
 use lib.ListN.{get_or}
 use Rattle.model.specs.Prelude.{◌⊑◌}
-use Rattle.model.specs.Members.{isReplica, only, size}
-use Rattle.model.specs.State.{outline, Entries, State, Opening, canOpen, opened, firstView, no_view}
-use Rattle.model.specs.Steps.{Step, append, commit, add, remove, changeLeader, refresh, join, receive, acknowledge, refreshController, readLeader, read, setNormal, hear, install, malformed, writes, checks, next, accepted, step}
+use Rattle.model.specs.Members.{is_replica, only, size}
+use Rattle.model.specs.State.{outline, Entries, State, Opening, can_open, opened, first_view, no_view}
+use Rattle.model.specs.Steps.{Step, append, commit, add, remove, change_leader, refresh, join, receive, acknowledge, refreshController, read_leader, read, set_normal, hear, install, malformed, writes, checks, next, accepted, step}
 use Rattle.model.specs.Runs.{run, gift, gives, given}
 use Rattle.model.specs.Claim.{LeadsUnder, after, receipts, Safe, Safety}
 use Rattle.model.proofs.Tests.{Holds, facts, by-test, by_cond, is_true, is_false}
@@ -37,12 +37,12 @@ nth P d out (x ∷ xs) k zero a = subst (λ m. P m x) (omega arith) a.0
 nth P d out (x ∷ xs) k (suc n) a = subst (λ m. P m (get_or xs n d)) (omega arith) (nth P d out xs (suc k) n a.1)
 
 -- The opening: its board was named under every term so far, and nobody is stale.
-pub opened-inv : {E : Type 0} (o : Opening) → T (canOpen o) → Inv {E = E} (λ _. o.board) (opened o)
+pub opened-inv : {E : Type 0} (o : Opening) → T (can_open o) → Inv {E = E} (λ _. o.board) (opened o)
 opened-inv {E} o k = record {
   real = λ _. k;
   registry = record { term = omega arith; named = refl; member = λ _. eqb_refl o.board };
-  views = λ x. by-test (isReplica x)
-      (λ t. rw (is_true (isReplica x) t)
+  views = λ x. by-test (is_replica x)
+      (λ t. rw (is_true (is_replica x) t)
       (record {
         epoch = omega arith;
         term = omega arith;
@@ -50,7 +50,7 @@ opened-inv {E} o k = record {
         current = λ _. refl;
         led = λ _. refl;
       }))
-      (λ t. rw (is_false (isReplica x) t)
+      (λ t. rw (is_false (is_replica x) t)
       (record {
         epoch = omega arith;
         term = omega arith;
@@ -60,15 +60,15 @@ opened-inv {E} o k = record {
       }));
   controller = record { epoch = omega arith; current = λ _. refl; stage = λ _. tt };
   logs = record {
-    own = λ a _. by-test (isReplica a) (λ t. rw (is_true (isReplica a) t)) (λ t. rw (is_false (isReplica a) t));
-    taken = λ x. rw (is_true (isReplica o.board) k)
-        (by_cond (λ j. j ≤ 1) (isReplica x) (λ _. omega arith) (λ _. omega arith));
+    own = λ a _. by-test (is_replica a) (λ t. rw (is_true (is_replica a) t)) (λ t. rw (is_false (is_replica a) t));
+    taken = λ x. rw (is_true (is_replica o.board) k)
+        (by_cond (λ j. j ≤ 1) (is_replica x) (λ _. omega arith) (λ _. omega arith));
     follows = λ _ _. begins-refl [];
     counts = λ _ _ _. record { early = λ _. refl; now = λ _. omega arith };
   };
   leader = record {
-    joined = rw (is_true (isReplica o.board) k);
-    took = λ _. rw (is_true (isReplica o.board) k);
+    joined = rw (is_true (is_replica o.board) k);
+    took = λ _. rw (is_true (is_replica o.board) k);
     whole = λ f. absurd (loose f);
   };
   heard = record { read = λ _ _ x _ h. absurd (omega arith); heard = λ _ _ x _ h. absurd (omega arith) };
@@ -84,10 +84,10 @@ opened-inv {E} o k = record {
     loose (steady t n) = omega (arith, alone)
     loose (reads t) = t
 
-    fresh : (a : ℕ) → Stale 1 (cond (isReplica a) (firstView o) no_view) a → ⊥
-    fresh a st = by-test (isReplica a)
-        (λ t. let lt : 1 < 1 = rw (is_true (isReplica a) t) at st.old in omega arith)
-        (λ t. let e : 0 ≡ a = rw (is_false (isReplica a) t) at st.leads in st.real (sym e))
+    fresh : (a : ℕ) → Stale 1 (cond (is_replica a) (first_view o) no_view) a → ⊥
+    fresh a st = by-test (is_replica a)
+        (λ t. let lt : 1 < 1 = rw (is_true (is_replica a) t) at st.old in omega arith)
+        (λ t. let e : 0 ≡ a = rw (is_false (is_replica a) t) at st.leads in st.real (sym e))
 
 module _ (𝓔 : Entries) where
   open 𝓔 use {Entry, make}
@@ -99,15 +99,15 @@ module _ (𝓔 : Entries) where
   keeps i (commit b) h = later (commit-keeps 𝓔 i b h) (omega arith)
   keeps i (add b) h = later (add-keeps 𝓔 i b h) (omega arith)
   keeps i (remove b) h = later (remove-keeps 𝓔 i b h) (omega arith)
-  keeps i changeLeader h = change-keeps 𝓔 i h
+  keeps i change_leader h = change-keeps 𝓔 i h
   keeps i (refresh b) h = later (refresh-keeps 𝓔 i b h) (omega arith)
   keeps i (join b) h = later (join-keeps 𝓔 i b h) (omega arith)
   keeps i (receive b) h = later (receive-keeps 𝓔 i b h) (omega arith)
   keeps i (acknowledge a b) h = later (acknowledge-keeps 𝓔 i a b h) (omega arith)
   keeps i refreshController h = later (refresh-controller-keeps 𝓔 i h) (omega arith)
-  keeps i readLeader h = later (read-leader-keeps 𝓔 i h) (omega arith)
+  keeps i read_leader h = later (read-leader-keeps 𝓔 i h) (omega arith)
   keeps i (read b) h = later (read_keeps 𝓔 i b h) (omega arith)
-  keeps i setNormal h = later (set-normal-keeps 𝓔 i h) (omega arith)
+  keeps i set_normal h = later (set-normal-keeps 𝓔 i h) (omega arith)
   keeps i (hear b) h = later (hear-keeps 𝓔 i b h) (omega arith)
   keeps i (install b) h = install-keeps 𝓔 i b h
   keeps i malformed h = absurd (h 1)
@@ -139,15 +139,15 @@ module _ (𝓔 : Entries) where
   next-gives s (commit b) = refl
   next-gives s (add b) = sym (append-nil s.committed)
   next-gives s (remove b) = sym (append-nil s.committed)
-  next-gives s changeLeader = sym (append-nil s.committed)
+  next-gives s change_leader = sym (append-nil s.committed)
   next-gives s (refresh b) = sym (append-nil s.committed)
   next-gives s (join b) = sym (append-nil s.committed)
   next-gives s (receive b) = sym (append-nil s.committed)
   next-gives s (acknowledge a b) = sym (append-nil s.committed)
   next-gives s refreshController = sym (append-nil s.committed)
-  next-gives s readLeader = sym (append-nil s.committed)
+  next-gives s read_leader = sym (append-nil s.committed)
   next-gives s (read b) = sym (append-nil s.committed)
-  next-gives s setNormal = sym (append-nil s.committed)
+  next-gives s set_normal = sym (append-nil s.committed)
   next-gives s (hear b) = sym (append-nil s.committed)
   next-gives s (install b) = sym (append-nil s.committed)
   next-gives s malformed = sym (append-nil s.committed)
@@ -176,7 +176,7 @@ module _ (𝓔 : Entries) where
   given-append s (st ∷ sts) more =
       ap (λ xs. gives 𝓔 s st ++ xs) (given-append (step 𝓔 s st) sts more) ∙ sym (append_assoc (gives 𝓔 s st) _ _)
 
-  module _ (o : Opening) (real : T (canOpen o)) (sts : List Step) where
+  module _ (o : Opening) (real : T (can_open o)) (sts : List Step) where
     -- the history and the invariant after sts
     reached : Later (λ _. o.board) (opened o) (after 𝓔 o sts)
     reached = run-keeps (opened-inv o real) sts
@@ -193,7 +193,7 @@ module _ (𝓔 : Entries) where
       lasting = λ more. subst (λ xs. receipts 𝓔 o sts ⊑ xs) (sym (given-append (opened o) sts more))
           (begins-more (receipts 𝓔 o sts) _);
       alone = λ x y t k m. sym (led x t k) ∙ led y t m;
-      aloneLater = λ more x y t k m.
+      alone_later = λ more x y t k m.
           let j = run-keeps reached.inv more in
           let l : LeadsUnder (run 𝓔 (after 𝓔 o sts) more) y t =
           subst (λ s. LeadsUnder s y t) (run-append (opened o) sts more) m in

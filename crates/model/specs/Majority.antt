@@ -3,22 +3,22 @@
 -- Paper 6. Cited by the promise of `majorities`. Assumes nothing.
 use Rattle.std.specs.Prelude.{◌⊎◌, ◌≢◌, ◌↔◌, ◌≡◌, ℕ, ◌≤◌, ◌<◌, T}
 use Rattle.model.specs.Prelude.{asks}
-use Rattle.model.specs.Members.{Members, isReplica, none, ◌∩◌, size, quorum, isQuorum}
+use Rattle.model.specs.Members.{Members, is_replica, none, ◌∩◌, size, quorum, is_quorum}
 use Rattle.model.specs.State.{Outline}
-use Rattle.model.specs.Steps.{Step, commit, setNormal, install, checks, answer_of, behind}
+use Rattle.model.specs.Steps.{Step, commit, set_normal, install, checks, answer_of, behind}
 use Rattle.model.specs.Records.{Record, step_of}
 
 -- q is a majority of m: a set of its members, of at least as many as "a majority of n boards" is. (That one of just as
 -- many exists is the same.)
 pub record MajorityOf (m q : Members) : Type 0 where
-  pub within : (x : ℕ) → T (isReplica x) → T (q x) → T (m x)
+  pub within : (x : ℕ) → T (is_replica x) → T (q x) → T (m x)
   pub most : quorum (size m) ≤ size q
 
 -- Some majority of m, and P of each replica in it.
 pub record SomeMajority (m : Members) (P : ℕ → Type 0) : Type 0 where
   pub set : Members
   pub majority : MajorityOf m set
-  pub each : (x : ℕ) → T (isReplica x) → T (set x) → P x
+  pub each : (x : ℕ) → T (is_replica x) → T (set x) → P x
 
 -- The members of m with P, all of them, are q, and q is a majority.
 pub record AllWith (m : Members) (P : ℕ → Type 0) (q : Members) : Type 0 where
@@ -27,7 +27,7 @@ pub record AllWith (m : Members) (P : ℕ → Type 0) (q : Members) : Type 0 whe
 
 module _ (m : Outline) where
   open m use {controller, view, acked, issued}
-  open controller use {heard, heardJoined}
+  open controller use {heard, heard_joined}
 
   -- A length is heard of x: it is not none, which is kept as 0.
   abbrev pub Heard : ℕ → Type 0
@@ -35,7 +35,7 @@ module _ (m : Outline) where
 
   -- "Installing ranks boards by joined epoch first, then length": x ranks above b.
   abbrev pub RanksAbove : ℕ → ℕ → Type 0
-  RanksAbove b x = (heardJoined b < heardJoined x) ⊎ ((heardJoined b ≡ heardJoined x) × (heard b < heard x))
+  RanksAbove b x = (heard_joined b < heard_joined x) ⊎ ((heard_joined b ≡ heard_joined x) × (heard b < heard x))
 
   -- The question that the step st asks with refusal 14 is Q: the test says Q, and where the answer is 14 there is no Q.
   pub record Question (st : Step) (Q : Type 0) : Type 0 where
@@ -44,26 +44,26 @@ module _ (m : Outline) where
 
   pub record Questions : Type 0 where
     -- "a majority of b's members have counts in b above the receipts' length [14]".
-    pub stepTwo : (b : ℕ) → Question (commit b) (SomeMajority (view b).members (λ x. issued < acked b x))
+    pub step_two : (b : ℕ) → Question (commit b) (SomeMajority (view b).members (λ x. issued < acked b x))
     -- "some majority of the controller's members are each heard,
     -- at a length not below the leader's heard one [14]".
-    pub stepThirteen : Question setNormal
+    pub step_thirteen : Question set_normal
         (SomeMajority controller.view.members (λ x. Heard x × (heard controller.view.leader ≤ heard x)))
     -- b in the controller's members [5]: "some majority of the controller's members contains b,
     -- all heard, none ranked above b [14]".
-    pub stepFifteen : (b : ℕ) → T (isReplica b) → T (controller.view.members b) → Question (install b)
+    pub step_fifteen : (b : ℕ) → T (is_replica b) → T (controller.view.members b) → Question (install b)
         ((q : SomeMajority controller.view.members (λ x. Heard x × ¬ RanksAbove b x)) × T (q.set b))
 
   pub record Sets : Type 0 where
     -- "For a receipt these are the members counted above it,
-    pub stepTwo : (b : ℕ) → answer_of m (commit b) ≡ 0
+    pub step_two : (b : ℕ) → answer_of m (commit b) ≡ 0
         → AllWith (view b).members (λ x. issued < acked b x) (behind m (commit b))
     -- for set normal those heard at the leader's heard length or more,
-    pub stepThirteen : answer_of m setNormal ≡ 0
+    pub step_thirteen : answer_of m set_normal ≡ 0
         → AllWith controller.view.members (λ x. Heard x × (heard controller.view.leader ≤ heard x))
-        (behind m setNormal)
+        (behind m set_normal)
     -- for installing those heard and not ranked above the new leader", which is one of them.
-    pub stepFifteen : (b : ℕ) → answer_of m (install b) ≡ 0
+    pub step_fifteen : (b : ℕ) → answer_of m (install b) ≡ 0
         → AllWith controller.view.members (λ x. Heard x × ¬ RanksAbove b x) (behind m (install b))
         × T (behind m (install b) b)
     -- A refused step has no one behind it.
@@ -73,7 +73,7 @@ module _ (m : Outline) where
 
 pub record Majorities : Type 0 where
   -- The members that qualify are a majority just where some majority of the members qualifies.
-  pub counted : (m q : Members) → T (isQuorum m (m ∩ q)) ↔ SomeMajority m (λ x. T (q x))
+  pub counted : (m q : Members) → T (is_quorum m (m ∩ q)) ↔ SomeMajority m (λ x. T (q x))
   -- The checks with refusal 14 are the questions of document 01.
   pub questions : (m : Outline) → Questions m
   -- Those that qualify are behind an accepted step that asks for them; no one is behind any other step.

@@ -2,8 +2,8 @@
 use Rattle.std.specs.Prelude.{Bool, false, cond, ◌&&◌, ℕ, ◌+◌, ◌/◌, leb, eqb}
 
 -- A replica (document 01: board): 1 to 8. 0 is no board.
-abbrev pub isReplica : ℕ → Bool
-isReplica b = leb 1 b && leb b 8
+abbrev pub is_replica : ℕ → Bool
+is_replica b = leb 1 b && leb b 8
 
 -- Members: a set of replicas.
 abbrev pub Members : Type 0
@@ -34,8 +34,8 @@ abbrev pub quorum : ℕ → ℕ
 quorum n = n / 2 + 1
 
 -- q, which are members of m, are a majority: at least as many as one of m has.
-abbrev pub isQuorum : Members → Members → Bool
-isQuorum m q = leb (quorum (size m)) (size q)
+abbrev pub is_quorum : Members → Members → Bool
+is_quorum m q = leb (quorum (size m)) (size q)
 
 -- The lowest replica of a set, 0 for the empty set.
 abbrev pub lowest : Members → ℕ

@@ -12,9 +12,9 @@ pub data Check : Type 0 where
   ◌else◌ : Bool → ℕ → Check
 
 -- The refusal of the first check that fails, 0 where none does.
-abbrev pub firstFailed : List Check → ℕ
-firstFailed [] = 0
-firstFailed ((c else n) ∷ cs) = cond c (firstFailed cs) n
+abbrev pub first_failed : List Check → ℕ
+first_failed [] = 0
+first_failed ((c else n) ∷ cs) = cond c (first_failed cs) n
 
 -- No check fails.
 abbrev pub passes : List Check → Bool

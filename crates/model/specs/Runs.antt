@@ -25,9 +25,9 @@ module _ (𝓔 : Entries) where
   answers s (st ∷ sts) = answer_of (outline s) st ∷ answers (step 𝓔 s st) sts
 
   -- The sets behind them, in order.
-  unfoldable pub setsBehind : State Entry → List Step → List Members
-  setsBehind s [] = []
-  setsBehind s (st ∷ sts) = behind (outline s) st ∷ setsBehind (step 𝓔 s st) sts
+  unfoldable pub sets_behind : State Entry → List Step → List Members
+  sets_behind s [] = []
+  sets_behind s (st ∷ sts) = behind (outline s) st ∷ sets_behind (step 𝓔 s st) sts
 
   -- What an accepted step gives out: step 2 the next entry of b's log, any other nothing.
   abbrev pub gift : State Entry → Writes → List Entry

@@ -3,7 +3,7 @@
 use Rattle.std.specs.Prelude.{Bool, true, false, cond, ◌&&◌, List, [], ◌↔◌, ◌≡◌, ℕ, T, eqb, length}
 use Rattle.std.proofs.Common.{subst, eqb→eq}
 use Rattle.std.proofs.Math.Dec.{eqb_refl}
-use Rattle.model.specs.Members.{Members, isReplica, none, only}
+use Rattle.model.specs.Members.{Members, is_replica, none, only}
 
 -- What an entry is: made of a value and the term of the replica that appends it, with a test for equality.
 -- No step and no proof of demand 3 looks inside an entry.
@@ -23,8 +23,8 @@ abbrev pub entry : ℕ → ℕ → Entry
 entry value term = record { value = value; term = term }
 
 -- "Two entries are equal only if value and epoch both are."
-abbrev pub sameEntry : Entry → Entry → Bool
-sameEntry x y = eqb x.value y.value && eqb x.term y.term
+abbrev pub same_entry : Entry → Entry → Bool
+same_entry x y = eqb x.value y.value && eqb x.term y.term
 
 -- (Used for the next alone: a conjunction of tests holds just where both do.)
 both : (a b : Bool) → T (a && b) ↔ (T a × T b)
@@ -32,17 +32,17 @@ both true b = (λ t. (tt, t), λ h. h.1)
 both false b = (λ t. absurd t, λ h. h.0)
 
 -- The test is exact: it says whether they are the same entry.
-pub same-entry : (x y : Entry) → T (sameEntry x y) ↔ (x ≡ y)
+pub same-entry : (x y : Entry) → T (same_entry x y) ↔ (x ≡ y)
 same-entry x y = (
   λ t. let h = (both (eqb x.value y.value) (eqb x.term y.term)).0 t in
       λ i. entry (eqb→eq x.value y.value h.0 i) (eqb→eq x.term y.term h.1 i),
-  λ e. subst (λ z. T (sameEntry x z)) e
+  λ e. subst (λ z. T (same_entry x z)) e
       ((both (eqb x.value x.value) (eqb x.term x.term)).1 (eqb_refl x.value, eqb_refl x.term)),
 )
 
 -- The kind of entry that the calls use: here alone it is chosen.
 abbrev pub entries : Entries
-entries = record { Entry = Entry; make = entry; same = sameEntry; exact = same-entry }
+entries = record { Entry = Entry; make = entry; same = same_entry; exact = same-entry }
 
 -- Epoch, leader epoch (term), leader (0: none) and members: as the registry holds them, or as a replica or the
 -- controller last took them.
@@ -67,7 +67,7 @@ pub record Controller : Type 0 where
   pub view : View
   pub stage : Stage
   pub heard : ℕ → ℕ
-  pub heardJoined : ℕ → ℕ
+  pub heard_joined : ℕ → ℕ
 
 -- By replica: its view; the term whose leader's log its own log last followed (joined); its counts, one for each
 -- replica (acked); its log. For the whole cluster: the receipts (committed).
@@ -105,28 +105,28 @@ outline s = record {
   issued = length s.committed;
 }
 
-abbrev pub isNormal : Status → Bool
-isNormal normal = true
-isNormal waiting = false
-isNormal Status.choosing = false
+abbrev pub is_normal : Status → Bool
+is_normal normal = true
+is_normal waiting = false
+is_normal Status.choosing = false
 
-abbrev pub isChoosing : Status → Bool
-isChoosing normal = false
-isChoosing waiting = false
-isChoosing Status.choosing = true
+abbrev pub is_choosing : Status → Bool
+is_choosing normal = false
+is_choosing waiting = false
+is_choosing Status.choosing = true
 
 -- A stage by its place in document 01's list: idle, leader, boards, choosing.
-abbrev pub stageNumber : Stage → ℕ
-stageNumber idle = 0
-stageNumber leader = 1
-stageNumber boards = 2
-stageNumber Stage.choosing = 3
+abbrev pub stage_number : Stage → ℕ
+stage_number idle = 0
+stage_number leader = 1
+stage_number boards = 2
+stage_number Stage.choosing = 3
 
 -- Step 10: "stage is idle, leader or choosing for normal, waiting or choosing".
-abbrev pub stageFor : Status → Stage
-stageFor normal = idle
-stageFor waiting = leader
-stageFor Status.choosing = Stage.choosing
+abbrev pub stage_for : Status → Stage
+stage_for normal = idle
+stage_for waiting = leader
+stage_for Status.choosing = Stage.choosing
 
 abbrev pub zeros : ℕ → ℕ
 zeros x = 0
@@ -139,29 +139,29 @@ no_view = record { epoch = 0; term = 0; leader = 0; members = none }
 pub record Opening : Type 0 where
   pub board : ℕ
 
-abbrev pub openingWith : ℕ → Opening
-openingWith b = record { board = b }
+abbrev pub opening_with : ℕ → Opening
+opening_with b = record { board = b }
 
 -- The opening is accepted: its board is one of 1 to 8.
-abbrev pub canOpen : Opening → Bool
-canOpen o = isReplica o.board
+abbrev pub can_open : Opening → Bool
+can_open o = is_replica o.board
 
 -- "Opening with board b: every epoch, leader epoch and joined is 1, every leader b, all members {b}, status normal,
 -- stage idle, lists empty, counts 0, heard lengths none."
-abbrev pub firstView : Opening → View
-firstView o = record { epoch = 1; term = 1; leader = o.board; members = only o.board }
+abbrev pub first_view : Opening → View
+first_view o = record { epoch = 1; term = 1; leader = o.board; members = only o.board }
 
 abbrev pub opened : {E : Type 0} → Opening → State E
 opened o = record {
-  registry = record { view = firstView o; status = normal };
-  controller = record { view = firstView o; stage = idle; heard = zeros; heardJoined = zeros };
-  view = λ x. cond (isReplica x) (firstView o) no_view;
-  joined = λ x. cond (isReplica x) 1 0;
+  registry = record { view = first_view o; status = normal };
+  controller = record { view = first_view o; stage = idle; heard = zeros; heard_joined = zeros };
+  view = λ x. cond (is_replica x) (first_view o) no_view;
+  joined = λ x. cond (is_replica x) 1 0;
   acked = λ x. zeros;
   log = λ x. [];
   committed = [];
 }
 
 -- The opening's answer: 1 for a board outside 1 to 8.
-abbrev pub openAnswer : Opening → ℕ
-openAnswer o = cond (canOpen o) 0 1
+abbrev pub open_answer : Opening → ℕ
+open_answer o = cond (can_open o) 0 1

@@ -8,11 +8,11 @@ use native.Mathlib.Omega.{arith}
 use lib.ListN.{length, get_or, set, replicate, length-append, length-replicate, length-set}
 use lib.Seq.{get_or-set_same, get_or-set_other}
 use Rattle.model.specs.Records.{Record, of}
-use Rattle.text.specs.Text.{Text, Wrote, over, eachOf}
+use Rattle.text.specs.Text.{Text, Wrote, over, each_of}
 use Rattle.text.proofs.Laws.{over_none, over-append, each-room}
-use Rattle.fields.specs.Fields.{twoAt}
+use Rattle.fields.specs.Fields.{two_at}
 use Rattle.fields.proofs.Back.{two_back}
-use Rattle.records.specs.Bytes.{recordBytes, sheetBytes}
+use Rattle.records.specs.Bytes.{record_bytes, sheet_bytes}
 use Rattle.records.proofs.Encoding.{sheet-length}
 use Rattle.orders.specs.Orders.{orders}
 
@@ -68,55 +68,55 @@ unfolding orders
 orders-none o = refl
 
 -- How many records one order more makes.
-pub orders-more : (k : ℕ) (o : Text) → length (orders (k + 1) o) ≡ length (orders k o) + twoAt o (4 * k + 2)
+pub orders-more : (k : ℕ) (o : Text) → length (orders (k + 1) o) ≡ length (orders k o) + two_at o (4 * k + 2)
 unfolding orders
 orders-more k o =
     let r = of (get_or o (4 * k) 0) (get_or o (4 * k + 1) 0) in
-    let n = twoAt o (4 * k + 2) in
+    let n = two_at o (4 * k + 2) in
     rw (add-one k, length-append (orders k o) (replicate n r), length-replicate n r)
 
 -- The bytes of order i's records.
-abbrev pub orderBytes : Text → ℕ → Text
-orderBytes o i = sheetBytes (replicate (twoAt o (4 * i + 2)) (of (get_or o (4 * i) 0) (get_or o (4 * i + 1) 0)))
+abbrev pub order_bytes : Text → ℕ → Text
+order_bytes o i = sheet_bytes (replicate (two_at o (4 * i + 2)) (of (get_or o (4 * i) 0) (get_or o (4 * i + 1) 0)))
 
-sheet-append : (xs ys : List Record) → sheetBytes (xs ++ ys) ≡ sheetBytes xs ++ sheetBytes ys
-unfolding sheetBytes
+sheet-append : (xs ys : List Record) → sheet_bytes (xs ++ ys) ≡ sheet_bytes xs ++ sheet_bytes ys
+unfolding sheet_bytes
 sheet-append [] ys = refl
-sheet-append (x ∷ xs) ys = rw (sheet-append xs ys) (sym (append_assoc (recordBytes x) (sheetBytes xs) (sheetBytes ys)))
+sheet-append (x ∷ xs) ys = rw (sheet-append xs ys) (sym (append_assoc (record_bytes x) (sheet_bytes xs) (sheet_bytes ys)))
 
 -- The bytes of orders are those of each, one after the other.
-pub orders_bytes : (k : ℕ) (o : Text) → sheetBytes (orders k o) ≡ eachOf (orderBytes o) k
-unfolding orders eachOf sheetBytes
+pub orders_bytes : (k : ℕ) (o : Text) → sheet_bytes (orders k o) ≡ each_of (order_bytes o) k
+unfolding orders each_of sheet_bytes
 orders_bytes zero o = refl
 orders_bytes (suc k) o =
-    sheet-append (orders k o) (replicate (twoAt o (4 * k + 2)) (of (get_or o (4 * k) 0) (get_or o (4 * k + 1) 0)))
-    ∙ ap (λ t. t ++ orderBytes o k) (orders_bytes k o)
+    sheet-append (orders k o) (replicate (two_at o (4 * k + 2)) (of (get_or o (4 * k) 0) (get_or o (4 * k + 1) 0)))
+    ∙ ap (λ t. t ++ order_bytes o k) (orders_bytes k o)
 
-pub same_bytes : (n : ℕ) (r : Record) → length (sheetBytes (replicate n r)) ≡ 8 * n
+pub same_bytes : (n : ℕ) (r : Record) → length (sheet_bytes (replicate n r)) ≡ 8 * n
 same_bytes n r = sheet-length (replicate n r) ∙ rw (length-replicate n r)
 
 -- Room for the records of k orders is room for those of each after those before it.
 pub order-room : (k : ℕ) (o : Text) (i : ℕ) → i < k
-    → length (eachOf (orderBytes o) i) + 8 * twoAt o (4 * i + 2) ≤ 8 * length (orders k o)
+    → length (each_of (order_bytes o) i) + 8 * two_at o (4 * i + 2) ≤ 8 * length (orders k o)
 order-room k o i h =
-    let n = twoAt o (4 * i + 2) in
+    let n = two_at o (4 * i + 2) in
     let r = of (get_or o (4 * i) 0) (get_or o (4 * i + 1) 0) in
     omega (
       arith,
-      each-room (orderBytes o) i k h,
+      each-room (order_bytes o) i k h,
       same_bytes n r,
       sym (ap length (orders_bytes k o)) ∙ sheet-length (orders k o),
     )
 
 -- With one record written, one less is left to write.
-pub one_less : {d e : Text} {p q : ℕ} (k : ℕ) (r : Record) → 1 ≤ k → Wrote d p (recordBytes r) e q
-    → over e q (sheetBytes (replicate (k - 1) r)) ≡ over d p (sheetBytes (replicate k r))
-unfolding sheetBytes
+pub one_less : {d e : Text} {p q : ℕ} (k : ℕ) (r : Record) → 1 ≤ k → Wrote d p (record_bytes r) e q
+    → over e q (sheet_bytes (replicate (k - 1) r)) ≡ over d p (sheet_bytes (replicate k r))
+unfolding sheet_bytes
 one_less zero r h w = absurd (not-suc-le-zero h)
 one_less {d} {e} {p} {q} (suc k) r h w =
     let l : suc k - 1 ≡ k = omega arith in
-    rw (l, w.text, w.next) (sym (over-append d p (recordBytes r) (sheetBytes (replicate k r))))
+    rw (l, w.text, w.next) (sym (over-append d p (record_bytes r) (sheet_bytes (replicate k r))))
 
-pub none_left : (d : Text) (p k : ℕ) (r : Record) → k ≡ 0 → over d p (sheetBytes (replicate k r)) ≡ d
-unfolding sheetBytes
+pub none_left : (d : Text) (p k : ℕ) (r : Record) → k ≡ 0 → over d p (sheet_bytes (replicate k r)) ≡ d
+unfolding sheet_bytes
 none_left d p k r e = rw e (over_none d p)

@@ -3,7 +3,7 @@
 ghost use Rattle.std.specs.Prelude.{◌++◌, ◌≡◌, suc, ◌+◌, ◌*◌, ◌≤◌, length, replicate};
 ghost use Rattle.model.specs.Records.{of};
 ghost use Rattle.text.specs.Text.{Wrote};
-ghost use Rattle.records.specs.Bytes.{sheetBytes};
+ghost use Rattle.records.specs.Bytes.{sheet_bytes};
 ghost use Rattle.orders.specs.Orders.{orders};
 
 use records::Record;
@@ -38,7 +38,7 @@ pub fn total(o: &[u8], k: usize) -> usize
 // callers see to the room.
 fn put_same(out: &mut [u8], at: usize, step: u8, board: u8, n: u16) -> usize
     requires { at + 8 * n ≤ length out.old }
-    ensures { Wrote out.old at (sheetBytes (replicate n (of step board))) out.new result }
+    ensures { Wrote out.old at (sheet_bytes (replicate n (of step board))) out.new result }
 {
     let r = Record {
         step,
@@ -60,7 +60,7 @@ fn put_same(out: &mut [u8], at: usize, step: u8, board: u8, n: u16) -> usize
 // see to it that o has the orders, and to the room.
 pub fn put_orders(out: &mut [u8], o: &[u8], k: usize) -> usize
     requires { (4 * k ≤ length o.now) × (8 * length (orders k o.now) ≤ length out.old) }
-    ensures { Wrote out.old 0 (sheetBytes (orders k o.now)) out.new result }
+    ensures { Wrote out.old 0 (sheet_bytes (orders k o.now)) out.new result }
 {
     let mut p: usize = 0;
     let mut i: usize = 0;

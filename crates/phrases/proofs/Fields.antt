@@ -12,10 +12,10 @@ use Rattle.model.specs.Records.{Record, boardless}
 use Rattle.model.proofs.Tests.{split-and, join-and, by-test}
 use Rattle.text.specs.Text.{Text, digits}
 use Rattle.reading.proofs.Decimal.{by_digits}
-use Rattle.records.specs.Bytes.{recordAt, recordBytes}
-use Rattle.hex.specs.Hex.{hexDigit, hexes}
+use Rattle.records.specs.Bytes.{record_at, record_bytes}
+use Rattle.hex.specs.Hex.{hex_digit, hexes}
 use Rattle.hex.proofs.Hexes.{Bytes}
-use Rattle.phrases.specs.Line.{boardPart, secondPart}
+use Rattle.phrases.specs.Line.{board_part, second_part}
 use Rattle.phrases.specs.Describe.{EightBytes}
 
 -- Bytes that pass a test
@@ -38,55 +38,55 @@ every_more p q f (x ∷ xs) h =
 
 -- What the fields of a record are made of: digits, those of hexadecimal numbers too, and spaces. All are 32 to 70, and
 -- none is a colon.
-abbrev pub isField : ℕ → Bool
-isField x = leb 32 x && leb x 70 && not (eqb x 58)
+abbrev pub is_field : ℕ → Bool
+is_field x = leb 32 x && leb x 70 && not (eqb x 58)
 
-is_field : (x : ℕ) → 32 ≤ x → x ≤ 70 → (x ≡ 58 → ⊥) → T (isField x)
-is_field x l h n = rw (le-leb 32 x l, le-leb x 70 h, ne_eqb x 58 n) tt
+is_field_lem : (x : ℕ) → 32 ≤ x → x ≤ 70 → (x ≡ 58 → ⊥) → T (is_field x)
+is_field_lem x l h n = rw (le-leb 32 x l, le-leb x 70 h, ne_eqb x 58 n) tt
 
-digits-fields : (n : ℕ) → T (every isField (digits n))
+digits-fields : (n : ℕ) → T (every is_field (digits n))
 digits-fields =
-    by_digits (λ n xs. T (every isField xs))
-    (λ n h. join-and (isField (48 + n)) true (is_field (48 + n) (omega arith) (omega arith)
+    by_digits (λ n xs. T (every is_field xs))
+    (λ n h. join-and (is_field (48 + n)) true (is_field_lem (48 + n) (omega arith) (omega arith)
     (λ (e : 48 + n ≡ 58). omega arith)) tt)
-    (λ n xs l h. every_append isField xs ((48 + n % 10) ∷ []) h
-    (join-and (isField (48 + n % 10)) true (is_field (48 + n % 10) (omega arith) (omega arith)
+    (λ n xs l h. every_append is_field xs ((48 + n % 10) ∷ []) h
+    (join-and (is_field (48 + n % 10)) true (is_field_lem (48 + n % 10) (omega arith) (omega arith)
     (λ (e : 48 + n % 10 ≡ 58). omega arith)) tt))
 
-hex-field : (x : ℕ) → x < 16 → T (isField (hexDigit x))
+hex-field : (x : ℕ) → x < 16 → T (is_field (hex_digit x))
 hex-field x h =
     by-test (ltb x 10)
     (λ t. let l = ltb→lt x 10 t in rw (lt-ltb x 10 l)
-    (is_field (48 + x) (omega arith) (omega arith) (λ (e : 48 + x ≡ 58). omega arith)))
+    (is_field_lem (48 + x) (omega arith) (omega arith) (λ (e : 48 + x ≡ 58). omega arith)))
     (λ t. let l = nltb→le x 10 t in rw (le-ltb x 10 l)
-    (is_field (55 + x) (omega arith) (omega arith) (λ (e : 55 + x ≡ 58). omega arith)))
+    (is_field_lem (55 + x) (omega arith) (omega arith) (λ (e : 55 + x ≡ 58). omega arith)))
 
-pub hexes-fields : (s : Text) → Bytes s → T (every isField (hexes s))
+pub hexes-fields : (s : Text) → Bytes s → T (every is_field (hexes s))
 unfolding hexes
 hexes-fields [] h = tt
 hexes-fields (b ∷ s) h =
     let l = h 0 in
-    join-and (isField (hexDigit (b / 16))) _ (hex-field (b / 16) (omega arith))
-    (join-and (isField (hexDigit (b % 16))) _ (hex-field (b % 16) (omega arith)) (hexes-fields s (λ i. h (suc i))))
+    join-and (is_field (hex_digit (b / 16))) _ (hex-field (b / 16) (omega arith))
+    (join-and (is_field (hex_digit (b % 16))) _ (hex-field (b % 16) (omega arith)) (hexes-fields s (λ i. h (suc i))))
 
-pub board-fields : (r : Record) → T (every isField (boardPart r))
+pub board-fields : (r : Record) → T (every is_field (board_part r))
 board-fields r = go (boardless r.step)
   where
-    go : (b : Bool) → T (every isField (cond b [] (digits r.board)))
+    go : (b : Bool) → T (every is_field (cond b [] (digits r.board)))
     go true = tt
     go false = digits-fields r.board
 
-pub second-fields : (r : Record) → T (every isField (secondPart r))
+pub second-fields : (r : Record) → T (every is_field (second_part r))
 second-fields r = go (eqb r.step 9) (eqb r.step 1)
   where
-    go : (b c : Bool) → T (every isField (cond b (digits r.other) (cond c (digits r.value) [])))
+    go : (b c : Bool) → T (every is_field (cond b (digits r.other) (cond c (digits r.value) [])))
     go true c = digits-fields r.other
     go false true = digits-fields r.value
     go false false = tt
 
 -- The bytes of a record are bytes.
 abbrev pub Small : Record → Type 0
-Small r = Bytes (recordBytes r)
+Small r = Bytes (record_bytes r)
 
 -- A text is its bytes, place by place.
 abbrev listed : ℕ → (ℕ → ℕ) → Text
@@ -99,10 +99,10 @@ listed-is zero (x ∷ s) l = absurd (omega arith)
 listed-is (suc n) [] l = absurd (omega arith)
 listed-is (suc n) (x ∷ s) l = ap (λ t. x ∷ t) (listed-is n s (omega arith))
 
-pub bytes_back : (s : Text) → EightBytes s → recordBytes (recordAt s) ≡ s
-unfolding recordBytes
+pub bytes_back : (s : Text) → EightBytes s → record_bytes (record_at s) ≡ s
+unfolding record_bytes
 bytes_back s h =
-    let v = (recordAt s).value in
+    let v = (record_at s).value in
     let b4 : v % 256 ≡ get_or s 4 0 = omega (arith, h.byte 4) in
     let q5 : v / 256 ≡ get_or s 5 0 + 256 * (get_or s 6 0 + 256 * get_or s 7 0) = omega (arith, h.byte 4) in
     let b5 : v / 256 % 256 ≡ get_or s 5 0 = rw q5 (omega (arith, h.byte 5)) in
@@ -113,5 +113,5 @@ bytes_back s h =
     (λ i. get_or s 0 0 ∷ get_or s 1 0 ∷ get_or s 2 0 ∷ get_or s 3 0 ∷ b4 i ∷ b5 i ∷ b6 i ∷ b7 i ∷ [])
     ∙ sym (listed-is 8 s h.eight)
 
-pub small : (s : Text) → EightBytes s → Small (recordAt s)
+pub small : (s : Text) → EightBytes s → Small (record_at s)
 small s h = subst Bytes (sym (bytes_back s h)) h.byte

@@ -3,30 +3,30 @@
 use Rattle.std.specs.Prelude.{Bool, true, false, cond, ◌&&◌, [], ◌∷◌, ◌++◌, ◌≡◌, ℕ, ◌<◌, ◌≤◌, leb, eqb, length, get_or, replicate}
 use Rattle.text.specs.Text.{Text, over}
 use Rattle.lines.specs.Lines.{word}
-use Rattle.model.specs.Records.{of, of_both, ofValue}
-use Rattle.records.specs.Bytes.{recordAt, recordBytes}
-use Rattle.phrases.specs.Phrases.{noStep, isListed, isListedIn}
-use Rattle.phrases.specs.Line.{reasonText, line}
+use Rattle.model.specs.Records.{of, of_both, of_value}
+use Rattle.records.specs.Bytes.{record_at, record_bytes}
+use Rattle.phrases.specs.Phrases.{no_step, is_listed, is_listed_in}
+use Rattle.phrases.specs.Line.{reason_text, line}
 
 -- The call, with the record's bytes s, the answer a and a slice whose bytes are `out`
 
 -- "An answer not on it, or a record not 8 bytes long, is refused 1": what is not.
-abbrev pub isTold : Text → ℕ → Bool
-isTold s a = eqb (length s) 8 && isListed a
+abbrev pub is_told : Text → ℕ → Bool
+is_told s a = eqb (length s) 8 && is_listed a
 
 -- "... then a short slice 3": the line's length, or the refusal.
 unfoldable pub result : Text → ℕ → Text → ℕ
-unfolding line isListedIn
+unfolding line is_listed_in
 result s a out =
-    let l = line (recordAt s) a in
-    cond (isTold s a) (cond (leb (length l) (length out)) (length l) 3) 1
+    let l = line (record_at s) a in
+    cond (is_told s a) (cond (leb (length l) (length out)) (length l) 3) 1
 
 -- "... the slice untouched": what the slice holds then.
 unfoldable pub left : Text → ℕ → Text → Text
-unfolding line isListedIn over
+unfolding line is_listed_in over
 left s a out =
-    let l = line (recordAt s) a in
-    cond (isTold s a && leb (length l) (length out)) (over out 0 l) out
+    let l = line (record_at s) a in
+    cond (is_told s a && leb (length l) (length out)) (over out 0 l) out
 
 -- Claims
 
@@ -37,34 +37,34 @@ pub record EightBytes (s : Text) : Type 0 where
 
 -- "Two different pairs of record and answer never give the same line."
 unfoldable pub LinesDiffer : Type 0
-unfolding line isListedIn
+unfolding line is_listed_in
 LinesDiffer =
-    (s s' : Text) (a a' : ℕ) → EightBytes s → EightBytes s' → isListed a ≡ true → isListed a' ≡ true
-    → line (recordAt s) a ≡ line (recordAt s') a' → (s ≡ s') × (a ≡ a')
+    (s s' : Text) (a a' : ℕ) → EightBytes s → EightBytes s' → is_listed a ≡ true → is_listed a' ≡ true
+    → line (record_at s) a ≡ line (record_at s') a' → (s ≡ s') × (a ≡ a')
 
 -- "The phrase list ... covers 0 to 16 and grows with each new number", by Paper 7 to 19: these are on it, and no other
 -- answer is; each has words for every step, and for malformed records.
 pub record Covers : Type 0 where
-  pub listed : (a : ℕ) → isListed a ≡ leb a 19
-  pub worded : (k a : ℕ) → k ≤ noStep → a ≤ 19 → 1 ≤ length (reasonText k a)
+  pub listed : (a : ℕ) → is_listed a ≡ leb a 19
+  pub worded : (k a : ℕ) → k ≤ no_step → a ≤ 19 → 1 ≤ length (reason_text k a)
 
 -- "one English line": printable bytes, and byte 10 at the end and nowhere else.
-abbrev pub isOneLine : Text → Bool
-isOneLine [] = false
-isOneLine (x ∷ []) = eqb x 10
-isOneLine (x ∷ y ∷ xs) = leb 32 x && leb x 126 && isOneLine (y ∷ xs)
+abbrev pub is_one_line : Text → Bool
+is_one_line [] = false
+is_one_line (x ∷ []) = eqb x 10
+is_one_line (x ∷ y ∷ xs) = leb 32 x && leb x 126 && is_one_line (y ∷ xs)
 
 unfoldable pub OneLine : Type 0
-unfolding line isListedIn
+unfolding line is_listed_in
 OneLine =
-    (s : Text) (a : ℕ) → EightBytes s → isListed a ≡ true → isOneLine (line (recordAt s) a) ≡ true
+    (s : Text) (a : ℕ) → EightBytes s → is_listed a ≡ true → is_one_line (line (record_at s) a) ≡ true
 
 -- No line is so short that its length could be a refusal, and none has more than 96 bytes.
 unfoldable pub LengthsTell : Type 0
-unfolding line isListedIn
+unfolding line is_listed_in
 LengthsTell =
-    (s : Text) (a : ℕ) → EightBytes s → isListed a ≡ true
-    → let l = line (recordAt s) a in (4 ≤ length l) × (length l ≤ 96)
+    (s : Text) (a : ℕ) → EightBytes s → is_listed a ≡ true
+    → let l = line (record_at s) a in (4 ≤ length l) × (length l ≤ 96)
 
 -- Trials
 
@@ -72,16 +72,16 @@ LengthsTell =
 unfoldable pub LinesHold : Type 0
 unfolding line
 LinesHold =
-    (line (ofValue 1 1 41) 0 ≡ word "board 1 appends value 41: accepted\n")
+    (line (of_value 1 1 41) 0 ≡ word "board 1 appends value 41: accepted\n")
     × (line (of 3 2) 5 ≡ word "add board 2: refused, the board is a member already\n")
     × (line (of_both 9 2 2) 1 ≡ word "record 09 02 02 00 00 00 00 00: refused, these eight bytes are no step\n")
 
 -- A slice one byte short is refused and keeps its bytes; one of the line's length is enough; a longer one keeps those
 -- past the line.
 unfoldable pub RoomHolds : Type 0
-unfolding result left recordBytes
+unfolding result left record_bytes
 RoomHolds =
-    let s = recordBytes (ofValue 1 1 41) in let l = word "board 1 appends value 41: accepted\n" in
+    let s = record_bytes (of_value 1 1 41) in let l = word "board 1 appends value 41: accepted\n" in
     (result s 0 (replicate 34 255) ≡ 3) × (left s 0 (replicate 34 255) ≡ replicate 34 255)
     × (result s 0 (replicate 35 255) ≡ 35) × (left s 0 (replicate 35 255) ≡ l)
     × (result s 0 (replicate 37 255) ≡ 35) × (left s 0 (replicate 37 255) ≡ l ++ (255 ∷ 255 ∷ []))

@@ -9,9 +9,9 @@ abbrev pub pieces : List Form → List Text
 pieces [] = []
 pieces (f ∷ fs) = word f.lead ∷ word f.trail ∷ pieces fs
 
-abbrev pub pieceText : ℕ → Text
-pieceText i = get_or (pieces forms) i []
+abbrev pub piece_text : ℕ → Text
+piece_text i = get_or (pieces forms) i []
 
 -- The phrase at place i.
-abbrev pub reasonAt : ℕ → Reason
-reasonAt i = get_or reasons i (of 0 [] "")
+abbrev pub reason_at : ℕ → Reason
+reason_at i = get_or reasons i (of 0 [] "")

@@ -41,8 +41,8 @@ forms =
     ∷ malformed
     ∷ []
 
-abbrev pub noStep : ℕ
-noStep = 16
+abbrev pub no_step : ℕ
+no_step = 16
 
 abbrev pub form_of : ℕ → Form
 form_of k = get_or forms k malformed
@@ -60,7 +60,7 @@ of n ks p = record { answer = n; steps = ks; phrase = p }
 
 -- A phrase for every step, and for a malformed record.
 abbrev pub any : ℕ → String → Reason
-any n p = of n (0 ∷ 1 ∷ 2 ∷ 3 ∷ 4 ∷ 5 ∷ 6 ∷ 7 ∷ 8 ∷ 9 ∷ 10 ∷ 11 ∷ 12 ∷ 13 ∷ 14 ∷ 15 ∷ noStep ∷ []) p
+any n p = of n (0 ∷ 1 ∷ 2 ∷ 3 ∷ 4 ∷ 5 ∷ 6 ∷ 7 ∷ 8 ∷ 9 ∷ 10 ∷ 11 ∷ 12 ∷ 13 ∷ 14 ∷ 15 ∷ no_step ∷ []) p
 
 -- The phrases, in the order of their answers. One number means different things in different steps: the phrases of
 -- single steps stand before the one for any. A new answer is a new line here.
@@ -68,7 +68,7 @@ abbrev pub reasons : List Reason
 reasons =
     (any 0 "accepted")
     ∷ (of 1 (0 ∷ []) "an opening stands first and nowhere else")
-    ∷ (of 1 (noStep ∷ []) "these eight bytes are no step")
+    ∷ (of 1 (no_step ∷ []) "these eight bytes are no step")
     ∷ (any 1 "the row or the memory for it is not valid")
     ∷ (any 2 "the sheet has a wrong length or no valid opening")
     ∷ (any 3 "the text is longer than the room for it")
@@ -130,18 +130,18 @@ has k [] = false
 has k (n ∷ ns) = eqb k n || has k ns
 
 -- Whether a phrase is for the answer a to the step k.
-abbrev pub isFor : ℕ → ℕ → Reason → Bool
-isFor k a r = eqb a r.answer && has k r.steps
+abbrev pub is_for : ℕ → ℕ → Reason → Bool
+is_for k a r = eqb a r.answer && has k r.steps
 
 -- The first phrase that is.
-unfoldable pub phraseIn : List Reason → ℕ → ℕ → String
-phraseIn [] k a = ""
-phraseIn (r ∷ rs) k a = cond (isFor k a r) r.phrase (phraseIn rs k a)
+unfoldable pub phrase_in : List Reason → ℕ → ℕ → String
+phrase_in [] k a = ""
+phrase_in (r ∷ rs) k a = cond (is_for k a r) r.phrase (phrase_in rs k a)
 
 -- "An answer not on it": whether some phrase is of the answer a.
-unfoldable pub isListedIn : List Reason → ℕ → Bool
-isListedIn [] a = false
-isListedIn (r ∷ rs) a = eqb a r.answer || isListedIn rs a
+unfoldable pub is_listed_in : List Reason → ℕ → Bool
+is_listed_in [] a = false
+is_listed_in (r ∷ rs) a = eqb a r.answer || is_listed_in rs a
 
-abbrev pub isListed : ℕ → Bool
-isListed a = isListedIn reasons a
+abbrev pub is_listed : ℕ → Bool
+is_listed a = is_listed_in reasons a

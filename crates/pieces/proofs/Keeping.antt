@@ -6,9 +6,9 @@ use Prim.Native.Nat.{ℕ, ◌≤◌}
 use native.Mathlib.Omega.{arith}
 use lib.Dec.{T}
 use Rattle.model.specs.Prelude.{upd}
-use Rattle.model.specs.Members.{isReplica}
-use Rattle.model.specs.State.{RowState, View, Status, normal, waiting, Stage, idle, entries, outline, stageNumber, stageFor}
-use Rattle.model.specs.Steps.{Step, refresh, join, receive, refreshController, readLeader, read, setNormal, hear, install, checks, accepted, next}
+use Rattle.model.specs.Members.{is_replica}
+use Rattle.model.specs.State.{RowState, View, Status, normal, waiting, Stage, idle, entries, outline, stage_number, stage_for}
+use Rattle.model.specs.Steps.{Step, refresh, join, receive, refreshController, read_leader, read, set_normal, hear, install, checks, accepted, next}
 use Rattle.model.proofs.Tests.{facts, by_cond, at-or, is_true, upd_same, upd_other}
 use Rattle.model.proofs.Quorum.{replica-range}
 use Rattle.pieces.specs.Pieces.{Leaders, Keeps}
@@ -35,7 +35,7 @@ keeps-receive b =
     by_next (receive b) (λ s k t. record { named = k.named; waiting = k.waiting; views = k.views; reads = k.reads })
 
 -- Stage leader is for status waiting alone.
-waits : (g : Status) → stageNumber (stageFor g) ≡ 1 → g ≡ waiting
+waits : (g : Status) → stage_number (stage_for g) ≡ 1 → g ≡ waiting
 waits normal e = absurd (omega (arith, e))
 waits waiting e = λ i. waiting
 waits Status.choosing e = absurd (omega (arith, e))
@@ -48,8 +48,8 @@ keeps-refresh-controller = by_next refreshController (λ s k t. record {
   reads = λ e. k.waiting (waits s.registry.status e);
 })
 
-pub keeps-read-leader : Keeps readLeader
-keeps-read-leader = by_next readLeader (λ s k t. record {
+pub keeps-read-leader : Keeps read_leader
+keeps-read-leader = by_next read_leader (λ s k t. record {
   named = k.named;
   waiting = k.waiting;
   views = k.views;
@@ -72,8 +72,8 @@ not-waiting : normal ≢ waiting
 unfolding place
 not-waiting e = let z : ◌≡◌ {A = ℕ} 0 1 = ap place e in omega (arith, z)
 
-pub keeps-set-normal : Keeps setNormal
-keeps-set-normal = by_next setNormal (λ s k t. record {
+pub keeps-set-normal : Keeps set_normal
+keeps-set-normal = by_next set_normal (λ s k t. record {
   named = k.named;
   waiting = λ e. absurd (not-waiting e);
   views = k.views;
@@ -85,7 +85,7 @@ keeps-install b = by_next (install b) (λ s k t.
     let r = facts (checks (outline s) (install b)) t 1 in
     record {
       named = (replica-range b r).1;
-      waiting = λ _. is_true (isReplica b) r;
+      waiting = λ _. is_true (is_replica b) r;
       views = k.views;
-      reads = λ _. is_true (isReplica b) r;
+      reads = λ _. is_true (is_replica b) r;
     })

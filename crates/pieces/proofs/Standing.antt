@@ -8,8 +8,8 @@ use native.Mathlib.Omega.{arith}
 use lib.Dec.{eqb}
 use lib.ListN.{length, replicate}
 use borrow.Author.Tests.{eq-eqb, ne_eqb}
-use Rattle.model.specs.Members.{isReplica}
-use Rattle.model.specs.State.{Entry, entries, RowState, Outline, outline, stageNumber}
+use Rattle.model.specs.Members.{is_replica}
+use Rattle.model.specs.State.{Entry, entries, RowState, Outline, outline, stage_number}
 use Rattle.model.specs.Steps.{Step, accepted, answer_of, step}
 use Rattle.model.specs.Records.{Record, bare, of, step_of}
 use Rattle.model.proofs.Tests.{eq-or-ne, le-or-lt}
@@ -17,11 +17,11 @@ use Rattle.model.proofs.Answer.{zero-accepted, nonzero-refused}
 use Rattle.members.proofs.Laws.{replica}
 use Rattle.cluster.specs.declared.Cluster.{Cluster}
 use Rattle.cluster.specs.declared.Outcome.{Outcome}
-use Rattle.cluster.specs.Layout.{at, no_view, stageOf}
+use Rattle.cluster.specs.Layout.{at, no_view, stage_of}
 use Rattle.refinement.specs.Refinement.{Places, logged, abs, Short}
 use Rattle.refinement.proofs.Turning.{at_none, log-len, logged-full}
 use Rattle.text.specs.Text.{Text}
-use Rattle.recovery.specs.Plan.{inBoards, times, put, putUnless, need, receives, informs, readsLeader}
+use Rattle.recovery.specs.Plan.{in_boards, times, put, put_unless, need, receives, informs, reads_leader}
 use Rattle.recovery.specs.Plan as P
 use Rattle.orders.specs.Orders.{orders}
 use Rattle.pieces.specs.declared.Draft.{Draft}
@@ -93,23 +93,23 @@ module _ (r : Record) (d : Draft) (p : Places) (o : Text) {x : Outcome} {p' : Pl
 
   -- A record with another answer than n is not left out.
   pub kept-moves : (n : ℕ) (y : Draft) (o' : Text) → x.answer ≢ n → Moves 1 (put entries r) d p o y p' o'
-      → Moves 1 (putUnless entries n r) d p o y p' o'
-  unfolding putUnless
+      → Moves 1 (put_unless entries n r) d p o y p' o'
+  unfolding put_unless
   kept-moves n y o' ne h = moves-as (λ m s. ap (λ u. cond u m (put entries r m)) (sym
       (ap (λ a. eqb a n) (answer-of r d.row p t m d.ok s.plays) ∙ ne_eqb x.answer n ne))) h
 
   -- A record with the answer n, a refusal, is left out.
-  pub left-moves : (n : ℕ) → 1 ≤ n → x.answer ≡ n → Fit d.row p → Moves 1 (putUnless entries n r) d p o d p' o
-  unfolding putUnless
+  pub left-moves : (n : ℕ) → 1 ≤ n → x.answer ≡ n → Fit d.row p → Moves 1 (put_unless entries n r) d p o d p' o
+  unfolding put_unless
   left-moves n some e f =
       let same = (t.refused (λ z. absurd (omega (arith, some, e, z)))).1 in
-      subst (λ q. Moves 1 (putUnless entries n r) d p o d q o) (sym same)
+      subst (λ q. Moves 1 (put_unless entries n r) d p o d q o) (sym same)
       (moves-as (λ m s. ap (λ u. cond u m (put entries r m)) (sym
       (ap (λ a. eqb a n) (answer-of r d.row p t m d.ok s.plays) ∙ eq-eqb x.answer n e)))
       (moves-none 1 d p o f))
 
 -- What is no replica has nothing.
-pub at-outside : {A : Type 0} (d : A) (xs : List A) (b : ℕ) → length xs ≡ 8 → isReplica b ≡ false → at d xs b ≡ d
+pub at-outside : {A : Type 0} (d : A) (xs : List A) (b : ℕ) → length xs ≡ 8 → is_replica b ≡ false → at d xs b ≡ d
 at-outside d xs zero e h = refl
 at-outside d xs (suc b) e h = ⊎_elim
     (λ l. absurd (true≢false (sym (replica (suc b) (omega arith) l) ∙ h)))
@@ -117,7 +117,7 @@ at-outside d xs (suc b) e h = ⊎_elim
 
 -- News, and who leads in the view after it.
 pub informs-moves : (l b : ℕ) (d : Draft) (p : Places) (o : Text) {e : Draft} {p' : Places} {o' : Text}
-    → Moves 1 (putUnless entries 12 (of 6 b)) d p o e p' o' → (k : ℕ) → k ≡ (at no_view e.row.views b).leader
+    → Moves 1 (put_unless entries 12 (of 6 b)) d p o e p' o' → (k : ℕ) → k ≡ (at no_view e.row.views b).leader
     → Moves 1 (informs entries l b) d p o (record { row = e.row; count = e.count; ok = e.ok && eqb k l }) p' o'
 unfolding informs need
 informs-moves l b d p o {e} {p'} {o'} h k q = record {
@@ -138,18 +138,18 @@ informs-moves l b d p o {e} {p'} {o'} h k q = record {
 
 -- The leader's reading, left out in stage boards.
 module _ (d : Draft) (p : Places) (o : Text) where
-  pub reads_none : stageNumber (stageOf d.row.controller.stage) ≡ 2 → Fit d.row p
-      → Moves 1 (readsLeader entries) d p o d p o
-  unfolding readsLeader
+  pub reads_none : stage_number (stage_of d.row.controller.stage) ≡ 2 → Fit d.row p
+      → Moves 1 (reads_leader entries) d p o d p o
+  unfolding reads_leader
   reads_none e f = moves-as (λ m s. ap (λ t. cond t m (put entries (bare 11) m)) (sym (
-      ap (λ (t : RowState). inBoards t.controller.stage) (sym s.plays.state) ∙ eq-eqb _ 2 e
+      ap (λ (t : RowState). in_boards t.controller.stage) (sym s.plays.state) ∙ eq-eqb _ 2 e
       ))) (moves-none 1 d p o f)
 
-  pub reads-put : stageNumber (stageOf d.row.controller.stage) ≢ 2 → {x : Draft} {p' : Places} {o' : Text}
-      → Moves 1 (put entries (bare 11)) d p o x p' o' → Moves 1 (readsLeader entries) d p o x p' o'
-  unfolding readsLeader
+  pub reads-put : stage_number (stage_of d.row.controller.stage) ≢ 2 → {x : Draft} {p' : Places} {o' : Text}
+      → Moves 1 (put entries (bare 11)) d p o x p' o' → Moves 1 (reads_leader entries) d p o x p' o'
+  unfolding reads_leader
   reads-put n h = moves-as (λ m s. ap (λ t. cond t m (put entries (bare 11) m)) (sym (
-      ap (λ (t : RowState). inBoards t.controller.stage) (sym s.plays.state) ∙ ne_eqb _ 2 n
+      ap (λ (t : RowState). in_boards t.controller.stage) (sym s.plays.state) ∙ ne_eqb _ 2 n
       ))) h
 
 -- Once more, at the end.

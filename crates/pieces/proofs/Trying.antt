@@ -7,8 +7,8 @@ use Rattle.model.specs.Records.{Record, step_of}
 use Rattle.model.proofs.Answer.{nonzero-refused}
 use Rattle.cluster.specs.declared.Cluster.{Cluster}
 use Rattle.cluster.specs.declared.Outcome.{Outcome}
-use Rattle.cluster.specs.Layout.{outlineOf}
-use Rattle.refinement.specs.Refinement.{Places, Full, abs, Shape, Ready, Turns, placesAfter}
+use Rattle.cluster.specs.Layout.{outline_of}
+use Rattle.refinement.specs.Refinement.{Places, Full, abs, Shape, Ready, Turns, places_after}
 use Rattle.refinement.proofs.Turning.{outline-abs}
 use Rattle.pieces.specs.Pieces.{Leaders, Keeps, Fit, Tried}
 
@@ -38,6 +38,6 @@ module _ (r : Record) (row : Cluster) (p : Places) (keeps : Keeps (step_of r)) (
         state = t.state;
         refused = λ n. (
           t.refused n,
-          t.places ∙ ap (λ u. cond u (placesAfter (step_of r) row p) p) (nonzero-refused (outlineOf row) (step_of r) (λ z. n (t.answer ∙ z))),
+          t.places ∙ ap (λ u. cond u (places_after (step_of r) row p) p) (nonzero-refused (outline_of row) (step_of r) (λ z. n (t.answer ∙ z))),
         );
       }

@@ -1,8 +1,8 @@
 -- A list that leads to normal, in the making on a row: the row after the records so far stands for the state of the
 -- model's draft. Cited by the contracts of pieces, drafting and planning. Assumes nothing.
 use Rattle.std.specs.Prelude.{Bool, true, ◌&&◌, [], ◌∷◌, ◌++◌, ◌≢◌, ◌≡◌, ℕ, suc, ◌+◌, ◌≤◌, eqb, length}
-use Rattle.model.specs.Members.{isReplica}
-use Rattle.model.specs.State.{Entry, entries, RowState, outline, waiting, stageNumber}
+use Rattle.model.specs.Members.{is_replica}
+use Rattle.model.specs.State.{Entry, entries, RowState, outline, waiting, stage_number}
 use Rattle.model.specs.Steps.{Step, answer_of, step}
 use Rattle.model.specs.Records.{Record, of, step_of}
 use Rattle.cluster.specs.declared.Cluster.{Cluster}
@@ -17,9 +17,9 @@ use Rattle.pieces.specs.declared.Draft.{Draft}
 -- waiting, and the controller has one at stage leader.
 pub record Leaders (s : RowState) : Type 0 where
   pub named : s.registry.view.leader ≤ 8
-  pub waiting : s.registry.status ≡ waiting → isReplica s.registry.view.leader ≡ true
+  pub waiting : s.registry.status ≡ waiting → is_replica s.registry.view.leader ≡ true
   pub views : (b : ℕ) → (s.view b).leader ≤ 8
-  pub reads : stageNumber s.controller.stage ≡ 1 → isReplica s.controller.view.leader ≡ true
+  pub reads : stage_number s.controller.stage ≡ 1 → is_replica s.controller.view.leader ≡ true
 
 -- A step that keeps them so. (Steps 6 to 15 do.)
 abbrev pub Keeps : Step → Type 0

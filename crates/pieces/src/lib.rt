@@ -110,7 +110,7 @@ pub fn put_unless(
 ) -> Draft
     requires { Keeps (R.step_of (R.of step board)) × (1 ≤ skip) × Fit d.row (lent store.old store2.old list.old list2.old)
         × (4 * (d.count + 1) ≤ length notes.old) }
-    ensures { Moves 1 (P.putUnless entries skip (R.of step board))
+    ensures { Moves 1 (P.put_unless entries skip (R.of step board))
         d (lent store.old store2.old list.old list2.old) notes.old
         result (lent store.new store2.new list.new list2.new) notes.new }
 {
@@ -392,7 +392,7 @@ pub fn reads_leader(
 ) -> Draft
     requires { Fit d.row (lent store.old store2.old list.old list2.old)
         × (4 * (d.count + 1) ≤ length notes.old) }
-    ensures { Moves 1 (P.readsLeader entries)
+    ensures { Moves 1 (P.reads_leader entries)
         d (lent store.old store2.old list.old list2.old) notes.old
         result (lent store.new store2.new list.new list2.new) notes.new }
 {

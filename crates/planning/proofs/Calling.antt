@@ -18,7 +18,7 @@ use Rattle.recovery.specs.Plan.{found, plan}
 use Rattle.recovery.specs.Claim.{Leads, LeadsToNormal, RunsRecover}
 use Rattle.pieces.specs.Pieces.{Fit}
 use Rattle.delivery.specs.declared.Planned.{Planned}
-use Rattle.delivery.specs.Delivery.{enough, planAnswer, planCount, planLeft, Gives}
+use Rattle.delivery.specs.Delivery.{enough, plan_answer, plan_count, plan_left, Gives}
 use Rattle.drafting.proofs.Fitting.{ranged-fit}
 use Rattle.planning.specs.Planning.{Plans, Recovers, CallsRecover, FollowsRecover}
 
@@ -47,10 +47,10 @@ follows-recover runs o real sts h ns qs f low out room x out' plans =
     let v = f.fit in
     let r = is_true (enough out) room in
     record {
-      answer = plans.answer ∙ ap₂ (λ t u. cond t (cond u (planAnswer q) 3) 1) v r ∙ ap planAnswer e;
+      answer = plans.answer ∙ ap₂ (λ t u. cond t (cond u (plan_answer q) 3) 1) v r ∙ ap plan_answer e;
       list = n.list;
-      count = plans.count ∙ ap₂ (λ t u. cond (t && u) (planCount q) 0) v r ∙ ap planCount e;
-      left = plans.left ∙ ap₂ (λ t u. cond (t && u) (planLeft q out) out) v r ∙ ap (λ w. planLeft w out) e;
+      count = plans.count ∙ ap₂ (λ t u. cond (t && u) (plan_count q) 0) v r ∙ ap plan_count e;
+      left = plans.left ∙ ap₂ (λ t u. cond (t && u) (plan_left q out) out) v r ∙ ap (λ w. plan_left w out) e;
       leads = subst (λ s. Leads entries s n.list) (sym f.state) n.leads;
     }
 

@@ -8,19 +8,19 @@ use lib.Dec.{T, ltb, eqb, lit<}
 use mir.Val.{bool_byte}
 use borrow.Author.Tests.{eqb-true, lt-ltb}
 use Rattle.model.specs.Prelude.{upd}
-use Rattle.model.specs.Members.{Members, isReplica, ◌∩◌, size, lowest}
+use Rattle.model.specs.Members.{Members, is_replica, ◌∩◌, size, lowest}
 use Rattle.model.proofs.Tests.{of-true}
 use Rattle.model.proofs.Quorum.{by-replica}
 use Rattle.recovery.specs.Plan.{first_of, highest}
 use Rattle.members.specs.Mask.{bits, under}
-use Rattle.cluster.specs.Layout.{at, controllerOf}
+use Rattle.cluster.specs.Layout.{at, controller_of}
 use Rattle.cluster.specs.declared.Controller.{Controller}
-use Rattle.ranking.specs.Rank.{rankedAbove, unsurpassed}
+use Rattle.ranking.specs.Rank.{ranked_above, unsurpassed}
 use Rattle.members.proofs.Finite.{all, below, each, at-replica}
 use Rattle.members.proofs.Laws.{replica, bits_out, same-members, size-le, under-meet}
 
 -- A mask without what is no replica is that mask.
-pub without-out : (m b : ℕ) → isReplica b ≡ false → bits m ≡ upd (bits m) b false
+pub without-out : (m b : ℕ) → is_replica b ≡ false → bits m ≡ upd (bits m) b false
 without-out m b e = fun_ext (λ x. go x (eqb x b) refl)
   where
     go : (x : ℕ) (t : Bool) → eqb x b ≡ t → bits m x ≡ cond t false (bits m x)
@@ -28,46 +28,46 @@ without-out m b e = fun_ext (λ x. go x (eqb x b) refl)
     go x false q = refl
 
 -- A set of replicas is gathered whole.
-pub under_all : (p : Members) → ((x : ℕ) → isReplica x ≡ false → p x ≡ false) → under 9 p ≡ p
+pub under_all : (p : Members) → ((x : ℕ) → is_replica x ≡ false → p x ≡ false) → under 9 p ≡ p
 under_all p out =
     same-members (under 9 p) p (λ x e. rw e (sym (out x e))) (λ x h k. rw (replica x h k, lt-ltb x 9 (omega arith)))
 
 -- How many of m are below b.
-unfoldable pub countBelow : ℕ → Members → ℕ
-countBelow b m = size ((λ y. ltb y b) ∩ m)
+unfoldable pub count_below : ℕ → Members → ℕ
+count_below b m = size ((λ y. ltb y b) ∩ m)
 
-moreTest : ℕ → ℕ → Bool
-moreTest m b = eqb (countBelow b (bits m) + bool_byte (bits m b)) (countBelow (b + 1) (bits m))
+more_test : ℕ → ℕ → Bool
+more_test m b = eqb (count_below b (bits m) + bool_byte (bits m b)) (count_below (b + 1) (bits m))
 
-more-passes : all (λ m. each (moreTest m)) 256 ≡ true
-unfolding bits moreTest countBelow
+more-passes : all (λ m. each (more_test m)) 256 ≡ true
+unfolding bits more_test count_below
 more-passes = refl
 
 -- One more if b is of m.
 pub count-more : (m b : ℕ) → m < 256 → 1 ≤ b → b ≤ 8
-    → countBelow b (bits m) + bool_byte (bits m b) ≡ countBelow (b + 1) (bits m)
-unfolding moreTest
+    → count_below b (bits m) + bool_byte (bits m b) ≡ count_below (b + 1) (bits m)
+unfolding more_test
 count-more m b hm h k =
-    eqb-true _ _ (at-replica (moreTest m) (below (λ n. each (moreTest n)) 256 more-passes m hm) b h k)
+    eqb-true _ _ (at-replica (more_test m) (below (λ n. each (more_test n)) 256 more-passes m hm) b h k)
 
-pub count-le : (b : ℕ) (m : Members) → countBelow b m ≤ 8
-unfolding countBelow
+pub count-le : (b : ℕ) (m : Members) → count_below b m ≤ 8
+unfolding count_below
 count-le b m = size-le ((λ y. ltb y b) ∩ m)
 
 pub byte_le : (t : Bool) → bool_byte t ≤ 1
 byte_le true = omega arith
 byte_le false = omega arith
 
-pub count_none : (m : Members) → countBelow 1 m ≡ 0
-unfolding countBelow
+pub count_none : (m : Members) → count_below 1 m ≡ 0
+unfolding count_below
 count_none m = refl
 
 -- The first n of a mask, each by how many are below it.
-pub first-at : (m n b : ℕ) → first_of n (bits m) b ≡ (bits m b && ltb (countBelow b (bits m)) n)
-unfolding countBelow
+pub first-at : (m n b : ℕ) → first_of n (bits m) b ≡ (bits m b && ltb (count_below b (bits m)) n)
+unfolding count_below
 first-at m n b = refl
 
-pub first_out : (m n x : ℕ) → isReplica x ≡ false → first_of n (bits m) x ≡ false
+pub first_out : (m n x : ℕ) → is_replica x ≡ false → first_of n (bits m) x ≡ false
 first_out m n x e = rw (bits_out m x e)
 
 -- Highest ranked
@@ -75,15 +75,15 @@ first_out m n x e = rw (bits_out m x e)
 module _ (heard joined : List ℕ) (q : ℕ) where
   -- b passes: it is of q, and the mask of those of q that rank above it is empty.
   pub passes : (b l k a o n : ℕ) (t : Bool) → l ≡ at 0 heard b → k ≡ at 0 joined b
-      → bits a ≡ under 9 (rankedAbove heard joined l k) → bits o ≡ bits q ∩ bits a → t ≡ bits q b → n ≡ size (bits o)
+      → bits a ≡ under 9 (ranked_above heard joined l k) → bits o ≡ bits q ∩ bits a → t ≡ bits q b → n ≡ size (bits o)
       → (t && eqb n 0) ≡ unsurpassed heard joined (bits q) b
   unfolding unsurpassed
   passes b l k a o n t el ek ea eo et en =
-      let p = rankedAbove heard joined l k in
+      let p = ranked_above heard joined l k in
       let e : bits o ≡ bits q ∩ p = eo ∙ rw ea (under-meet p q) in
       rw (et, en, e, el, ek)
 
-  pub unsurpassed-out : (x : ℕ) → isReplica x ≡ false → unsurpassed heard joined (bits q) x ≡ false
+  pub unsurpassed-out : (x : ℕ) → is_replica x ≡ false → unsurpassed heard joined (bits q) x ≡ false
   unfolding unsurpassed
   unsurpassed-out x e = rw (bits_out q x e)
 
@@ -93,8 +93,8 @@ module _ (heard joined : List ℕ) (q : ℕ) where
 
 -- The lowest of those is the highest ranked, lowest number on a tie.
 pub highest-is : (c : Controller) (q : ℕ)
-    → lowest (unsurpassed c.heard c.joined (bits q)) ≡ highest (controllerOf c) (bits q)
-unfolding unsurpassed rankedAbove
+    → lowest (unsurpassed c.heard c.joined (bits q)) ≡ highest (controller_of c) (bits q)
+unfolding unsurpassed ranked_above
 highest-is c q = refl
 
 -- The first that is met in turn is the lowest.

@@ -5,9 +5,9 @@ use Rattle.model.specs.Members.{Members, ◌∩◌, size}
 use Rattle.cluster.specs.Layout.{at}
 
 -- "By joined epoch first, then length": those that rank above length l and joined epoch k.
-unfoldable pub rankedAbove : List ℕ → List ℕ → ℕ → ℕ → Members
-rankedAbove heard joined l k x = ltb k (at 0 joined x) || (eqb k (at 0 joined x) && ltb l (at 0 heard x))
+unfoldable pub ranked_above : List ℕ → List ℕ → ℕ → ℕ → Members
+ranked_above heard joined l k x = ltb k (at 0 joined x) || (eqb k (at 0 joined x) && ltb l (at 0 heard x))
 
 -- "The highest ranked of them as heard": those of q above whom none of q ranks.
 unfoldable pub unsurpassed : List ℕ → List ℕ → Members → Members
-unsurpassed heard joined q x = q x && eqb (size (q ∩ rankedAbove heard joined (at 0 heard x) (at 0 joined x))) 0
+unsurpassed heard joined q x = q x && eqb (size (q ∩ ranked_above heard joined (at 0 heard x) (at 0 joined x))) 0

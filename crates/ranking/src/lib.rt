@@ -6,8 +6,8 @@ ghost use Rattle.model.specs.Prelude.{upd};
 ghost use Rattle.recovery.specs.Plan as P;
 ghost use Rattle.recovery.specs.Plan.{first_of};
 ghost use Rattle.members.specs.Mask.{bits, under};
-ghost use Rattle.cluster.specs.Layout.{controllerOf};
-ghost use Rattle.ranking.specs.Rank.{rankedAbove, unsurpassed};
+ghost use Rattle.cluster.specs.Layout.{controller_of};
+ghost use Rattle.ranking.specs.Rank.{ranked_above, unsurpassed};
 
 use cluster::{Controller, replica};
 
@@ -58,7 +58,7 @@ fn above(h: u16, j: u16, l: u16, k: u16) -> bool
 
 // Those that rank above length l and joined epoch k.
 fn ranked_above(heard: [u16; 8], joined: [u16; 8], l: u16, k: u16) -> u8
-    ensures { bits result ≡ under 9 (rankedAbove heard joined l k) }
+    ensures { bits result ≡ under 9 (ranked_above heard joined l k) }
 {
     let mut q: u8 = 0;
     let mut b: u8 = 1;
@@ -84,7 +84,7 @@ fn is_unsurpassed(heard: [u16; 8], joined: [u16; 8], q: u8, b: u8) -> bool
 // "The highest ranked of them as heard, lowest number on a tie": of q, as the controller has heard them; 0 for the
 // empty set.
 pub fn highest(c: Controller, q: u8) -> u8
-    ensures { result ≡ P.highest (controllerOf c) (bits q) }
+    ensures { result ≡ P.highest (controller_of c) (bits q) }
 {
     let heard = c.heard;
     let joined = c.joined;

@@ -10,7 +10,7 @@ use lib.Dec.{ltb}
 use borrow.Author.Tests.{le-leb, ltb-true, ltb-false}
 use Rattle.text.specs.Text.{Text, digits}
 use Rattle.text.proofs.Laws.{digits-one, digits_more}
-use Rattle.reading.specs.Reading.{isDigit, leading, reads}
+use Rattle.reading.specs.Reading.{is_digit, leading, reads}
 
 -- A fact of every number's digits, by the last digit.
 module _ (P : ℕ → Text → Type 0) (one : (n : ℕ) → n < 10 → P n ((48 + n) ∷ []))
@@ -39,37 +39,37 @@ digits-back =
 pub digits-differ : (n m : ℕ) → digits n ≡ digits m → n ≡ m
 digits-differ n m e = sym (digits-back n) ∙ ap (reads 0) e ∙ digits-back m
 
-pub is_digit : (x : ℕ) → 48 ≤ x → x ≤ 57 → isDigit x ≡ true
-is_digit x l h = rw (le-leb 48 x l, le-leb x 57 h)
+pub is_digit_lem : (x : ℕ) → 48 ≤ x → x ≤ 57 → is_digit x ≡ true
+is_digit_lem x l h = rw (le-leb 48 x l, le-leb x 57 h)
 
 -- The digits of a number are all digits,
-digits-lead : (n : ℕ) (rest : Text) → leading isDigit (digits n ++ rest) ≡ digits n ++ leading isDigit rest
+digits-lead : (n : ℕ) (rest : Text) → leading is_digit (digits n ++ rest) ≡ digits n ++ leading is_digit rest
 digits-lead =
-    by_digits (λ n xs. (rest : Text) → leading isDigit (xs ++ rest) ≡ xs ++ leading isDigit rest)
-    (λ n h rest. rw (is_digit (48 + n) (omega arith) (omega arith)))
+    by_digits (λ n xs. (rest : Text) → leading is_digit (xs ++ rest) ≡ xs ++ leading is_digit rest)
+    (λ n h rest. rw (is_digit_lem (48 + n) (omega arith) (omega arith)))
     (λ n xs l h rest.
     let d = (48 + n % 10) ∷ [] in
-    let e = is_digit (48 + n % 10) (omega arith) (omega arith) in
-    rw (append_assoc xs d rest, append_assoc xs d (leading isDigit rest), h (d ++ rest), e))
+    let e = is_digit_lem (48 + n % 10) (omega arith) (omega arith) in
+    rw (append_assoc xs d rest, append_assoc xs d (leading is_digit rest), h (d ++ rest), e))
 
 -- and they end where no digit follows.
-number-ends : (n : ℕ) (xs : Text) → leading isDigit xs ≡ [] → leading isDigit (digits n ++ xs) ≡ digits n
+number-ends : (n : ℕ) (xs : Text) → leading is_digit xs ≡ [] → leading is_digit (digits n ++ xs) ≡ digits n
 number-ends n xs e = digits-lead n xs ∙ ap (λ t. digits n ++ t) e ∙ append-nil (digits n)
 
-pub number-lead : (n c : ℕ) (cs : Text) → isDigit c ≡ false → leading isDigit (digits n ++ (c ∷ cs)) ≡ digits n
+pub number-lead : (n c : ℕ) (cs : Text) → is_digit c ≡ false → leading is_digit (digits n ++ (c ∷ cs)) ≡ digits n
 number-lead n c cs e = number-ends n (c ∷ cs) (rw e)
 
 -- So number and rest are known.
-pub cut-digits : (n m : ℕ) (xs ys : Text) → leading isDigit xs ≡ [] → leading isDigit ys ≡ []
+pub cut-digits : (n m : ℕ) (xs ys : Text) → leading is_digit xs ≡ [] → leading is_digit ys ≡ []
     → digits n ++ xs ≡ digits m ++ ys → (n ≡ m) × (xs ≡ ys)
 cut-digits n m xs ys h k e = (digits-differ n m same, append_cancel_left (digits m) xs ys rest)
   where
     same : digits n ≡ digits m
-    same = sym (number-ends n xs h) ∙ ap (leading isDigit) e ∙ number-ends m ys k
+    same = sym (number-ends n xs h) ∙ ap (leading is_digit) e ∙ number-ends m ys k
 
     rest : digits m ++ xs ≡ digits m ++ ys
     rest = ap (λ l. l ++ xs) (sym same) ∙ e
 
-pub cut-number : (n m c d : ℕ) (xs ys : Text) → isDigit c ≡ false → isDigit d ≡ false
+pub cut-number : (n m c d : ℕ) (xs ys : Text) → is_digit c ≡ false → is_digit d ≡ false
     → digits n ++ (c ∷ xs) ≡ digits m ++ (d ∷ ys) → (n ≡ m) × (c ∷ xs ≡ d ∷ ys)
 cut-number n m c d xs ys h k e = cut-digits n m (c ∷ xs) (d ∷ ys) (rw h) (rw k) e

@@ -12,19 +12,19 @@ use lib.Seq.{drop-cons, ext_get_or}
 use borrow.Author.Tests.{le-leb, lt-leb}
 use Rattle.model.proofs.Tests.{le-or-lt, eq-or-ne}
 use Rattle.text.specs.Text.{Text}
-use Rattle.reading.specs.Reading.{isDigit, digitsAt, reads}
-use Rattle.reading.proofs.Decimal.{is_digit}
+use Rattle.reading.specs.Reading.{is_digit, digits_at, reads}
+use Rattle.reading.proofs.Decimal.{is_digit_lem}
 
 -- Where a digit stands, it comes first,
-digit-first : (s : Text) (i : ℕ) → i < length s → isDigit (get_or s i 0) ≡ true
-    → digitsAt s i ≡ get_or s i 0 ∷ digitsAt s (i + 1)
+digit-first : (s : Text) (i : ℕ) → i < length s → is_digit (get_or s i 0) ≡ true
+    → digits_at s i ≡ get_or s i 0 ∷ digits_at s (i + 1)
 digit-first s i h e = rw (drop-cons s i 0 h, e, add-one i)
 
 -- and there are none where another byte stands, or at the end.
-none_first : (s : Text) (i : ℕ) → (i < length s → isDigit (get_or s i 0) ≡ false) → digitsAt s i ≡ []
+none_first : (s : Text) (i : ℕ) → (i < length s → is_digit (get_or s i 0) ≡ false) → digits_at s i ≡ []
 none_first s i f = go (le-or-lt (length s) i)
   where
-    go : (length s ≤ i) ⊎ (i < length s) → digitsAt s i ≡ []
+    go : (length s ≤ i) ⊎ (i < length s) → digits_at s i ≡ []
     go (inl h) = rw (drop_of_length-le s h)
     go (inr h) = rw (drop-cons s i 0 h, f h)
 
@@ -32,8 +32,8 @@ none_first s i f = go (le-or-lt (length s) i)
 pub record Sofar (s : Text) (at v i : ℕ) : Type 0 where
   pub after : at ≤ i
   pub within : i ≤ length s
-  pub value : reads v (digitsAt s i) ≡ reads 0 (digitsAt s at)
-  pub end : i + length (digitsAt s i) ≡ at + length (digitsAt s at)
+  pub value : reads v (digits_at s i) ≡ reads 0 (digits_at s at)
+  pub end : i + length (digits_at s i) ≡ at + length (digits_at s at)
   pub small : v < 10 ^ (i - at)
 
 pub begin : (s : Text) (at : ℕ) → at ≤ length s → Sofar s at 0 at
@@ -44,7 +44,7 @@ begin s at h =
 pub sofar-next : {s : Text} {at v i : ℕ} → Sofar s at v i → i < length s → 48 ≤ get_or s i 0 → get_or s i 0 ≤ 57
     → Sofar s at (10 * v + (get_or s i 0 - 48)) (i + 1)
 sofar-next {s} {at} {v} {i} q l low high =
-    let e = digit-first s i l (is_digit (get_or s i 0) low high) in
+    let e = digit-first s i l (is_digit_lem (get_or s i 0) low high) in
     let p : i + 1 - at ≡ suc (i - at) = omega (arith, q.after) in
     record {
       after = omega (arith, q.after);
@@ -62,16 +62,16 @@ bounded {s} {at} {v} {i} q h =
     omega (arith, q.small, b)
 
 -- Where no digit is left the number is read.
-pub stopped : {s : Text} {at v i : ℕ} → Sofar s at v i → (i < length s → isDigit (get_or s i 0) ≡ false)
-    → (v ≡ reads 0 (digitsAt s at)) × (i ≡ at + length (digitsAt s at))
+pub stopped : {s : Text} {at v i : ℕ} → Sofar s at v i → (i < length s → is_digit (get_or s i 0) ≡ false)
+    → (v ≡ reads 0 (digits_at s at)) × (i ≡ at + length (digits_at s at))
 stopped {s} {at} {v} {i} q f =
     let e = none_first s i f in
     (ap (reads v) (sym e) ∙ q.value, omega (arith, q.end, ap length e))
 
-pub below-digits : (x : ℕ) → x < 48 → isDigit x ≡ false
+pub below-digits : (x : ℕ) → x < 48 → is_digit x ≡ false
 below-digits x h = rw (lt-leb 48 x h)
 
-pub above-digits : (x : ℕ) → 57 < x → isDigit x ≡ false
+pub above-digits : (x : ℕ) → 57 < x → is_digit x ≡ false
 above-digits x h = rw (le-leb 48 x (omega arith), lt-leb x 57 h)
 
 -- Two texts, compared: the first i bytes agree.

@@ -1,7 +1,7 @@
 // Reading a line: a number within a text, and whether two texts are the same.
 
 ghost use Rattle.std.specs.Prelude.{◌↔◌, ◌≡◌, ◌+◌, ◌≤◌, T, length};
-ghost use Rattle.reading.specs.Reading.{digitsAt, reads};
+ghost use Rattle.reading.specs.Reading.{digits_at, reads};
 
 // A number, and the place after its digits.
 #[derive(Drop)]
@@ -14,8 +14,8 @@ pub struct Number {
 // text is so short that its numbers fit.
 pub fn number_at(s: &[u8], at: usize) -> Number
     requires { (at ≤ length s.now) × (length s.now ≤ 16) }
-    ensures { (result.value ≡ reads 0 (digitsAt s.now at))
-        × (result.end ≡ at + length (digitsAt s.now at)) }
+    ensures { (result.value ≡ reads 0 (digits_at s.now at))
+        × (result.end ≡ at + length (digits_at s.now at)) }
 {
     let mut v: u64 = 0;
     let mut i = at;

@@ -11,10 +11,10 @@ use lib.Seq.{get_or-drop, drop-drop}
 use Rattle.model.specs.Records.{Record}
 use Rattle.model.proofs.Tests.{split-and}
 use Rattle.text.specs.Text.{Text}
-use Rattle.records.specs.Bytes.{recordAt, number, records, wholeRecords}
+use Rattle.records.specs.Bytes.{record_at, number, records, whole_records}
 
 -- Whole records, one at least: room for the first.
-pub room : (n : ℕ) → wholeRecords n ≡ true → 0 + 8 ≤ n
+pub room : (n : ℕ) → whole_records n ≡ true → 0 + 8 ≤ n
 room n e =
     omega (
       arith,
@@ -30,7 +30,7 @@ module _ (s : List ℕ) (at : ℕ) where
         other = get_or s (at + 2) 0;
         spare = get_or s (at + 3) 0;
         value = v;
-      }) (recordAt (drop at s))
+      }) (record_at (drop at s))
   decoded v e = λ i. record {
     step = first i;
     board = sym (get_or-drop at s 1 0) i;
@@ -39,20 +39,20 @@ module _ (s : List ℕ) (at : ℕ) where
     value = valued i;
   }
     where
-      first : get_or s at 0 ≡ (recordAt (drop at s)).step
+      first : get_or s at 0 ≡ (record_at (drop at s)).step
       first = rw (get_or-drop at s 0 0, add-zero at)
 
-      valued : v ≡ (recordAt (drop at s)).value
+      valued : v ≡ (record_at (drop at s)).value
       valued = e ∙ rw (get_or-drop at s 4 0, get_or-drop at s 5 0, get_or-drop at s 6 0, get_or-drop at s 7 0)
 
 -- One record more.
-pub records-suc : (k : ℕ) (s : Text) → records (suc k) s ≡ records k s ++ (recordAt (drop (8 * k) s) ∷ [])
+pub records-suc : (k : ℕ) (s : Text) → records (suc k) s ≡ records k s ++ (record_at (drop (8 * k) s) ∷ [])
 unfolding records
 records-suc zero s = refl
 records-suc (suc k) s =
     let n : 8 + 8 * k ≡ 8 * suc k = omega arith in
     let d : drop (8 * k) (drop 8 s) ≡ drop (8 * suc k) s = drop-drop (8 * k) 8 s ∙ ap (λ m. drop m s) n in
-    ap (λ rs. recordAt s ∷ rs) (records-suc k (drop 8 s) ∙ ap (λ t. records k (drop 8 s) ++ (recordAt t ∷ [])) d)
+    ap (λ rs. record_at s ∷ rs) (records-suc k (drop 8 s) ∙ ap (λ t. records k (drop 8 s) ++ (record_at t ∷ [])) d)
 
 pub records-length : (n : ℕ) (s : Text) → length (records n s) ≡ n
 unfolding records

@@ -4,15 +4,15 @@ use Rattle.std.specs.Prelude.{Bool, ◌&&◌, List, [], ◌∷◌, ◌++◌, ℕ
 use Rattle.model.specs.Records.{Record}
 use Rattle.text.specs.Text.{Text}
 -- The model's test of a valid opening, under a name of this file too.
-pub use Rattle.model.specs.Records.{isOpening}
+pub use Rattle.model.specs.Records.{is_opening}
 
 -- Four bytes as a number, the low byte first.
 abbrev pub number : ℕ → ℕ → ℕ → ℕ → ℕ
 number a b c d = a + 256 * b + 65536 * c + 16777216 * d
 
 -- "A record is 8 bytes": the step, the board, b in step 9, a zero byte, the value with its low byte first.
-abbrev pub recordAt : Text → Record
-recordAt s = record {
+abbrev pub record_at : Text → Record
+record_at s = record {
   step = get_or s 0 0;
   board = get_or s 1 0;
   other = get_or s 2 0;
@@ -21,26 +21,26 @@ recordAt s = record {
 }
 
 -- Those bytes of a record. (A value has 32 bits.)
-unfoldable pub recordBytes : Record → Text
-recordBytes r =
+unfoldable pub record_bytes : Record → Text
+record_bytes r =
     r.step ∷ r.board ∷ r.other ∷ r.spare
     ∷ r.value % 256 ∷ r.value / 256 % 256 ∷ r.value / 65536 % 256 ∷ r.value / 16777216 % 256 ∷ []
 
 -- The records rs as bytes, one after the other.
-unfoldable pub sheetBytes : List Record → Text
-unfolding recordBytes
-sheetBytes [] = []
-sheetBytes (r ∷ rs) = recordBytes r ++ sheetBytes rs
+unfoldable pub sheet_bytes : List Record → Text
+unfolding record_bytes
+sheet_bytes [] = []
+sheet_bytes (r ∷ rs) = record_bytes r ++ sheet_bytes rs
 
 -- The first n records.
 unfoldable pub records : ℕ → Text → List Record
 records zero s = []
-records (suc n) s = recordAt s ∷ records n (drop 8 s)
+records (suc n) s = record_at s ∷ records n (drop 8 s)
 
 -- "A sheet has 1 to 4,095 records": whether n bytes are so many.
-abbrev pub wholeRecords : ℕ → Bool
-wholeRecords n = eqb (n % 8) 0 && leb 1 (n / 8) && leb (n / 8) 4095
+abbrev pub whole_records : ℕ → Bool
+whole_records n = eqb (n % 8) 0 && leb 1 (n / 8) && leb (n / 8) 4095
 
 -- A sheet that document 01's refusal 2 lets through. (The empty one, which it does not, has a listing: crate `sheet`.)
-abbrev pub isSheet : Text → Bool
-isSheet s = wholeRecords (length s) && isOpening (recordAt s)
+abbrev pub is_sheet : Text → Bool
+is_sheet s = whole_records (length s) && is_opening (record_at s)

@@ -3,5 +3,5 @@ use Rattle.model.specs.Records as R
 use Rattle.records.specs.declared.Record.{Record}
 
 -- The model's record of a record.
-abbrev pub recordOf : Record → R.Record
-recordOf r = record { step = r.step; board = r.board; other = r.other; spare = r.spare; value = r.value }
+abbrev pub record_of : Record → R.Record
+record_of r = record { step = r.step; board = r.board; other = r.other; spare = r.spare; value = r.value }

@@ -2,8 +2,8 @@
 
 ghost use Rattle.std.specs.Prelude.{◌≡◌, cond, ◌&&◌, ◌+◌, ◌≤◌, eqb, length, drop};
 ghost use Rattle.text.specs.Text.{Wrote};
-ghost use Rattle.records.specs.Record.{recordOf};
-ghost use Rattle.records.specs.Bytes.{number, recordAt, recordBytes, wholeRecords, isOpening, isSheet};
+ghost use Rattle.records.specs.Record.{record_of};
+ghost use Rattle.records.specs.Bytes.{number, record_at, record_bytes, whole_records, is_opening, is_sheet};
 
 // A record of a sheet: its step, its board (a in step 9), b in step 9, a spare byte, the value.
 #[derive(Drop)]
@@ -48,7 +48,7 @@ fn little(a: u8, b: u8, c: u8, d: u8) -> u32
 // The record at place at of a sheet. Inner layer: callers see to it that it is whole.
 pub fn decode(sheet: &[u8], at: usize) -> Record
     requires { at + 8 ≤ length sheet.now }
-    ensures { recordOf result ≡ recordAt (drop at sheet.now) }
+    ensures { record_of result ≡ record_at (drop at sheet.now) }
 {
     let v = little(sheet[at + 4], sheet[at + 5], sheet[at + 6], sheet[at + 7]);
     Record {
@@ -62,7 +62,7 @@ pub fn decode(sheet: &[u8], at: usize) -> Record
 
 // The eight bytes of a record.
 pub fn bytes(r: Record) -> [u8; 8]
-    ensures { result ≡ recordBytes (recordOf r) }
+    ensures { result ≡ record_bytes (record_of r) }
 {
     let v = r.value;
     [
@@ -80,7 +80,7 @@ pub fn bytes(r: Record) -> [u8; 8]
 // Writes the bytes of a record at place at and answers the place after it. Inner layer: callers see to the room.
 pub fn encode(out: &mut [u8], at: usize, r: Record) -> usize
     requires { at + 8 ≤ length out.old }
-    ensures { Wrote out.old at (recordBytes (recordOf r)) out.new result }
+    ensures { Wrote out.old at (record_bytes (record_of r)) out.new result }
 {
     let b = bytes(r);
     text::put_bytes(&mut *out, at, &b)
@@ -88,21 +88,21 @@ pub fn encode(out: &mut [u8], at: usize, r: Record) -> usize
 
 // Whether a record is the opening.
 fn opens(r: Record) -> bool
-    ensures { result ≡ isOpening (recordOf r) }
+    ensures { result ≡ is_opening (record_of r) }
 {
     (r.step == 0) & cluster::replica(r.board) & (r.other == 0) & (r.spare == 0) & (r.value == 0)
 }
 
 // Whether n bytes are whole records, 1 to 4,095 of them.
 fn whole(n: usize) -> bool
-    ensures { result ≡ wholeRecords n }
+    ensures { result ≡ whole_records n }
 {
     (n % 8 == 0) & (1 <= n / 8) & (n / 8 <= 4095)
 }
 
 // Whether document 01's refusal 2 lets a sheet through.
 pub fn is_sheet(sheet: &[u8]) -> bool
-    ensures { result ≡ isSheet sheet.now }
+    ensures { result ≡ is_sheet sheet.now }
 {
     if !whole(sheet.len()) {
         return false;

@@ -7,26 +7,26 @@ use Prim.Native.Nat.{ℕ, zero, suc, ◌≤◌}
 use native.Mathlib.Omega.{arith}
 use lib.Dec.{T, eqb, leb, leb→le}
 use lib.ListN.{length}
-use Rattle.model.specs.Prelude.{Check, ◌else◌, firstFailed, passes}
+use Rattle.model.specs.Prelude.{Check, ◌else◌, first_failed, passes}
 use Rattle.model.specs.Members.{Members}
 use Rattle.model.specs.State.{outline, Entries, Status, normal, waiting, State}
-use Rattle.model.specs.Steps.{Step, setNormal, accepted, answer_of, checks, next, step}
+use Rattle.model.specs.Steps.{Step, set_normal, accepted, answer_of, checks, next, step}
 use Rattle.model.specs.Records.{Record, bare, of, step_of}
 use Rattle.model.specs.Runs.{steps_of, run, answers}
 use Rattle.model.proofs.Tests.{by_cond, join-and, split-and, is_true, of-true}
 use Rattle.model.proofs.Theorem.{run-append}
-use Rattle.recovery.specs.Plan.{Draft, start, inBoards, found, error, times, turns, put, putUnless, need, informsController, hears, choosingPart, informs, receives, follows, readsLeader, waitingPart, draft, plan}
-use Rattle.recovery.specs.Claim.{allZero, Leads}
+use Rattle.recovery.specs.Plan.{Draft, start, in_boards, found, error, times, turns, put, put_unless, need, informs_controller, hears, choosing_part, informs, receives, follows, reads_leader, waiting_part, draft, plan}
+use Rattle.recovery.specs.Claim.{all_zero, Leads}
 
-passes-zero : (cs : List Check) → T (passes cs) → firstFailed cs ≡ 0
+passes-zero : (cs : List Check) → T (passes cs) → first_failed cs ≡ 0
 passes-zero [] t = refl
 passes-zero ((c else n) ∷ cs) t = let h = split-and c (passes cs) t in rw (is_true c h.0) (passes-zero cs h.1)
 
-zero-append : (xs ys : List ℕ) → T (allZero xs) → T (allZero ys) → T (allZero (xs ++ ys))
+zero-append : (xs ys : List ℕ) → T (all_zero xs) → T (all_zero ys) → T (all_zero (xs ++ ys))
 zero-append [] ys h k = k
 zero-append (x ∷ xs) ys h k =
-    let z = split-and (eqb x 0) (allZero xs) h in
-    join-and (eqb x 0) (allZero (xs ++ ys)) z.0 (zero-append xs ys z.1 k)
+    let z = split-and (eqb x 0) (all_zero xs) h in
+    join-and (eqb x 0) (all_zero (xs ++ ys)) z.0 (zero-append xs ys z.1 k)
 
 steps-append : (rs more : List Record) → steps_of (rs ++ more) ≡ steps_of rs ++ steps_of more
 steps-append [] more = refl
@@ -57,7 +57,7 @@ module _ (𝓔 : Entries) where
   unfolding run
   run-one s st = refl
 
-  zero_one : (s : State Entry) (st : Step) → T (accepted (outline s) st) → T (allZero (answers 𝓔 s (st ∷ [])))
+  zero_one : (s : State Entry) (st : Step) → T (accepted (outline s) st) → T (all_zero (answers 𝓔 s (st ∷ [])))
   unfolding answers
   zero_one s st t = rw (passes-zero (checks (outline s) st) t) tt
 
@@ -65,7 +65,7 @@ module _ (𝓔 : Entries) where
     -- The steps lead from s to t, and are accepted in turn if ok.
     record Leading (ok : Bool) (t : State Entry) (sts : List Step) : Type 0 where
       reaches : run 𝓔 s sts ≡ t
-      zeros : T ok → T (allZero (answers 𝓔 s sts))
+      zeros : T ok → T (all_zero (answers 𝓔 s sts))
 
     -- The records of a draft lead to its state, and are accepted in turn if no error was met.
     abbrev Fair : Draft Entry → Type 0
@@ -81,9 +81,9 @@ module _ (𝓔 : Entries) where
       reaches = run-append 𝓔 s sts (st ∷ []) ∙ ap (λ x. run 𝓔 x (st ∷ [])) k.reaches ∙ run-one t st;
       zeros = λ h.
           let z = split-and d.sound new h in
-          subst (λ xs. T (allZero xs)) (sym (answers-append s sts (st ∷ [])))
+          subst (λ xs. T (all_zero xs)) (sym (answers-append s sts (st ∷ [])))
           (zero-append (answers 𝓔 s sts) (answers 𝓔 (run 𝓔 s sts) (st ∷ [])) (k.zeros z.0)
-          (subst (λ x. T (allZero (answers 𝓔 x (st ∷ [])))) (sym k.reaches) (zero_one t st z.1)));
+          (subst (λ x. T (all_zero (answers 𝓔 x (st ∷ [])))) (sym k.reaches) (zero_one t st z.1)));
     }
       where
         t : State Entry
@@ -98,8 +98,8 @@ module _ (𝓔 : Entries) where
         new : Bool
         new = accepted (outline t) st
 
-    unless-fair : (n : ℕ) (r : Record) → Keeps (putUnless 𝓔 n r)
-    unfolding putUnless
+    unless-fair : (n : ℕ) (r : Record) → Keeps (put_unless 𝓔 n r)
+    unfolding put_unless
     unless-fair n r d k =
         by_cond Fair (eqb (answer_of (outline d.state) (step_of r)) n) (λ _. k) (λ _. put-fair r d k)
 
@@ -119,16 +119,16 @@ module _ (𝓔 : Entries) where
     turns-fair (suc n) q f h d k =
         let z = turns-fair n q f h d k in by_cond Fair (q (suc n)) (λ _. h (suc n) _ z) (λ _. z)
 
-    controller-fair : Keeps (informsController 𝓔)
-    unfolding informsController
+    controller-fair : Keeps (informs_controller 𝓔)
+    unfolding informs_controller
     controller-fair d k = unless-fair _ _ d k
 
     hears-fair : (b : ℕ) → Keeps (hears 𝓔 b)
     unfolding hears
     hears-fair b d k = unless-fair _ _ _ (unless-fair _ _ d k)
 
-    choosing-fair : Keeps (choosingPart 𝓔)
-    unfolding choosingPart
+    choosing-fair : Keeps (choosing_part 𝓔)
+    unfolding choosing_part
     choosing-fair d k = put-fair _ _ (turns-fair _ _ (hears 𝓔) hears-fair _ (controller-fair d k))
 
     informs-fair : (l b : ℕ) → Keeps (informs 𝓔 l b)
@@ -143,12 +143,12 @@ module _ (𝓔 : Entries) where
     unfolding follows
     follows-fair l b d k = unless-fair _ _ _ (receives-fair l b _ (unless-fair _ _ _ (informs-fair l b d k)))
 
-    leader-fair : Keeps (readsLeader 𝓔)
-    unfolding readsLeader
-    leader-fair d k = by_cond Fair (inBoards d.state.controller.stage) (λ _. k) (λ _. put-fair _ d k)
+    leader-fair : Keeps (reads_leader 𝓔)
+    unfolding reads_leader
+    leader-fair d k = by_cond Fair (in_boards d.state.controller.stage) (λ _. k) (λ _. put-fair _ d k)
 
-    waiting-fair : Keeps (waitingPart 𝓔)
-    unfolding waitingPart
+    waiting-fair : Keeps (waiting_part 𝓔)
+    unfolding waiting_part
     waiting-fair d k =
         let l = d.state.registry.view.leader in
         put-fair _ _ (turns-fair _ _ (follows 𝓔 l) (follows-fair l) _
@@ -159,12 +159,12 @@ module _ (𝓔 : Entries) where
       → (put 𝓔 (bare 13) d).state.registry.status ≡ normal
   unfolding put
   sets-normal d t =
-      ap (λ x. (cond x (next 𝓔 d.state setNormal) d.state).registry.status)
-      (is_true (accepted (outline d.state) setNormal)
-      (split-and d.sound (accepted (outline d.state) setNormal) t).1)
+      ap (λ x. (cond x (next 𝓔 d.state set_normal) d.state).registry.status)
+      (is_true (accepted (outline d.state) set_normal)
+      (split-and d.sound (accepted (outline d.state) set_normal) t).1)
 
-  waiting-ends : (d : Draft Entry) → T (waitingPart 𝓔 d).sound → (waitingPart 𝓔 d).state.registry.status ≡ normal
-  unfolding waitingPart
+  waiting-ends : (d : Draft Entry) → T (waiting_part 𝓔 d).sound → (waiting_part 𝓔 d).state.registry.status ≡ normal
+  unfolding waiting_part
   waiting-ends d t = sets-normal _ t
 
   module _ (s : State Entry) where
@@ -176,14 +176,14 @@ module _ (𝓔 : Entries) where
     unfolding draft
     draft-fair normal = start-fair
     draft-fair waiting = waiting-fair s (start s) start-fair
-    draft-fair Status.choosing = waiting-fair s (choosingPart 𝓔 (start s)) (choosing-fair s (start s) start-fair)
+    draft-fair Status.choosing = waiting-fair s (choosing_part 𝓔 (start s)) (choosing-fair s (start s) start-fair)
 
     draft-ends : (g : Status) → s.registry.status ≡ g → T (draft 𝓔 g (start s)).sound
         → (draft 𝓔 g (start s)).state.registry.status ≡ normal
     unfolding draft
     draft-ends normal e t = e
     draft-ends waiting e t = waiting-ends (start s) t
-    draft-ends Status.choosing e t = waiting-ends (choosingPart 𝓔 (start s)) t
+    draft-ends Status.choosing e t = waiting-ends (choosing_part 𝓔 (start s)) t
 
     pub any-plan : (list : List Record) → plan 𝓔 s ≡ found list → Leads 𝓔 s list
     unfolding plan

@@ -9,22 +9,22 @@ use native.Mathlib.Omega.{arith}
 use lib.Dec.{T, eqb, leb, le→leb, ltb, lt→ltb}
 use lib.ListN.{length}
 use Rattle.model.specs.Prelude.{◌else◌}
-use Rattle.model.specs.Members.{Members, isReplica, ◌∩◌, size, quorum}
-use Rattle.model.specs.State.{outline, Entries, View, Status, normal, waiting, Stage, idle, leader, boards, Registry, Controller, State, isChoosing, stageNumber}
-use Rattle.model.specs.Steps.{hear, install, checks, above, rankedNotAbove}
+use Rattle.model.specs.Members.{Members, is_replica, ◌∩◌, size, quorum}
+use Rattle.model.specs.State.{outline, Entries, View, Status, normal, waiting, Stage, idle, leader, boards, Registry, Controller, State, is_choosing, stage_number}
+use Rattle.model.specs.Steps.{hear, install, checks, above, ranked_not_above}
 use Rattle.model.specs.Records.{of}
 use Rattle.model.proofs.Tests.{join-and, eq_test, upd_same, upd_other}
-use Rattle.model.proofs.Quorum.{replica-range, size-sub, hasQuorum}
+use Rattle.model.proofs.Quorum.{replica-range, size-sub, has_quorum}
 use Rattle.model.proofs.Rules.{◌then◌}
-use Rattle.model.proofs.Invariant.{isWaiting, fits}
-use Rattle.recovery.specs.Plan.{Draft, first_of, highest, put, putUnless, hears, choosingPart}
+use Rattle.model.proofs.Invariant.{is_waiting, fits}
+use Rattle.recovery.specs.Plan.{Draft, first_of, highest, put, put_unless, hears, choosing_part}
 use Rattle.recovery.proofs.Lowest.{first-size, first-in, highest-in}
 use Rattle.recovery.proofs.Reached.{Reached, next-reached}
 use Rattle.recovery.proofs.Drafts.{Each, Sound, At, at_most, at-so, put-to, unless-to, turns-to}
 use Rattle.recovery.proofs.News.{not-less, Known, control-ok, still-known, news-to, Called, control-to}
 
 -- A controller up to date hears.
-to-hear : (g : Status) (x : Stage) → T (isChoosing g) → T (fits g x) → stageNumber x ≡ 3
+to-hear : (g : Status) (x : Stage) → T (is_choosing g) → T (fits g x) → stage_number x ≡ 3
 to-hear normal x w t = absurd w
 to-hear waiting x w t = absurd w
 to-hear Status.choosing idle w t = absurd t
@@ -44,7 +44,7 @@ count n k q e = omega arith
 module _ (𝓔 : Entries) where
   open 𝓔 use {Entry}
 
-  module _ (r : Registry) (w : T (isChoosing r.status)) (low : r.view.epoch < 4000)
+  module _ (r : Registry) (w : T (is_choosing r.status)) (low : r.view.epoch < 4000)
       (some : 1 ≤ size r.view.members) where
     abbrev m : Members
     m = r.view.members
@@ -63,7 +63,7 @@ module _ (𝓔 : Entries) where
     record Hears (t : State Entry) : Type 0 where
       known : Known 𝓔 r t
       current : t.controller.view.epoch ≡ r.view.epoch
-      stage : stageNumber t.controller.stage ≡ 3
+      stage : stage_number t.controller.stage ≡ 3
 
     -- and has heard x.
     abbrev Heard : ℕ → State Entry → Type 0
@@ -76,7 +76,7 @@ module _ (𝓔 : Entries) where
       stage = to-hear r.status d.state.controller.stage w ((control-ok 𝓔 z.known).stage z.current);
     }) k
 
-    module _ (b : ℕ) (real : T (isReplica b)) (member : T (m b)) where
+    module _ (b : ℕ) (real : T (is_replica b)) (member : T (m b)) where
       record Fresh (t₀ t : State Entry) : Type 0 where
         base : Hears t
         control : t.controller ≡ t₀.controller
@@ -89,12 +89,12 @@ module _ (𝓔 : Entries) where
         old : (x : ℕ) → x ≢ b → Heard x t₀ → Heard x t
 
       informs-to : {n : ℕ} {d : Draft Entry} → At 𝓔 n Hears d
-          → At 𝓔 (suc n) (Fresh d.state) (putUnless 𝓔 12 (of 6 b) d)
+          → At 𝓔 (suc n) (Fresh d.state) (put_unless 𝓔 12 (of 6 b) d)
       informs-to {n} {d} k = at-so 𝓔 (Fresh d.state) (λ z. record {
         base = record {
           known = z.known;
           current = ap (λ c. c.view.epoch) z.control ∙ k.is.current;
-          stage = ap (λ c. stageNumber c.stage) z.control ∙ k.is.stage;
+          stage = ap (λ c. stage_number c.stage) z.control ∙ k.is.stage;
         };
         control = z.control;
         fresh = z.fresh;
@@ -102,15 +102,15 @@ module _ (𝓔 : Entries) where
 
       -- The hearing, left out if b was heard at its length.
       hear-to : (t₀ : State Entry) {n : ℕ} {d : Draft Entry} → At 𝓔 n (Fresh t₀) d
-          → At 𝓔 (suc n) (Told t₀) (putUnless 𝓔 12 (of 14 b) d)
+          → At 𝓔 (suc n) (Told t₀) (put_unless 𝓔 12 (of 14 b) d)
       hear-to t₀ {n} {d} k =
           unless-to 𝓔 (Told t₀) (of 14 b) (
-          (isReplica b else 1)
-          ∷ (eqb (stageNumber c.stage) 3 else 15)
+          (is_replica b else 1)
+          ∷ (eqb (stage_number c.stage) 3 else 15)
           ∷ (c.view.members b else 5)
           ∷ (eqb (t.view b).epoch c.view.epoch else 16) ∷ []
           ) (ltb (c.heard b) n') 12 k.sound refl
-          (real then eq_test (stageNumber c.stage) 3 f.stage
+          (real then eq_test (stage_number c.stage) 3 f.stage
           then subst (λ (v : View). T (v.members b)) (sym cv) member
           then eq_test (t.view b).epoch c.view.epoch (k.is.fresh ∙ sym f.current) then tt) tt
           (λ h. record {
@@ -153,7 +153,7 @@ module _ (𝓔 : Entries) where
     -- With a leader installed.
     pub record Led (t : State Entry) : Type 0 where
       pub reached : Reached 𝓔 t
-      pub waits : T (isWaiting t.registry.status)
+      pub waits : T (is_waiting t.registry.status)
       pub epoch : t.registry.view.epoch ≡ suc r.view.epoch
       pub members : t.registry.view.members ≡ r.view.members
 
@@ -180,8 +180,8 @@ module _ (𝓔 : Entries) where
         best : ℕ
         best = highest c q
 
-        top : T (isReplica best) × T (q best)
-            × ((b : ℕ) → T (isReplica b) → T (q b) → T (not (above c best b)))
+        top : T (is_replica best) × T (q best)
+            × ((b : ℕ) → T (is_replica b) → T (q b) → T (not (above c best b)))
         top = highest-in c q (omega (arith, q-size, one (size m)))
 
         cv : c.view ≡ r.view
@@ -190,34 +190,34 @@ module _ (𝓔 : Entries) where
         e : t.registry.view.epoch ≡ r.view.epoch
         e = ap (λ (x : Registry). x.view.epoch) f.known.same
 
-        heard : (b : ℕ) → T (isReplica b) → T (q b) → T (leb 1 (c.heard b))
+        heard : (b : ℕ) → T (is_replica b) → T (q b) → T (leb 1 (c.heard b))
         heard b z t = let y = replica-range b z in le→leb 1 (c.heard b) (k.is.1 b y.0 y.1 t)
 
-        ranked : size q ≤ size (m ∩ rankedNotAbove c best)
-        ranked = size-sub q (m ∩ rankedNotAbove c best) (λ b z t.
-            join-and (m b) (rankedNotAbove c best b) (q-in b t)
+        ranked : size q ≤ size (m ∩ ranked_not_above c best)
+        ranked = size-sub q (m ∩ ranked_not_above c best) (λ b z t.
+            join-and (m b) (ranked_not_above c best b) (q-in b t)
             (join-and (leb 1 (c.heard b)) (not (above c best b)) (heard b z t) (top.2 b z t)))
 
-        majority : T (hasQuorum m (rankedNotAbove c best))
-        majority = le→leb (quorum (size m)) (size (m ∩ rankedNotAbove c best)) (omega (arith, ranked, q-size))
+        majority : T (has_quorum m (ranked_not_above c best))
+        majority = le→leb (quorum (size m)) (size (m ∩ ranked_not_above c best)) (omega (arith, ranked, q-size))
 
         holds : Each (checks (outline t) (install best))
         holds =
             top.0
-            then eq_test (stageNumber c.stage) 3 f.stage
+            then eq_test (stage_number c.stage) 3 f.stage
             then subst (λ (v : View). T (v.members best)) (sym cv) (q-in best top.1)
             then eq_test c.view.epoch t.registry.view.epoch (f.current ∙ sym e)
-            then join-and (leb 1 (c.heard best)) (hasQuorum c.view.members (rankedNotAbove c best))
+            then join-and (leb 1 (c.heard best)) (has_quorum c.view.members (ranked_not_above c best))
             (heard best top.0 top.1)
-            (subst (λ (v : View). T (hasQuorum v.members (rankedNotAbove c best))) (sym cv) majority)
+            (subst (λ (v : View). T (has_quorum v.members (ranked_not_above c best))) (sym cv) majority)
             then lt→ltb t.registry.view.epoch 4000 (omega (arith, e)) then tt
 
   pub choosing-to : {n : ℕ} {d : Draft Entry} → Reached 𝓔 d.state
-      → (w : T (isChoosing d.state.registry.status)) (low : d.state.registry.view.epoch < 4000)
+      → (w : T (is_choosing d.state.registry.status)) (low : d.state.registry.view.epoch < 4000)
       (some : 1 ≤ size d.state.registry.view.members) → Sound 𝓔 n d
       → At 𝓔 (n + 2 + 2 * quorum (size d.state.registry.view.members)) (Led d.state.registry w low some)
-      (choosingPart 𝓔 d)
-  unfolding choosingPart
+      (choosing_part 𝓔 d)
+  unfolding choosing_part
   choosing-to {n} {d} k w low some z =
       let r = d.state.registry in
       let b = called r w low some (control-to 𝓔 r {d = d} (record { reached = k; same = refl }) z) in

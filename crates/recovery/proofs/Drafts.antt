@@ -8,14 +8,14 @@ use Prim.Native.Nat.{ℕ, suc, ◌+◌, ◌*◌, ◌≤◌}
 use native.Mathlib.Omega.{arith}
 use lib.Dec.{T, eqb, T_not}
 use lib.ListN.{length}
-use Rattle.model.specs.Prelude.{Check, ◌else◌, firstFailed, passes}
-use Rattle.model.specs.Members.{Members, isReplica, bit, size}
+use Rattle.model.specs.Prelude.{Check, ◌else◌, first_failed, passes}
+use Rattle.model.specs.Members.{Members, is_replica, bit, size}
 use Rattle.model.specs.State.{outline, Entries, State}
 use Rattle.model.specs.Steps.{checks, next, accepted}
 use Rattle.model.specs.Records.{Record, step_of}
 use Rattle.model.proofs.Tests.{Holds, facts, by_cond, join-and, is_false, is_true, eqb_same, eq-or-ne, of-true}
 use Rattle.model.proofs.Prefix.{length-snoc}
-use Rattle.recovery.specs.Plan.{Draft, turns, put, putUnless, need}
+use Rattle.recovery.specs.Plan.{Draft, turns, put, put_unless, need}
 
 -- Checks that hold
 
@@ -29,7 +29,7 @@ passed [] h = tt
 passed ((c else n) ∷ cs) h = join-and c (passes cs) h.0 (passed cs h.1)
 
 -- Where all checks but the last hold, the last decides.
-last : (cs : List Check) → Each cs → (c : Bool) (n : ℕ) → firstFailed (cs ++ ((c else n) ∷ [])) ≡ cond c 0 n
+last : (cs : List Check) → Each cs → (c : Bool) (n : ℕ) → first_failed (cs ++ ((c else n) ∷ [])) ≡ cond c 0 n
 last [] h c n = refl
 last ((a else k) ∷ cs) h c n = rw (is_true a h.0) (last cs h.1 c n)
 
@@ -85,10 +85,10 @@ module _ (𝓔 : Entries) where
       {n : ℕ} {d : Draft Entry} → Sound n d
       → checks (outline d.state) (step_of r) ≡ cs ++ ((c else k) ∷ []) → Each cs → T (not (eqb 0 k))
       → (Holds (checks (outline d.state) (step_of r)) → P (next 𝓔 d.state (step_of r)))
-      → (T (not c) → P d.state) → At (suc n) P (putUnless 𝓔 k r d)
-  unfolding putUnless
+      → (T (not c) → P d.state) → At (suc n) P (put_unless 𝓔 k r d)
+  unfolding put_unless
   unless-to P r cs c k {n} {d} w e h z yea nay =
-      subst (λ a. At (suc n) P (cond (eqb a k) d (put 𝓔 r d))) (sym (ap firstFailed e ∙ last cs h c k)) (go c refl)
+      subst (λ a. At (suc n) P (cond (eqb a k) d (put 𝓔 r d))) (sym (ap first_failed e ∙ last cs h c k)) (go c refl)
     where
       go : (t : Bool) → c ≡ t → At (suc n) P (cond (eqb (cond t 0 k) k) d (put 𝓔 r d))
       go true q = rw (is_false (eqb 0 k) z) (put-to P r w (subst Each (sym e) (last-too cs h c k (of-true q))) yea)
@@ -116,11 +116,11 @@ module _ (𝓔 : Entries) where
       each : (x : ℕ) → 1 ≤ x → x ≤ b → T (q x) → G x t
 
     abbrev pub Turn : Type 0
-    Turn = (b : ℕ) → T (isReplica b) → T (q b) → (n : ℕ) (d : Draft Entry) → At n B d
+    Turn = (b : ℕ) → T (is_replica b) → T (q b) → (n : ℕ) (d : Draft Entry) → At n B d
         → At (n + k) (Turned b d.state) (f b d)
 
     module _ (turn : Turn) where
-      one-turn : (b : ℕ) → T (isReplica (suc b)) → {n : ℕ} {d : Draft Entry} → At n (Upto b) d
+      one-turn : (b : ℕ) → T (is_replica (suc b)) → {n : ℕ} {d : Draft Entry} → At n (Upto b) d
           → At (n + k * bit (q (suc b))) (Upto (suc b)) (cond (q (suc b)) (f (suc b) d) d)
       one-turn b real {n} {d} h = go (q (suc b)) refl
         where

@@ -9,16 +9,16 @@ use native.Mathlib.Omega.{arith}
 use lib.Dec.{T, eqb, eqb→eq, leb, leb→le, le→leb, ltb, lt→ltb, not_T}
 use lib.ListN.{length}
 use Rattle.model.specs.Prelude.{upd, ◌⊑◌, ◌else◌}
-use Rattle.model.specs.Members.{isReplica}
-use Rattle.model.specs.State.{outline, Entries, View, Registry, Controller, State, isChoosing, stageNumber}
-use Rattle.model.specs.Steps.{join, receive, read, checks, entry_at, heardEnough}
+use Rattle.model.specs.Members.{is_replica}
+use Rattle.model.specs.State.{outline, Entries, View, Registry, Controller, State, is_choosing, stage_number}
+use Rattle.model.specs.Steps.{join, receive, read, checks, entry_at, heard_enough}
 use Rattle.model.specs.Records.{of}
 use Rattle.model.proofs.Tests.{join-and, split-and, eq_test, upd_same, upd_other, is_false}
 use Rattle.model.proofs.Prefix.{begins-length, length-snoc}
 use Rattle.model.proofs.Quorum.{replica-ne}
 use Rattle.model.proofs.Rules.{◌then◌}
 use Rattle.model.proofs.Invariant.{RegistryOk, HeardOk}
-use Rattle.recovery.specs.Plan.{Draft, times, put, putUnless, informs, receives, follows}
+use Rattle.recovery.specs.Plan.{Draft, times, put, put_unless, informs, receives, follows}
 use Rattle.recovery.proofs.Drafts.{Each, At, at_most, at-so, put-to, unless-to}
 use Rattle.recovery.proofs.News.{not-less, Known, leaders, view-ok, control-ok, still-known, Informed, informs-to}
 
@@ -39,7 +39,7 @@ of-heard h v x t =
 module _ (𝓔 : Entries) where
   open 𝓔 use {Entry}
 
-  module _ (r : Registry) (led : T (not (isChoosing r.status))) where
+  module _ (r : Registry) (led : T (not (is_choosing r.status))) where
     abbrev l : ℕ
     l = r.view.leader
 
@@ -51,10 +51,10 @@ module _ (𝓔 : Entries) where
       leader-is : l ≡ leaders 𝓔 k r.view.term
       leader-is =
           registry-ok.named
-          ∙ ap (λ x. cond x 0 (leaders 𝓔 k r.view.term)) (is_false (isChoosing r.status) led)
+          ∙ ap (λ x. cond x 0 (leaders 𝓔 k r.view.term)) (is_false (is_choosing r.status) led)
 
-      pub leader-real : T (isReplica l)
-      leader-real = subst (λ x. T (isReplica x)) (sym leader-is) (k.reached.inv.real r.view.term)
+      pub leader-real : T (is_replica l)
+      leader-real = subst (λ x. T (is_replica x)) (sym leader-is) (k.reached.inv.real r.view.term)
 
       pub leader-member : T (r.view.members l)
       leader-member = subst (λ x. T (r.view.members x)) (sym leader-is) (registry-ok.member led)
@@ -70,12 +70,12 @@ module _ (𝓔 : Entries) where
     pub record Reads (t : State Entry) : Type 0 where
       pub known : Known 𝓔 r t
       pub current : t.controller.view.epoch ≡ r.view.epoch
-      pub stage : stageNumber t.controller.stage ≡ 2
+      pub stage : stage_number t.controller.stage ≡ 2
       pub leader : (t.view l).epoch ≡ r.view.epoch
 
     -- It has heard x, at the leader's length or more.
     abbrev pub Heard : ℕ → State Entry → Type 0
-    Heard x t = T (heardEnough t.controller x)
+    Heard x t = T (heard_enough t.controller x)
 
     module _ {t : State Entry} (k : Reads t) where
       pub control-view : t.controller.view ≡ r.view
@@ -98,7 +98,7 @@ module _ (𝓔 : Entries) where
     abbrev pub Followed : ℕ → State Entry → State Entry → Type 0
     Followed b t₀ t = Reads t × Heard b t × ((x : ℕ) → x ≢ b → Heard x t₀ → Heard x t)
 
-    module _ (b : ℕ) (real : T (isReplica b)) (member : T (r.view.members b)) (other : b ≢ l) where
+    module _ (b : ℕ) (real : T (is_replica b)) (member : T (r.view.members b)) (other : b ≢ l) where
       -- b is up to date,
       record Fresh (t₀ t : State Entry) : Type 0 where
         reads : Reads t
@@ -148,7 +148,7 @@ module _ (𝓔 : Entries) where
             reads = record {
               known = z.known;
               current = ap (λ c. c.view.epoch) z.control ∙ k.is.current;
-              stage = ap (λ c. stageNumber c.stage) z.control ∙ k.is.stage;
+              stage = ap (λ c. stage_number c.stage) z.control ∙ k.is.stage;
               leader = z.still l k.is.leader;
             };
             control = z.control;
@@ -157,11 +157,11 @@ module _ (𝓔 : Entries) where
 
       -- The join, left out where it is refused i: 11, if b has joined.
       joins-to : (t₀ : State Entry) (i : ℕ) → i ≡ 11 → {n : ℕ} {d : Draft Entry} → At 𝓔 n (Fresh t₀) d
-          → At 𝓔 (suc n) (Joined t₀) (putUnless 𝓔 i (of 7 b) d)
+          → At 𝓔 (suc n) (Joined t₀) (put_unless 𝓔 i (of 7 b) d)
       joins-to t₀ i is {n} {d} k =
-          subst (λ i. At 𝓔 (suc n) (Joined t₀) (putUnless 𝓔 i (of 7 b) d)) (sym is)
+          subst (λ i. At 𝓔 (suc n) (Joined t₀) (put_unless 𝓔 i (of 7 b) d)) (sym is)
           (unless-to 𝓔 (Joined t₀) (of 7 b) (
-          (isReplica b else 1)
+          (is_replica b else 1)
           ∷ (not (eqb (t.view b).leader 0) && not (eqb (t.view b).leader b) else 9)
           ∷ ((t.view b).members b else 5)
           ∷ (eqb (t.view b).term (t.view (t.view b).leader).term else 10) ∷ []
@@ -264,16 +264,16 @@ module _ (𝓔 : Entries) where
 
       -- The reading, left out if b was heard at its length.
       reads-to : (t₀ : State Entry) {n : ℕ} {d : Draft Entry} → At 𝓔 n (Lacks 0 t₀) d
-          → At 𝓔 (suc n) (Followed b t₀) (putUnless 𝓔 12 (of 12 b) d)
+          → At 𝓔 (suc n) (Followed b t₀) (put_unless 𝓔 12 (of 12 b) d)
       reads-to t₀ {n} {d} k =
           unless-to 𝓔 (Followed b t₀) (of 12 b) (
-          (isReplica b else 1)
-          ∷ (eqb (stageNumber c.stage) 2 else 15)
+          (is_replica b else 1)
+          ∷ (eqb (stage_number c.stage) 2 else 15)
           ∷ (not (eqb b c.view.leader) else 6)
           ∷ (c.view.members b else 5)
           ∷ (eqb (t.joined b) c.view.term else 11) ∷ []
           ) (ltb (c.heard b) n') 12 k.sound refl
-          (real then eq_test (stageNumber c.stage) 2 f.stage then not-eq b c.view.leader aside
+          (real then eq_test (stage_number c.stage) 2 f.stage then not-eq b c.view.leader aside
           then subst (λ (v : View). T (v.members b)) (sym cv) member
           then eq_test (t.joined b) c.view.term (k.is.base.joined ∙ sym (ap (λ v. v.term) cv)) then tt) tt
           (λ h. (
@@ -325,7 +325,7 @@ module _ (𝓔 : Entries) where
           most = omega (arith, (heard-leader f).1, ap (λ (v : View). c.heard v.leader) cv, k.is.lens)
 
           still : (x : ℕ) → Heard x t₀ → Heard x t
-          still x h = subst (λ y. T (heardEnough y x)) (sym k.is.base.base.control) h
+          still x h = subst (λ y. T (heard_enough y x)) (sym k.is.base.base.control) h
 
       -- The turn of b: at most 515 records.
       pub follows_to : {n : ℕ} {d : Draft Entry} → At 𝓔 n Reads d

@@ -7,7 +7,7 @@ use Prim.Native.Nat.{ℕ, ◌+◌, ◌≤◌, ◌<◌, min}
 use native.Mathlib.Omega.{arith}
 use lib.Dec.{T, leb, ltb, eqb, eqb→eq, leb→le, ltb→lt, lt→ltb, T_not, not_T}
 use borrow.Author.Tests.{ltb-true, ltb-false}
-use Rattle.model.specs.Members.{Members, isReplica, none, ◌∩◌, bit, size, lowest}
+use Rattle.model.specs.Members.{Members, is_replica, none, ◌∩◌, bit, size, lowest}
 use Rattle.model.specs.State.{Controller}
 use Rattle.model.specs.Steps.{above}
 use Rattle.model.proofs.Tests.{split-and, join-and, by-test, by_cond, is_true, eq_test, le-or-lt}
@@ -78,7 +78,7 @@ first-size n m h = omega (
     at b k e = one (m b) (below b) k n e
 
 -- The lowest of a set is no higher than any other.
-lowest-least : (m : Members) (b : ℕ) → T (isReplica b) → T (m b) → lowest m ≤ b
+lowest-least : (m : Members) (b : ℕ) → T (is_replica b) → T (m b) → lowest m ≤ b
 lowest-least m = by-replica (λ b. T (m b) → lowest m ≤ b)
     (λ t. is 1 _ t)
     (λ t. or 1 _ tt (is 2 _ t))
@@ -99,25 +99,25 @@ lowest-least m = by-replica (λ b. T (m b) → lowest m ≤ b)
 
 abbrev every : List ℕ → Bool
 every [] = true
-every (b ∷ bs) = isReplica b && every bs
+every (b ∷ bs) = is_replica b && every bs
 
 module _ (c : Controller) where
-  open c use {heard, heardJoined}
+  open c use {heard, heard_joined}
 
   -- x ranks above b, as a fact.
   Above : ℕ → ℕ → Type 0
-  Above b x = (heardJoined b < heardJoined x) ⊎ ((heardJoined b ≡ heardJoined x) × (heard b < heard x))
+  Above b x = (heard_joined b < heard_joined x) ⊎ ((heard_joined b ≡ heard_joined x) × (heard b < heard x))
 
   above_of : (b x : ℕ) → T (above c b x) → Above b x
   unfolding Above
-  above_of b x t = go (ltb (heardJoined b) (heardJoined x)) refl t
+  above_of b x t = go (ltb (heard_joined b) (heard_joined x)) refl t
     where
-      go : (p : Bool) → ltb (heardJoined b) (heardJoined x) ≡ p
-          → T (p || (eqb (heardJoined b) (heardJoined x) && ltb (heard b) (heard x))) → Above b x
-      go true e t = inl (ltb-true (heardJoined b) (heardJoined x) e)
+      go : (p : Bool) → ltb (heard_joined b) (heard_joined x) ≡ p
+          → T (p || (eqb (heard_joined b) (heard_joined x) && ltb (heard b) (heard x))) → Above b x
+      go true e t = inl (ltb-true (heard_joined b) (heard_joined x) e)
       go false e t =
-          let h = split-and (eqb (heardJoined b) (heardJoined x)) (ltb (heard b) (heard x)) t in
-          inr (eqb→eq (heardJoined b) (heardJoined x) h.0, ltb→lt (heard b) (heard x) h.1)
+          let h = split-and (eqb (heard_joined b) (heard_joined x)) (ltb (heard b) (heard x)) t in
+          inr (eqb→eq (heard_joined b) (heard_joined x) h.0, ltb→lt (heard b) (heard x) h.1)
 
   above-trans : (a b x : ℕ) → Above a b → Above b x → Above a x
   unfolding Above
@@ -134,15 +134,15 @@ module _ (c : Controller) where
   above-or-not : (b x : ℕ) → Above b x ⊎ (Above b x → ⊥)
   unfolding Above
   above-or-not b x =
-      go (le-or-lt (heardJoined x) (heardJoined b)) (le-or-lt (heardJoined b) (heardJoined x))
+      go (le-or-lt (heard_joined x) (heard_joined b)) (le-or-lt (heard_joined b) (heard_joined x))
       (le-or-lt (heard x) (heard b))
     where
-      no_way : heardJoined x ≤ heardJoined b → (heardJoined b ≡ heardJoined x → heard x ≤ heard b) → Above b x → ⊥
+      no_way : heard_joined x ≤ heard_joined b → (heard_joined b ≡ heard_joined x → heard x ≤ heard b) → Above b x → ⊥
       no_way h k (inl l) = omega arith
       no_way h k (inr l) = omega (arith, k l.0)
 
-      go : (heardJoined x ≤ heardJoined b) ⊎ (heardJoined b < heardJoined x)
-          → (heardJoined b ≤ heardJoined x) ⊎ (heardJoined x < heardJoined b)
+      go : (heard_joined x ≤ heard_joined b) ⊎ (heard_joined b < heard_joined x)
+          → (heard_joined b ≤ heard_joined x) ⊎ (heard_joined x < heard_joined b)
           → (heard x ≤ heard b) ⊎ (heard b < heard x) → Above b x ⊎ (Above b x → ⊥)
       go (inr l) p q = inl (inl l)
       go (inl h) (inr l) q = inr (no_way h (λ e. absurd (omega arith)))
@@ -154,7 +154,7 @@ module _ (c : Controller) where
     abbrev tops : Members
     tops x = m x && eqb (size (m ∩ above c x)) 0
 
-    nobody : (x : ℕ) → ((b : ℕ) → T (isReplica b) → T (m b) → T (above c x b) → ⊥) → T (eqb (size (m ∩ above c x)) 0)
+    nobody : (x : ℕ) → ((b : ℕ) → T (is_replica b) → T (m b) → T (above c x b) → ⊥) → T (eqb (size (m ∩ above c x)) 0)
     nobody x f = eq_test (size (m ∩ above c x)) 0 (omega (arith, few))
       where
         few : size (m ∩ above c x) ≤ size none
@@ -162,8 +162,8 @@ module _ (c : Controller) where
             (λ b k h. let z = split-and (m b) (above c x b) h in f b k z.0 z.1)
 
     -- The highest ranked is the lowest-numbered of them.
-    pub highest-lowest : (b : ℕ) → T (isReplica b) → T (m b)
-        → ((x : ℕ) → T (isReplica x) → T (m x) → T (not (above c b x))) → highest c m ≤ b
+    pub highest-lowest : (b : ℕ) → T (is_replica b) → T (m b)
+        → ((x : ℕ) → T (is_replica x) → T (m x) → T (not (above c b x))) → highest c m ≤ b
     highest-lowest b real t f = lowest-least tops b real
         (join-and (m b) _ t (nobody b (λ x k u v. T_not (above c b x) (f x k u) v)))
 
@@ -174,7 +174,7 @@ module _ (c : Controller) where
 
     -- x of m is such, or none of the boards is of m.
     data Peak (bs : List ℕ) : Type 0 where
-      peak : (x : ℕ) → T (isReplica x) → T (m x) → Under x bs → Peak bs
+      peak : (x : ℕ) → T (is_replica x) → T (m x) → Under x bs → Peak bs
       flat : ((x : ℕ) → Under x bs) → Peak bs
 
     over : (x b : ℕ) → Above x b → (ys : List ℕ) → Under x ys → Under b ys
@@ -186,10 +186,10 @@ module _ (c : Controller) where
     unfolding Under
     find [] r = flat (λ _. tt)
     find (b ∷ bs) r =
-        let z = split-and (isReplica b) (every bs) r in
+        let z = split-and (is_replica b) (every bs) r in
         by-test (m b) (λ t. with-b z.0 t (find bs z.1)) (λ n. without n (find bs z.1))
       where
-        with-b : T (isReplica b) → T (m b) → Peak bs → Peak (b ∷ bs)
+        with-b : T (is_replica b) → T (m b) → Peak bs → Peak (b ∷ bs)
         with-b k t (flat f) = peak b k t (λ _ h. above-self b h, f b)
         with-b k t (peak x kx tx u) = go (above-or-not x b)
           where
@@ -204,7 +204,7 @@ module _ (c : Controller) where
     eight : List ℕ
     eight = 1 ∷ 2 ∷ 3 ∷ 4 ∷ 5 ∷ 6 ∷ 7 ∷ 8 ∷ []
 
-    all_under : (x : ℕ) → Under x eight → (b : ℕ) → T (isReplica b) → T (m b) → Above x b → ⊥
+    all_under : (x : ℕ) → Under x eight → (b : ℕ) → T (is_replica b) → T (m b) → Above x b → ⊥
     unfolding Under eight
     all_under x u =
         by-replica (λ b. T (m b) → Above x b → ⊥) u.0 u.1.0 u.1.1.0 u.1.1.1.0 u.1.1.1.1.0
@@ -214,8 +214,8 @@ module _ (c : Controller) where
     top x t u = join-and (m x) _ t (nobody x (λ b k h a. all_under x u b k h (above_of x b a)))
 
     -- The highest ranked of a set is of it, and none of the set ranks above it.
-    pub highest-in : 1 ≤ size m → T (isReplica (highest c m)) × T (m (highest c m))
-        × ((b : ℕ) → T (isReplica b) → T (m b) → T (not (above c (highest c m) b)))
+    pub highest-in : 1 ≤ size m → T (is_replica (highest c m)) × T (m (highest c m))
+        × ((b : ℕ) → T (is_replica b) → T (m b) → T (not (above c (highest c m) b)))
     unfolding eight
     highest-in h =
         let l = lowest-in tops (some (find eight tt)) in

@@ -7,14 +7,14 @@ use native.Mathlib.Omega.{arith}
 use lib.Dec.{T, eqb, ltb}
 use borrow.Author.Tests.{ltb-false}
 use Rattle.model.specs.Prelude.{◌else◌}
-use Rattle.model.specs.Members.{isReplica}
+use Rattle.model.specs.Members.{is_replica}
 use Rattle.model.specs.State.{outline, Entries, View, Registry, State}
 use Rattle.model.specs.Steps.{Step, refresh, refreshController, checks, next}
 use Rattle.model.specs.Records.{bare, of}
 use Rattle.model.proofs.Tests.{Holds, by_cond, eq_test, upd_same, is_false}
 use Rattle.model.proofs.Rules.{◌then◌}
 use Rattle.model.proofs.Invariant.{ViewOk, ControllerOk}
-use Rattle.recovery.specs.Plan.{Draft, putUnless, need, informsController, informs}
+use Rattle.recovery.specs.Plan.{Draft, put_unless, need, informs_controller, informs}
 use Rattle.recovery.proofs.Reached.{Reached, next-reached}
 use Rattle.recovery.proofs.Drafts.{Sound, At, unless-to, need-to}
 
@@ -53,11 +53,11 @@ module _ (𝓔 : Entries) where
     pub still : (x : ℕ) → (t₀.view x).epoch ≡ r.view.epoch → (t.view x).epoch ≡ r.view.epoch
 
   -- News is left out where it is refused i: 12, if b is up to date.
-  pub news-to : (r : Registry) (b : ℕ) → T (isReplica b) → (i : ℕ) → i ≡ 12 → {n : ℕ} {d : Draft Entry}
-      → Known r d.state → Sound 𝓔 n d → At 𝓔 (suc n) (Informed r b d.state) (putUnless 𝓔 i (of 6 b) d)
+  pub news-to : (r : Registry) (b : ℕ) → T (is_replica b) → (i : ℕ) → i ≡ 12 → {n : ℕ} {d : Draft Entry}
+      → Known r d.state → Sound 𝓔 n d → At 𝓔 (suc n) (Informed r b d.state) (put_unless 𝓔 i (of 6 b) d)
   news-to r b real i is {n} {d} k w =
-      subst (λ i. At 𝓔 (suc n) (Informed r b t) (putUnless 𝓔 i (of 6 b) d)) (sym is)
-      (unless-to 𝓔 (Informed r b t) (of 6 b) ((isReplica b else 1) ∷ [])
+      subst (λ i. At 𝓔 (suc n) (Informed r b t) (put_unless 𝓔 i (of 6 b) d)) (sym is)
+      (unless-to 𝓔 (Informed r b t) (of 6 b) ((is_replica b else 1) ∷ [])
       (ltb (t.view b).epoch t.registry.view.epoch) 12 w refl (real then tt) tt
       (λ h. record {
         known = still-known k (refresh b) refl h;
@@ -79,7 +79,7 @@ module _ (𝓔 : Entries) where
       e = ap (λ (x : Registry). x.view.epoch) k.same
 
   -- Then its leader is the registry's.
-  pub informs-to : (r : Registry) (b : ℕ) → T (isReplica b) → {n : ℕ} {d : Draft Entry} → Known r d.state
+  pub informs-to : (r : Registry) (b : ℕ) → T (is_replica b) → {n : ℕ} {d : Draft Entry} → Known r d.state
       → Sound 𝓔 n d → At 𝓔 (suc n) (Informed r b d.state) (informs 𝓔 r.view.leader b d)
   unfolding informs
   informs-to r b real {n} {d} k w = led (news-to r b real _ (omega arith) k w)
@@ -95,8 +95,8 @@ module _ (𝓔 : Entries) where
     pub current : t.controller.view.epoch ≡ r.view.epoch
 
   pub control-to : (r : Registry) {n : ℕ} {d : Draft Entry} → Known r d.state → Sound 𝓔 n d
-      → At 𝓔 (suc n) (Called r) (informsController 𝓔 d)
-  unfolding informsController
+      → At 𝓔 (suc n) (Called r) (informs_controller 𝓔 d)
+  unfolding informs_controller
   control-to r {n} {d} k w =
       unless-to 𝓔 (Called r) (bare 10) [] (ltb t.controller.view.epoch t.registry.view.epoch) 12 w refl tt tt
       (λ h. record {

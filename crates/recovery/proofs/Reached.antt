@@ -8,9 +8,9 @@ use Prim.Native.Nat.{ℕ, suc, ◌≤◌}
 use native.Mathlib.Omega.{arith}
 use lib.Dec.{T, eqb, leb→le}
 use Rattle.model.specs.Prelude.{upd}
-use Rattle.model.specs.Members.{Members, isReplica, bit, size}
-use Rattle.model.specs.State.{outline, Entries, Status, normal, waiting, Registry, Controller, State, Opening, canOpen, opened, isNormal, isChoosing, stageNumber, stageFor}
-use Rattle.model.specs.Steps.{Step, append, commit, add, remove, changeLeader, refresh, join, receive, acknowledge, refreshController, readLeader, read, setNormal, hear, install, malformed, checks, next, accepted, succeeded, vacated}
+use Rattle.model.specs.Members.{Members, is_replica, bit, size}
+use Rattle.model.specs.State.{outline, Entries, Status, normal, waiting, Registry, Controller, State, Opening, can_open, opened, is_normal, is_choosing, stage_number, stage_for}
+use Rattle.model.specs.Steps.{Step, append, commit, add, remove, change_leader, refresh, join, receive, acknowledge, refreshController, read_leader, read, set_normal, hear, install, malformed, checks, next, accepted, succeeded, vacated}
 use Rattle.model.specs.Runs.{run}
 use Rattle.model.proofs.Tests.{Holds, facts, by_cond, upd_same, ne-fact}
 use Rattle.model.proofs.Quorum.{size-without}
@@ -22,11 +22,11 @@ use Rattle.model.proofs.Bounds.{Bounds, opened-bounds, bounds-keep}
 -- A registry without a leader has two members or more, and a replica that is none: only step 5 leaves one so, and the
 -- leader that it took out was a member.
 abbrev Staffed : Registry → Type 0
-Staffed r = T (isChoosing r.status) → (2 ≤ size r.view.members) × (size r.view.members ≤ 7)
+Staffed r = T (is_choosing r.status) → (2 ≤ size r.view.members) × (size r.view.members ≤ 7)
 
 -- A controller that reads boards has heard the leader: only step 11 brings it to read boards.
 abbrev Heedful : Controller → Type 0
-Heedful c = stageNumber c.stage ≡ 2 → 1 ≤ c.heard c.view.leader
+Heedful c = stage_number c.stage ≡ 2 → 1 ≤ c.heard c.view.leader
 
 pub record Poised {E : Type 0} (s : State E) : Type 0 where
   pub staffed : Staffed s.registry
@@ -49,7 +49,7 @@ size-most m = omega (
   bit-most (m 8),
 )
 
-calm : (g : Status) → T (isNormal g) → T (not (isChoosing g))
+calm : (g : Status) → T (is_normal g) → T (not (is_choosing g))
 calm normal t = tt
 calm waiting t = absurd t
 calm Status.choosing t = absurd t
@@ -71,11 +71,11 @@ module _ (𝓔 : Entries) where
     poised-keep (commit b) h = record { staffed = k.staffed; heedful = k.heedful }
     poised-keep (add b) h = record { staffed = λ t. absurd t; heedful = k.heedful }
     poised-keep (remove b) h = record {
-      staffed = λ t. absurd (by_cond (λ g. T (isChoosing g) → ⊥) (eqb (size (upd registry.view.members b false)) 1)
+      staffed = λ t. absurd (by_cond (λ g. T (is_choosing g) → ⊥) (eqb (size (upd registry.view.members b false)) 1)
           {x = normal} {y = waiting} (λ _ u. u) (λ _ u. u) t);
       heedful = k.heedful;
     }
-    poised-keep changeLeader h = record {
+    poised-keep change_leader h = record {
       staffed = by_cond Staffed (eqb (size left) 1) {x = succeeded registry left} {y = vacated registry left}
           (λ _ t. absurd t)
           (λ n _. one_less (size left) (size m) (size-without m registry.view.leader leading.0 leading.1)
@@ -89,10 +89,10 @@ module _ (𝓔 : Entries) where
         left : Members
         left = upd m registry.view.leader false
 
-        leading : T (isReplica registry.view.leader) × T (m registry.view.leader)
+        leading : T (is_replica registry.view.leader) × T (m registry.view.leader)
         leading =
             let t = calm registry.status (h 4) in
-            subst (λ x. T (isReplica x) × T (m x)) (sym (named i t))
+            subst (λ x. T (is_replica x) × T (m x)) (sym (named i t))
             (i.real registry.view.term, i.registry.member t)
     poised-keep (refresh b) h = record { staffed = k.staffed; heedful = k.heedful }
     poised-keep (join b) h = record { staffed = k.staffed; heedful = k.heedful }
@@ -101,11 +101,11 @@ module _ (𝓔 : Entries) where
     poised-keep refreshController h =
         record { staffed = k.staffed; heedful = λ e. absurd (never registry.status e) }
       where
-        never : (g : Status) → stageNumber (stageFor g) ≡ 2 → ⊥
+        never : (g : Status) → stage_number (stage_for g) ≡ 2 → ⊥
         never normal e = omega arith
         never waiting e = omega arith
         never Status.choosing e = omega arith
-    poised-keep readLeader h = record {
+    poised-keep read_leader h = record {
       staffed = k.staffed;
       heedful = λ _. rw (upd_same controller.heard controller.view.leader _) (omega arith);
     }
@@ -113,7 +113,7 @@ module _ (𝓔 : Entries) where
       staffed = k.staffed;
       heedful = λ e. more controller.heard b _ controller.view.leader (k.heedful e);
     }
-    poised-keep setNormal h = record { staffed = λ t. absurd t; heedful = λ e. absurd (omega arith) }
+    poised-keep set_normal h = record { staffed = λ t. absurd t; heedful = λ e. absurd (omega arith) }
     poised-keep (hear b) h = record {
       staffed = k.staffed;
       heedful = λ e. more controller.heard b _ controller.view.leader (k.heedful e);
@@ -128,7 +128,7 @@ module _ (𝓔 : Entries) where
     pub bounds : Bounds s
     pub poised : Poised s
 
-  pub opened-reached : (o : Opening) → T (canOpen o) → Reached (opened o)
+  pub opened-reached : (o : Opening) → T (can_open o) → Reached (opened o)
   opened-reached o real = record {
     history = λ _. o.board;
     inv = opened-inv o real;

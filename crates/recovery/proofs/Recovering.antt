@@ -8,12 +8,12 @@ use native.Mathlib.Omega.{arith}
 use lib.Dec.{T, leb, le→leb}
 use lib.ListN.{length}
 use Rattle.model.specs.Members.{Members, size, quorum}
-use Rattle.model.specs.State.{Entries, Status, normal, waiting, State, Opening, canOpen, isChoosing}
+use Rattle.model.specs.State.{Entries, Status, normal, waiting, State, Opening, can_open, is_choosing}
 use Rattle.model.specs.Steps.{Step}
 use Rattle.model.specs.Claim.{after}
 use Rattle.model.proofs.Tests.{join-and, is_true}
-use Rattle.model.proofs.Invariant.{isWaiting}
-use Rattle.recovery.specs.Plan.{start, found, error, choosingPart, draft, plan}
+use Rattle.model.proofs.Invariant.{is_waiting}
+use Rattle.recovery.specs.Plan.{start, found, error, choosing_part, draft, plan}
 use Rattle.recovery.specs.Claim.{LeadsToNormal, Recovery}
 use Rattle.recovery.proofs.Reached.{Reached, size-most, opened-reached, run-reached}
 use Rattle.recovery.proofs.Drafts.{Sound, At, at_most}
@@ -37,7 +37,7 @@ module _ (𝓔 : Entries) where
 
   -- Choosing raises the epoch twice, waiting once.
   module _ (s : State Entry) (k : Reached 𝓔 s) (low : s.registry.view.epoch ≤ 3999)
-      (lower : T (isChoosing s.registry.status) → s.registry.view.epoch ≤ 3998) where
+      (lower : T (is_choosing s.registry.status) → s.registry.view.epoch ≤ 3998) where
     abbrev m : Members
     m = s.registry.view.members
 
@@ -48,15 +48,15 @@ module _ (𝓔 : Entries) where
     unfolding draft
     drafted normal e = at_most 𝓔 2064 (omega arith) (record { sound = started; is = e })
     drafted waiting e = at_most 𝓔 2064 (waiting-count (size m) (size-most m))
-        (waiting-to 𝓔 {d = start s} k (subst (λ g. T (isWaiting g)) (sym e) tt) (omega arith) started)
+        (waiting-to 𝓔 {d = start s} k (subst (λ g. T (is_waiting g)) (sym e) tt) (omega arith) started)
     drafted Status.choosing e =
-        let w = subst (λ g. T (isChoosing g)) (sym e) tt in
+        let w = subst (λ g. T (is_choosing g)) (sym e) tt in
         let staff = k.poised.staffed w in
         let up : s.registry.view.epoch < 4000 = omega arith in
         let twice = lower w in
         let some : 1 ≤ size m = omega (arith, staff) in
         let a = choosing-to 𝓔 {d = start s} k w up some started in
-        at_most 𝓔 2064 (choosing-count (size m) (size (choosingPart 𝓔 (start s)).state.registry.view.members)
+        at_most 𝓔 2064 (choosing-count (size m) (size (choosing_part 𝓔 (start s)).state.registry.view.members)
         staff.1 (ap size a.is.members))
         (waiting-to 𝓔 a.is.reached a.is.waits (omega (arith, a.is.epoch)) a.sound)
 
@@ -71,7 +71,7 @@ module _ (𝓔 : Entries) where
         ap (λ t. cond t (found d.records) error) (is_true (d.sound && leb (length d.records) 2064) t) in
         record { list = d.records; exists = e; leads = any-plan 𝓔 s d.records e }
 
-  pub recovers : (o : Opening) → T (canOpen o) → (sts : List Step) → (after 𝓔 o sts).registry.view.epoch ≤ 3998
+  pub recovers : (o : Opening) → T (can_open o) → (sts : List Step) → (after 𝓔 o sts).registry.view.epoch ≤ 3998
       → LeadsToNormal 𝓔 (after 𝓔 o sts)
   recovers o real sts low =
       found-plan (after 𝓔 o sts) (run-reached 𝓔 (opened-reached 𝓔 o real) sts) (omega arith) (λ _. low)

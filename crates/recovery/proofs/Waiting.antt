@@ -7,16 +7,16 @@ use Prim.Native.Nat.{ℕ, suc, ◌+◌, ◌*◌, ◌-◌, ◌≤◌, ◌<◌}
 use native.Mathlib.Omega.{arith}
 use lib.Dec.{T, eqb, eqb→eq, le→leb, lt→ltb}
 use Rattle.model.specs.Prelude.{upd}
-use Rattle.model.specs.Members.{Members, isReplica, ◌∩◌, size, quorum}
-use Rattle.model.specs.State.{outline, Entries, View, Status, normal, waiting, Stage, idle, leader, boards, Registry, Controller, State, isChoosing, stageNumber}
-use Rattle.model.specs.Steps.{readLeader, setNormal, checks, heardEnough}
+use Rattle.model.specs.Members.{Members, is_replica, ◌∩◌, size, quorum}
+use Rattle.model.specs.State.{outline, Entries, View, Status, normal, waiting, Stage, idle, leader, boards, Registry, Controller, State, is_choosing, stage_number}
+use Rattle.model.specs.Steps.{read_leader, set_normal, checks, heard_enough}
 use Rattle.model.specs.Records.{bare}
 use Rattle.model.proofs.Tests.{by_cond, join-and, eq_test, ne-fact, upd_same, upd_other}
-use Rattle.model.proofs.Quorum.{replica-range, size-sub, size-without, size-some, hasQuorum}
+use Rattle.model.proofs.Quorum.{replica-range, size-sub, size-without, size-some, has_quorum}
 use Rattle.model.proofs.Rules.{◌then◌}
-use Rattle.model.proofs.Invariant.{isWaiting, fits}
+use Rattle.model.proofs.Invariant.{is_waiting, fits}
 use Rattle.model.proofs.Control.{waits-named}
-use Rattle.recovery.specs.Plan.{Draft, first_of, inBoards, turns, put, informs, follows, readsLeader, waitingPart}
+use Rattle.recovery.specs.Plan.{Draft, first_of, in_boards, turns, put, informs, follows, reads_leader, waiting_part}
 use Rattle.recovery.proofs.Lowest.{first-size, first-in}
 use Rattle.recovery.proofs.Reached.{Reached}
 use Rattle.recovery.proofs.Drafts.{Each, Sound, At, at_most, at-so, put-to, need-to, turns-to}
@@ -24,7 +24,7 @@ use Rattle.recovery.proofs.News.{Known, control-ok, still-known, Informed, infor
 use Rattle.recovery.proofs.Following.{leader-real, leader-member, Reads, Heard, control-view, heard-leader, to-heard, follows_to}
 
 -- A controller up to date has read the leader, or is to.
-to_read : (g : Status) (x : Stage) → T (isWaiting g) → T (fits g x) → T (not (inBoards x)) → T (eqb (stageNumber x) 1)
+to_read : (g : Status) (x : Stage) → T (is_waiting g) → T (fits g x) → T (not (in_boards x)) → T (eqb (stage_number x) 1)
 to_read normal x w t n = absurd w
 to_read Status.choosing x w t n = absurd w
 to_read waiting idle w t n = absurd t
@@ -33,7 +33,7 @@ to_read waiting boards w t n = absurd n
 to_read waiting Stage.choosing w t n = absurd t
 
 -- The n lowest members other than the leader l, of whom there are as many.
-module _ (m : Members) (l : ℕ) (real : T (isReplica l)) (member : T (m l)) (n : ℕ) (few : n < size m) where
+module _ (m : Members) (l : ℕ) (real : T (is_replica l)) (member : T (m l)) (n : ℕ) (few : n < size m) where
   abbrev pub rest : Members
   rest = first_of n (upd m l false)
 
@@ -49,7 +49,7 @@ module _ (m : Members) (l : ℕ) (real : T (isReplica l)) (member : T (m l)) (n 
 
   -- With the leader they are a majority, where one more than n is: so any set is that has them all.
   pub enough : quorum (size m) ≤ suc n → (q : Members) → T (q l)
-      → ((b : ℕ) → T (isReplica b) → T (rest b) → T (q b)) → T (hasQuorum m q)
+      → ((b : ℕ) → T (is_replica b) → T (rest b) → T (q b)) → T (has_quorum m q)
   enough most q ql f = le→leb (quorum (size m)) (size (m ∩ q)) (sum rest-size more all most)
     where
       sum : {a b c k : ℕ} → a ≡ n → suc a ≤ b → b ≤ c → k ≤ suc n → k ≤ c
@@ -78,8 +78,8 @@ count n k j q e h = omega arith
 module _ (𝓔 : Entries) where
   open 𝓔 use {Entry}
 
-  module _ (r : Registry) (w : T (isWaiting r.status)) (low : r.view.epoch < 4000) where
-    abbrev led : T (not (isChoosing r.status))
+  module _ (r : Registry) (w : T (is_waiting r.status)) (low : r.view.epoch < 4000) where
+    abbrev led : T (not (is_choosing r.status))
     led = waits-named r.status w
 
     abbrev l : ℕ
@@ -106,13 +106,13 @@ module _ (𝓔 : Entries) where
         }
 
     -- The leader is read, or was.
-    reads-leader : {n : ℕ} {d : Draft Entry} → At 𝓔 n Ready d → At 𝓔 (suc n) (Reads 𝓔 r led) (readsLeader 𝓔 d)
-    unfolding readsLeader
-    reads-leader {n} {d} k = by_cond (At 𝓔 (suc n) (Reads 𝓔 r led)) (inBoards c.stage)
+    reads-leader : {n : ℕ} {d : Draft Entry} → At 𝓔 n Ready d → At 𝓔 (suc n) (Reads 𝓔 r led) (reads_leader 𝓔 d)
+    unfolding reads_leader
+    reads-leader {n} {d} k = by_cond (At 𝓔 (suc n) (Reads 𝓔 r led)) (in_boards c.stage)
         (λ t. at_most 𝓔 (suc n) (omega arith) (at-so 𝓔 (Reads 𝓔 r led) (λ z. record {
           known = z.known;
           current = z.current;
-          stage = eqb→eq (stageNumber c.stage) _ t;
+          stage = eqb→eq (stage_number c.stage) _ t;
           leader = z.leader;
         }) k))
         (λ t. put-to 𝓔 (Reads 𝓔 r led) (bare 11) k.sound
@@ -121,7 +121,7 @@ module _ (𝓔 : Entries) where
         (ap (λ (v : View). (d.state.view v.leader).epoch) cv ∙ k.is.leader ∙ sym k.is.current)
         then tt)
         (λ h. record {
-          known = still-known 𝓔 k.is.known readLeader refl h;
+          known = still-known 𝓔 k.is.known read_leader refl h;
           current = k.is.current;
           stage = refl;
           leader = k.is.leader;
@@ -134,7 +134,7 @@ module _ (𝓔 : Entries) where
         cv = (control-ok 𝓔 k.is.known).current k.is.current
 
     -- The leader and the n others make a majority, all heard at the leader's length or more.
-    sets-normal : (real : T (isReplica l)) (member : T (m l)) (n : ℕ) (few : n < size m) → quorum (size m) ≤ suc n
+    sets-normal : (real : T (is_replica l)) (member : T (m l)) (n : ℕ) (few : n < size m) → quorum (size m) ≤ suc n
         → {k : ℕ} {d : Draft Entry}
         → At 𝓔 k (λ t. Reads 𝓔 r led t
         × ((x : ℕ) → 1 ≤ x → x ≤ 8 → T (rest m l real member n few x) → Heard 𝓔 r led x t)) d
@@ -157,19 +157,19 @@ module _ (𝓔 : Entries) where
         e : t.registry.view.epoch ≡ r.view.epoch
         e = ap (λ (x : Registry). x.view.epoch) f.known.same
 
-        own : T (heardEnough c l)
+        own : T (heard_enough c l)
         own = to-heard c.heard c.view.leader l (heard-leader 𝓔 r led f).0
             (omega (arith, ap (λ (v : View). c.heard v.leader) cv))
 
-        majority : T (hasQuorum m (heardEnough c))
-        majority = enough m l real member n few most (heardEnough c) own
+        majority : T (has_quorum m (heard_enough c))
+        majority = enough m l real member n few most (heard_enough c) own
             (λ b z q. let y = replica-range b z in a.is.1 b y.0 y.1 q)
 
-        holds : Each (checks (outline t) setNormal)
+        holds : Each (checks (outline t) set_normal)
         holds =
-            eq_test (stageNumber c.stage) 2 f.stage
+            eq_test (stage_number c.stage) 2 f.stage
             then eq_test c.view.epoch t.registry.view.epoch (f.current ∙ sym e)
-            then subst (λ (v : View). T (hasQuorum v.members (heardEnough c))) (sym cv) majority
+            then subst (λ (v : View). T (has_quorum v.members (heard_enough c))) (sym cv) majority
             then lt→ltb t.registry.view.epoch 4000 (omega (arith, e)) then tt
 
     -- The n others in turn, then set normal: n is neither more nor less than makes a majority with the leader.
@@ -187,11 +187,11 @@ module _ (𝓔 : Entries) where
         (λ x rx qx n d h. let y = rest_in m l real member _ few x qx in
         at-so 𝓔 _ (λ y. record { base = y.0; new = y.1; old = y.2 }) (follows_to 𝓔 r led x rx y.0 y.1 h)) a))
 
-  pub waiting-to : {n : ℕ} {d : Draft Entry} → Reached 𝓔 d.state → T (isWaiting d.state.registry.status)
+  pub waiting-to : {n : ℕ} {d : Draft Entry} → Reached 𝓔 d.state → T (is_waiting d.state.registry.status)
       → d.state.registry.view.epoch < 4000 → Sound 𝓔 n d
       → At 𝓔 (n + 4 + 515 * (quorum (size d.state.registry.view.members) - 1))
-      (λ t. t.registry.status ≡ normal) (waitingPart 𝓔 d)
-  unfolding waitingPart
+      (λ t. t.registry.status ≡ normal) (waiting_part 𝓔 d)
+  unfolding waiting_part
   waiting-to {n} {d} k w low z =
       let r = d.state.registry in
       let known : Known 𝓔 r d.state = record { reached = k; same = refl } in

@@ -4,7 +4,7 @@
 use Rattle.std.specs.Prelude.{Bool, true, false, cond, ◌&&◌, List, [], ◌∷◌, ◌++◌, ℕ, zero, suc, ◌-◌, leb, ltb, eqb, length}
 use Rattle.model.specs.Prelude.{upd}
 use Rattle.model.specs.Members.{Members, ◌∩◌, size, quorum, lowest}
-use Rattle.model.specs.State.{Entries, Status, normal, waiting, Stage, Controller, State, outline, stageNumber}
+use Rattle.model.specs.State.{Entries, Status, normal, waiting, Stage, Controller, State, outline, stage_number}
 use Rattle.model.specs.Steps.{above, accepted, answer_of, step}
 use Rattle.model.specs.Records.{Record, bare, of, step_of}
 
@@ -18,8 +18,8 @@ abbrev pub highest : Controller → Members → ℕ
 highest c m = lowest (λ x. m x && eqb (size (m ∩ above c x)) 0)
 
 -- "In stage boards".
-abbrev pub inBoards : Stage → Bool
-inBoards g = eqb (stageNumber g) 2
+abbrev pub in_boards : Stage → Bool
+in_boards g = eqb (stage_number g) 2
 
 -- A list in the making: its records so far, the state that they leave, and whether nothing was met that is error 20.
 pub record Draft (E : Type 0) : Type 0 where
@@ -57,35 +57,35 @@ module _ (𝓔 : Entries) where
   }
 
   -- "Left out are" those "that would be refused" n "at its place".
-  unfoldable pub putUnless : ℕ → Record → Draft Entry → Draft Entry
-  putUnless n r d = cond (eqb (answer_of (outline d.state) (step_of r)) n) d (put r d)
+  unfoldable pub put_unless : ℕ → Record → Draft Entry → Draft Entry
+  put_unless n r d = cond (eqb (answer_of (outline d.state) (step_of r)) n) d (put r d)
 
   -- Error 20 unless t.
   unfoldable pub need : Bool → Draft Entry → Draft Entry
   need t d = record { records = d.records; state = d.state; sound = d.sound && t }
 
   -- "Controller news", left out where it would be refused 12.
-  unfoldable pub informsController : Draft Entry → Draft Entry
-  informsController d = putUnless 12 (bare 10) d
+  unfoldable pub informs_controller : Draft Entry → Draft Entry
+  informs_controller d = put_unless 12 (bare 10) d
 
   -- Choosing: "news and hearing" of b, each left out where it would be refused 12.
   unfoldable pub hears : ℕ → Draft Entry → Draft Entry
-  hears b d = putUnless 12 (of 14 b) (putUnless 12 (of 6 b) d)
+  hears b d = put_unless 12 (of 14 b) (put_unless 12 (of 6 b) d)
 
   -- "If choosing: controller news; then for the lowest-numbered majority of members, news and hearing in turn; install
   -- the highest ranked of them as heard, lowest number on a tie". The members are the registry's. With no member to
   -- name, installing 0 is refused.
-  unfoldable pub choosingPart : Draft Entry → Draft Entry
-  choosingPart d =
+  unfoldable pub choosing_part : Draft Entry → Draft Entry
+  choosing_part d =
       let m = d.state.registry.view.members in
       let q = first_of (quorum (size m)) m in
-      let e = turns 8 q hears (informsController d) in
+      let e = turns 8 q hears (informs_controller d) in
       put (of 15 (highest e.state.controller q)) e
 
   -- Waiting: "news" of b, left out where it would be refused 12. Error 20 if b "has another leader in its view after
   -- its news" than l.
   unfoldable pub informs : ℕ → ℕ → Draft Entry → Draft Entry
-  informs l b d = let e = putUnless 12 (of 6 b) d in need (eqb (e.state.view b).leader l) e
+  informs l b d = let e = put_unless 12 (of 6 b) d in need (eqb (e.state.view b).leader l) e
 
   -- "As many receives as bring each to the leader's length" now: none where b is longer.
   unfoldable pub receives : ℕ → ℕ → Draft Entry → Draft Entry
@@ -93,28 +93,28 @@ module _ (𝓔 : Entries) where
 
   -- "News, join, as many receives as .., read": the join left out where it would be refused 11, the reading where 12.
   unfoldable pub follows : ℕ → ℕ → Draft Entry → Draft Entry
-  follows l b d = putUnless 12 (of 12 b) (receives l b (putUnless 11 (of 7 b) (informs l b d)))
+  follows l b d = put_unless 12 (of 12 b) (receives l b (put_unless 11 (of 7 b) (informs l b d)))
 
   -- "Read leader", left out "in stage boards".
-  unfoldable pub readsLeader : Draft Entry → Draft Entry
-  readsLeader d = cond (inBoards d.state.controller.stage) d (put (bare 11) d)
+  unfoldable pub reads_leader : Draft Entry → Draft Entry
+  reads_leader d = cond (in_boards d.state.controller.stage) d (put (bare 11) d)
 
   -- "If waiting: controller news, leader's news, read leader; then for the lowest-numbered members other than the
   -- leader, as many as make a majority with it, heard before or not, news, join, .. receives .., read; then set
   -- normal." Leader and members are the registry's. Error 20 if "the leader is no member"; so there is a "leader .. to
   -- name", as 0 is no member of a row.
-  unfoldable pub waitingPart : Draft Entry → Draft Entry
-  waitingPart d =
+  unfoldable pub waiting_part : Draft Entry → Draft Entry
+  waiting_part d =
       let l = d.state.registry.view.leader in
       let m = d.state.registry.view.members in
       let q = first_of (quorum (size m) - 1) (upd m l false) in
-      put (bare 13) (turns 8 q (follows l) (readsLeader (informs l l (informsController (need (m l) d)))))
+      put (bare 13) (turns 8 q (follows l) (reads_leader (informs l l (informs_controller (need (m l) d)))))
 
   -- "None if normal. If choosing: ..; then as waiting."
   unfoldable pub draft : Status → Draft Entry → Draft Entry
   draft normal d = d
-  draft waiting d = waitingPart d
-  draft Status.choosing d = waitingPart (choosingPart d)
+  draft waiting d = waiting_part d
+  draft Status.choosing d = waiting_part (choosing_part d)
 
   -- The list of a state. Error 20 too where "there are more than 2,064".
   unfoldable pub plan : State Entry → Plan

@@ -15,7 +15,7 @@ use Rattle.cluster.specs.declared.Status.TheVariants.{Normal, Waiting}
 use Rattle.cluster.specs.declared.Stage.{Stage}
 use Rattle.cluster.specs.declared.Stage.TheVariants.{Idle, Leader, Boards}
 use Rattle.cluster.specs.declared.Controller.{Controller}
-use Rattle.cluster.specs.Layout.{statusOf, stageOf, view_of, controllerOf, at, atPair, no_view}
+use Rattle.cluster.specs.Layout.{status_of, stage_of, view_of, controller_of, at, at_pair, no_view}
 use Rattle.refinement.specs.Rows.{TypedController, RowsFixed, MasksFixed}
 
 -- Lists as long as each other are equal if they are by replica.
@@ -24,13 +24,13 @@ pub at-equal : {A : Type 0} (d : A) (xs ys : List A) → length xs ≡ length ys
 at-equal d xs ys e h = ext_get_or d xs ys e (λ i _. h (suc i))
 
 -- The count at place i is by the replicas i / 8 + 1 and i % 8 + 1.
-pair-at : (xs : List ℕ) (i : ℕ) → i < 64 → atPair xs (i / 8 + 1) (i % 8 + 1) ≡ get_or xs i 0
+pair-at : (xs : List ℕ) (i : ℕ) → i < 64 → at_pair xs (i / 8 + 1) (i % 8 + 1) ≡ get_or xs i 0
 pair-at xs i h =
     let p : 8 * (i / 8 + 1 - 1) + (i % 8 + 1 - 1) ≡ i = omega arith in
     rw (replica (i / 8 + 1) (omega arith) (omega arith), replica (i % 8 + 1) (omega arith) (omega arith), p)
 
 -- Lists of 64 are equal if they are by two replicas.
-pub pair-equal : (xs ys : List ℕ) → length xs ≡ 64 → length ys ≡ 64 → ((a b : ℕ) → atPair xs a b ≡ atPair ys a b) → xs
+pub pair-equal : (xs ys : List ℕ) → length xs ≡ 64 → length ys ≡ 64 → ((a b : ℕ) → at_pair xs a b ≡ at_pair ys a b) → xs
     ≡ ys
 pair-equal xs ys e f h =
     ext_get_or 0 xs ys (e ∙ sym f) (λ i l. sym (pair-at xs i (omega arith)) ∙ h (i / 8 + 1) (i % 8 + 1)
@@ -41,44 +41,44 @@ view-equal v w h k e =
     let m = bits-injective v.members w.members h k (λ i. (e i).members) in
     λ i. record { epoch = (e i).epoch; term = (e i).term; leader = (e i).leader; members = m i }
 
--- statusOf and stageOf the other way.
-statusFrom : M.Status → Status
-statusFrom M.normal = Normal
-statusFrom M.waiting = Waiting
-statusFrom M.Status.choosing = Status.Choosing
+-- status_of and stage_of the other way.
+status_from : M.Status → Status
+status_from M.normal = Normal
+status_from M.waiting = Waiting
+status_from M.Status.choosing = Status.Choosing
 
-status-from : (g : Status) → statusFrom (statusOf g) ≡ g
-unfolding statusFrom
+status-from : (g : Status) → status_from (status_of g) ≡ g
+unfolding status_from
 status-from Normal = refl
 status-from Waiting = refl
 status-from Status.Choosing = refl
 
-pub status-equal : (g h : Status) → statusOf g ≡ statusOf h → g ≡ h
-status-equal g h e = sym (status-from g) ∙ ap statusFrom e ∙ status-from h
+pub status-equal : (g h : Status) → status_of g ≡ status_of h → g ≡ h
+status-equal g h e = sym (status-from g) ∙ ap status_from e ∙ status-from h
 
-stageFrom : M.Stage → Stage
-stageFrom M.idle = Idle
-stageFrom M.Stage.leader = Leader
-stageFrom M.boards = Boards
-stageFrom M.Stage.choosing = Stage.Choosing
+stage_from : M.Stage → Stage
+stage_from M.idle = Idle
+stage_from M.Stage.leader = Leader
+stage_from M.boards = Boards
+stage_from M.Stage.choosing = Stage.Choosing
 
-stage-from : (g : Stage) → stageFrom (stageOf g) ≡ g
-unfolding stageFrom
+stage-from : (g : Stage) → stage_from (stage_of g) ≡ g
+unfolding stage_from
 stage-from Idle = refl
 stage-from Leader = refl
 stage-from Boards = refl
 stage-from Stage.Choosing = refl
 
-pub stage-equal : (g h : Stage) → stageOf g ≡ stageOf h → g ≡ h
-stage-equal g h e = sym (stage-from g) ∙ ap stageFrom e ∙ stage-from h
+pub stage-equal : (g h : Stage) → stage_of g ≡ stage_of h → g ≡ h
+stage-equal g h e = sym (stage-from g) ∙ ap stage_from e ∙ stage-from h
 
-pub controllers-equal : (c d : Controller) → TypedController c → TypedController d → controllerOf c ≡ controllerOf d
+pub controllers-equal : (c d : Controller) → TypedController c → TypedController d → controller_of c ≡ controller_of d
     → c ≡ d
 controllers-equal c d t u e =
     let v = view-equal c.view d.view t.members u.members (λ i. (e i).view) in
     let s = stage-equal c.stage d.stage (λ i. (e i).stage) in
     let h = at-equal 0 c.heard d.heard (t.heard ∙ sym u.heard) (λ b i. (e i).heard b) in
-    let j = at-equal 0 c.joined d.joined (t.joined ∙ sym u.joined) (λ b i. (e i).heardJoined b) in
+    let j = at-equal 0 c.joined d.joined (t.joined ∙ sym u.joined) (λ b i. (e i).heard_joined b) in
     λ i. record { view = v i; stage = s i; heard = h i; joined = j i }
 
 pub rows-equal : RowsFixed

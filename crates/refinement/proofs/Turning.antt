@@ -13,22 +13,22 @@ use borrow.Author.Tests.{ne_eqb}
 use mir.Val.{Fits}
 use mir.Syntax.{w16}
 use Rattle.model.specs.Prelude.{upd}
-use Rattle.model.specs.Members.{isReplica, none}
+use Rattle.model.specs.Members.{is_replica, none}
 use Rattle.model.specs.State as M
 use Rattle.model.specs.State.{Entry, entry, outline, entries}
-use Rattle.model.specs.Steps.{Step, countedAbove, accepted, answer_of, qualified, next}
+use Rattle.model.specs.Steps.{Step, counted_above, accepted, answer_of, qualified, next}
 use Rattle.model.proofs.Tests.{at-or, by-test, by_cond, eqb_same, upd_same, upd_other, le-or-lt, split-and, is_true, is_false, of-true}
 use Rattle.model.proofs.Quorum.{replica-range}
 use Rattle.model.proofs.Answer.{zero-accepted, nonzero-refused}
 use Rattle.members.specs.Mask.{bits, under}
 use Rattle.members.proofs.Laws.{replica, gathered}
 pub use Rattle.members.proofs.Laws.{bits_none}
-use Rattle.logstore.specs.Log.{place, logOf}
+use Rattle.logstore.specs.Log.{place, log_of}
 use Rattle.logstore.proofs.Laws.{pairs-length, pairs-at, pairs_set, log-length, log-other, log-gains}
 use Rattle.cluster.specs.declared.Cluster.{Cluster}
-use Rattle.cluster.specs.Layout.{at, atPair, outlineOf}
+use Rattle.cluster.specs.Layout.{at, at_pair, outline_of}
 use Rattle.cluster.proofs.Laws.{at-index, at_set}
-use Rattle.refinement.specs.Refinement.{Places, logged, listed, putLog, putList, storeAt, Full, abs, Short, placesAfter, Turns}
+use Rattle.refinement.specs.Refinement.{Places, logged, listed, put_log, put_list, store_at, Full, abs, Short, places_after, Turns}
 
 -- A list of eight by a number that is no replica.
 pub at_none : {A : Type 0} (d : A) (xs : List A) (b : ℕ) → length xs ≡ 8 → 8 < b → at d xs b ≡ d
@@ -48,74 +48,74 @@ module _ (p : Places) (full : Full p) where
   pub listed-full : length (listed p) ≡ 512
   listed-full = pairs-length p.list p.list2 list-pairs ∙ full.list
 
-  pub logged-at : (i : ℕ) → get_or (logged p) i (entry 0 0) ≡ storeAt p i
+  pub logged-at : (i : ℕ) → get_or (logged p) i (entry 0 0) ≡ store_at p i
   logged-at i = pairs-at p.store p.store2 i store-pairs
 
-pub logged-put : (p : Places) (i : ℕ) (x : Entry) → logged (putLog p i x) ≡ set (logged p) i x
+pub logged-put : (p : Places) (i : ℕ) (x : Entry) → logged (put_log p i x) ≡ set (logged p) i x
 logged-put p i x = pairs_set p.store p.store2 i x.value x.term
 
-pub listed-put : (p : Places) (i : ℕ) (x : Entry) → listed (putList p i x) ≡ set (listed p) i x
+pub listed-put : (p : Places) (i : ℕ) (x : Entry) → listed (put_list p i x) ≡ set (listed p) i x
 listed-put p i x = pairs_set p.list p.list2 i x.value x.term
 
 -- The lengths of the logs are the row's.
 module _ (store : List Entry) (full : length store ≡ 4096) (len : List ℕ) (short : Short len) where
-  pub log-len : (b : ℕ) → length (logOf store b (at 0 len b)) ≡ at 0 len b
+  pub log-len : (b : ℕ) → length (log_of store b (at 0 len b)) ≡ at 0 len b
   log-len zero = refl
   log-len (suc b) = go (le-or-lt (suc b) 8)
     where
-      go : (suc b ≤ 8) ⊎ (8 < suc b) → length (logOf store (suc b) (at 0 len (suc b))) ≡ at 0 len (suc b)
+      go : (suc b ≤ 8) ⊎ (8 < suc b) → length (log_of store (suc b) (at 0 len (suc b))) ≡ at 0 len (suc b)
       go (inl h) = log-length store full (suc b) (omega arith) h (at 0 len (suc b)) (short.most (suc b))
       go (inr h) = rw (at_none 0 len (suc b) short.eight h)
 
 module _ (row : Cluster) (short : Short row.len) (few : row.issued ≤ 512) (p : Places) (full : Full p) where
-  pub outline-abs : outline (abs row p) ≡ outlineOf row
+  pub outline-abs : outline (abs row p) ≡ outline_of row
   outline-abs =
       let c : length (take row.issued (listed p)) ≡ row.issued =
       length-take-le row.issued (listed p) (omega (arith, listed-full p full)) in
       let l = fun_ext (log-len (logged p) (logged-full p full) row.len short) in
       λ i. record {
-        registry = (outlineOf row).registry;
-        controller = (outlineOf row).controller;
-        view = (outlineOf row).view;
-        joined = (outlineOf row).joined;
-        acked = (outlineOf row).acked;
+        registry = (outline_of row).registry;
+        controller = (outline_of row).controller;
+        view = (outline_of row).view;
+        joined = (outline_of row).joined;
+        acked = (outline_of row).acked;
         len = l i;
         issued = c i;
       }
 
   -- A refused step leaves everything.
-  pub turns-refused : (st : Step) (n : ℕ) → n ≡ answer_of (outlineOf row) st → n ≢ 0
+  pub turns-refused : (st : Step) (n : ℕ) → n ≡ answer_of (outline_of row) st → n ≢ 0
       → Turns st row p (record { answer = n; behind = 0; row = row }) p
   turns-refused st n e h =
-      let t = nonzero-refused (outlineOf row) st (λ z. h (e ∙ z)) in
+      let t = nonzero-refused (outline_of row) st (λ z. h (e ∙ z)) in
       let u : accepted (outline (abs row p)) st ≡ false = ap (λ m. accepted m st) outline-abs ∙ t in
       record {
         answer = e;
-        behind = bits_none ∙ ap (λ x. cond x (qualified (outlineOf row) st) none) (sym t);
+        behind = bits_none ∙ ap (λ x. cond x (qualified (outline_of row) st) none) (sym t);
         state = ap (λ x. cond x (next entries (abs row p) st) (abs row p)) (sym u);
         short = short;
         issued = few;
-        places = ap (λ x. cond x (placesAfter st row p) p) (sym t);
+        places = ap (λ x. cond x (places_after st row p) p) (sym t);
         refused = λ _. refl;
       }
 
   -- An accepted one leaves what the model's does, if it writes what it is to write, and has those behind it that
   -- qualify.
-  pub turns-accepted : (st : Step) (n q : ℕ) (row' : Cluster) (p' : Places) → n ≡ answer_of (outlineOf row) st → n ≡ 0
-      → bits q ≡ qualified (outlineOf row) st
-      → (accepted (outlineOf row) st ≡ true → abs row' p' ≡ next entries (abs row p) st)
-      → Short row'.len → row'.issued ≤ 512 → p' ≡ placesAfter st row p
+  pub turns-accepted : (st : Step) (n q : ℕ) (row' : Cluster) (p' : Places) → n ≡ answer_of (outline_of row) st → n ≡ 0
+      → bits q ≡ qualified (outline_of row) st
+      → (accepted (outline_of row) st ≡ true → abs row' p' ≡ next entries (abs row p) st)
+      → Short row'.len → row'.issued ≤ 512 → p' ≡ places_after st row p
       → Turns st row p (record { answer = 0; behind = q; row = row' }) p'
   turns-accepted st n q row' p' e z b f short' few' w =
-      let t = zero-accepted (outlineOf row) st (sym e ∙ z) in
+      let t = zero-accepted (outline_of row) st (sym e ∙ z) in
       let u : accepted (outline (abs row p)) st ≡ true = ap (λ m. accepted m st) outline-abs ∙ t in
       record {
         answer = sym z ∙ e;
-        behind = b ∙ ap (λ x. cond x (qualified (outlineOf row) st) none) (sym t);
+        behind = b ∙ ap (λ x. cond x (qualified (outline_of row) st) none) (sym t);
         state = f t ∙ ap (λ x. cond x (next entries (abs row p) st) (abs row p)) (sym u);
         short = short';
         issued = few';
-        places = w ∙ ap (λ x. cond x (placesAfter st row p) p) (sym t);
+        places = w ∙ ap (λ x. cond x (places_after st row p) p) (sym t);
         refused = λ h. absurd (h refl);
       }
 
@@ -146,46 +146,46 @@ module _ (len : List ℕ) (short : Short len) (k n : ℕ) (low : 1 ≤ k) (high 
 
   -- The log of k alone changes, if the others' places hold what they did.
   pub logs-set : (store store' : List Entry)
-      → ((x : ℕ) → 1 ≤ x → x ≢ k → logOf store' x (at 0 len x) ≡ logOf store x (at 0 len x))
-      → (λ x. logOf store' x (at 0 (set len (k - 1) n) x)) ≡ upd (λ x. logOf store x (at 0 len x)) k (logOf store' k n)
+      → ((x : ℕ) → 1 ≤ x → x ≢ k → log_of store' x (at 0 len x) ≡ log_of store x (at 0 len x))
+      → (λ x. log_of store' x (at 0 (set len (k - 1) n) x)) ≡ upd (λ x. log_of store x (at 0 len x)) k (log_of store' k n)
   logs-set store store' others = fun_ext (at-or k
-      (rw (eqb_same k) (ap (logOf store' k) (len-set k ∙ upd_same (at 0 len) k n)))
-      (λ x m. rw (ne_eqb x k m) (ap (logOf store' x) (len-set x ∙ upd_other (at 0 len) k n x m) ∙ other x m)))
+      (rw (eqb_same k) (ap (log_of store' k) (len-set k ∙ upd_same (at 0 len) k n)))
+      (λ x m. rw (ne_eqb x k m) (ap (log_of store' x) (len-set x ∙ upd_other (at 0 len) k n x m) ∙ other x m)))
     where
-      other : (x : ℕ) → x ≢ k → logOf store' x (at 0 len x) ≡ logOf store x (at 0 len x)
+      other : (x : ℕ) → x ≢ k → log_of store' x (at 0 len x) ≡ log_of store x (at 0 len x)
       other zero m = refl
       other (suc x) m = others (suc x) (omega arith) m
 
 -- A log of n entries that gets v at its end.
 pub logs-grow : (len : List ℕ) (short : Short len) (store : List Entry) → length store ≡ 4096
     → (k : ℕ) (v : Entry) → 1 ≤ k → k ≤ 8 → at 0 len k < 512
-    → (λ x. logOf (set store (place k (at 0 len k)) v) x (at 0 (set len (k - 1) (at 0 len k + 1)) x))
-    ≡ upd (λ x. logOf store x (at 0 len x)) k (logOf store k (at 0 len k) ++ (v ∷ []))
+    → (λ x. log_of (set store (place k (at 0 len k)) v) x (at 0 (set len (k - 1) (at 0 len k + 1)) x))
+    ≡ upd (λ x. log_of store x (at 0 len x)) k (log_of store k (at 0 len k) ++ (v ∷ []))
 logs-grow len short store full k v low high room =
     logs-set len short k (at 0 len k + 1) low high store (set store (place k (at 0 len k)) v)
     (λ x h m. log-other store k x (at 0 len k) (at 0 len x) v low h m room (short.most x))
-    ∙ ap (upd (λ x. logOf store x (at 0 len x)) k) (log-gains store full k low high (at 0 len k) v room)
+    ∙ ap (upd (λ x. log_of store x (at 0 len x)) k) (log-gains store full k low high (at 0 len k) v room)
 
 -- Counts, eight by eight in one list: a write is the model's update.
-module _ (cs : List ℕ) (a b n : ℕ) (ra : T (isReplica a)) (rb : T (isReplica b)) (e : length cs ≡ 64) where
+module _ (cs : List ℕ) (a b n : ℕ) (ra : T (is_replica a)) (rb : T (is_replica b)) (e : length cs ≡ 64) where
   abbrev pair : ℕ
   pair = 8 * (a - 1) + (b - 1)
 
-  apart : (x y : ℕ) → (x ≡ a → y ≡ b → ⊥) → atPair (set cs pair n) x y ≡ atPair cs x y
-  apart x y f = by-test (isReplica x && isReplica y)
-      (λ t. let z = split-and (isReplica x) (isReplica y) t in
-      rw (is_true (isReplica x && isReplica y) t) (get_or-set_other cs pair (8 * (x - 1) + (y - 1)) n 0 (λ q. f
+  apart : (x y : ℕ) → (x ≡ a → y ≡ b → ⊥) → at_pair (set cs pair n) x y ≡ at_pair cs x y
+  apart x y f = by-test (is_replica x && is_replica y)
+      (λ t. let z = split-and (is_replica x) (is_replica y) t in
+      rw (is_true (is_replica x && is_replica y) t) (get_or-set_other cs pair (8 * (x - 1) + (y - 1)) n 0 (λ q. f
       (omega (arith, q, replica-range a ra, replica-range b rb, replica-range x z.0, replica-range y z.1))
       (omega (arith, q, replica-range a ra, replica-range b rb, replica-range x z.0, replica-range y z.1)))))
-      (λ t. rw (is_false (isReplica x && isReplica y) t))
+      (λ t. rw (is_false (is_replica x && is_replica y) t))
 
-  pub pair_set : atPair (set cs pair n) ≡ upd (atPair cs) a (upd (atPair cs a) b n)
+  pub pair_set : at_pair (set cs pair n) ≡ upd (at_pair cs) a (upd (at_pair cs a) b n)
   pair_set =
       fun_ext (λ x. fun_ext (λ y. at-or
-      {P = λ x. (y : ℕ) → atPair (set cs pair n) x y ≡ upd (atPair cs) a (upd (atPair cs a) b n) x y} a
+      {P = λ x. (y : ℕ) → at_pair (set cs pair n) x y ≡ upd (at_pair cs) a (upd (at_pair cs a) b n) x y} a
       (at-or b
       (rw (eqb_same a) (rw (eqb_same b)
-      (rw (is_true (isReplica a) ra, is_true (isReplica b) rb)
+      (rw (is_true (is_replica a) ra, is_true (is_replica b) rb)
       (get_or-set_same cs pair n 0 (omega (arith, replica-range a ra, replica-range b rb))))))
       (λ y m. rw (eqb_same a) (rw (ne_eqb y b m) (apart a y (λ _ q. m q)))))
       (λ x m y. rw (ne_eqb x a m) (apart x y (λ q _. m q))) x y))
@@ -198,51 +198,51 @@ wiped cs i (suc (suc k)) = set (wiped cs i (suc k)) (i + suc k) 0
 
 -- The eight counts of b set to 0, then its own to n.
 module _ (acked : List ℕ) (b n : ℕ) (low : 1 ≤ b) (high : b ≤ 8) (all : length acked ≡ 64) where
-  rb : T (isReplica b)
+  rb : T (is_replica b)
   rb = of-true (replica b low high)
 
   record Cleared (k : ℕ) (cs : List ℕ) : Type 0 where
     many : length cs ≡ 64
-    others : (x y : ℕ) → x ≢ b → atPair cs x y ≡ atPair acked x y
-    own : (y : ℕ) → y ≤ k → atPair cs b y ≡ 0
+    others : (x y : ℕ) → x ≢ b → at_pair cs x y ≡ at_pair acked x y
+    own : (y : ℕ) → y ≤ k → at_pair cs b y ≡ 0
 
   start : Cleared 0 acked
   start = record { many = all; others = λ _ _ _. refl; own = none }
     where
-      none : (y : ℕ) → y ≤ 0 → atPair acked b y ≡ 0
+      none : (y : ℕ) → y ≤ 0 → at_pair acked b y ≡ 0
       none zero h = rw (replica b low high)
       none (suc y) h = absurd (omega arith)
 
   clear : {cs : List ℕ} (k j : ℕ) → k < 8 → j ≡ 8 * (b - 1) + k → Cleared k cs → Cleared (suc k) (set cs j 0)
   clear {cs} k j h q c = record {
     many = length-set cs j 0 ∙ c.many;
-    others = λ x y m. ap (λ f. f x y) e ∙ ap (λ f. f y) (upd_other (atPair cs) b _ x m) ∙ c.others x y m;
-    own = λ y l. ap (λ f. f b y) e ∙ ap (λ f. f y) (upd_same (atPair cs) b _)
-        ∙ at-or {P = λ y. y ≤ suc k → upd (atPair cs b) (suc k) 0 y ≡ 0} (suc k)
-        (λ _. upd_same (atPair cs b) (suc k) 0)
-        (λ y m l. upd_other (atPair cs b) (suc k) 0 y m ∙ c.own y (omega arith)) y l;
+    others = λ x y m. ap (λ f. f x y) e ∙ ap (λ f. f y) (upd_other (at_pair cs) b _ x m) ∙ c.others x y m;
+    own = λ y l. ap (λ f. f b y) e ∙ ap (λ f. f y) (upd_same (at_pair cs) b _)
+        ∙ at-or {P = λ y. y ≤ suc k → upd (at_pair cs b) (suc k) 0 y ≡ 0} (suc k)
+        (λ _. upd_same (at_pair cs b) (suc k) 0)
+        (λ y m l. upd_other (at_pair cs b) (suc k) 0 y m ∙ c.own y (omega arith)) y l;
   }
     where
-      e : atPair (set cs j 0) ≡ upd (atPair cs) b (upd (atPair cs b) (suc k) 0)
+      e : at_pair (set cs j 0) ≡ upd (at_pair cs) b (upd (at_pair cs b) (suc k) 0)
       e =
           let p : j ≡ 8 * (b - 1) + (suc k - 1) = omega arith in
           rw p (pair_set cs b (suc k) 0 rb (of-true (replica (suc k) (omega arith) (omega arith))) c.many)
 
   finish : {cs : List ℕ} → Cleared 8 cs → (length (set cs (8 * (b - 1) + (b - 1)) n) ≡ 64)
-      × (atPair (set cs (8 * (b - 1) + (b - 1)) n) ≡ upd (atPair acked) b (upd M.zeros b n))
+      × (at_pair (set cs (8 * (b - 1) + (b - 1)) n) ≡ upd (at_pair acked) b (upd M.zeros b n))
   finish {cs} c = (
     length-set cs (8 * (b - 1) + (b - 1)) n ∙ c.many,
     pair_set cs b b n rb rb c.many ∙ fun_ext (λ x. fun_ext (λ y. go x y)),
   )
     where
-      zero-own : (y : ℕ) → atPair cs b y ≡ 0
+      zero-own : (y : ℕ) → at_pair cs b y ≡ 0
       zero-own y =
-          by-test (isReplica y) (λ t. c.own y (replica-range y t).1)
-          (λ t. rw (replica b low high, is_false (isReplica y) t))
+          by-test (is_replica y) (λ t. c.own y (replica-range y t).1)
+          (λ t. rw (replica b low high, is_false (is_replica y) t))
 
-      go : (x y : ℕ) → upd (atPair cs) b (upd (atPair cs b) b n) x y ≡ upd (atPair acked) b (upd M.zeros b n) x y
+      go : (x y : ℕ) → upd (at_pair cs) b (upd (at_pair cs b) b n) x y ≡ upd (at_pair acked) b (upd M.zeros b n) x y
       go = at-or b
-          (λ y. rw (eqb_same b) (at-or {P = λ y. upd (atPair cs b) b n y ≡ upd M.zeros b n y} b (rw (eqb_same b))
+          (λ y. rw (eqb_same b) (at-or {P = λ y. upd (at_pair cs b) b n y ≡ upd M.zeros b n y} b (rw (eqb_same b))
           (λ y m. rw (ne_eqb y b m) (zero-own y)) y))
           (λ x m y. rw (ne_eqb x b m) (c.others x y m))
 
@@ -255,13 +255,13 @@ module _ (acked : List ℕ) (b n : ℕ) (low : 1 ≤ b) (high : b ≤ 8) (all : 
   wiped-room k j h l = omega (arith, (cleared k h).many)
 
   pub restart : (length (set (wiped acked (8 * (b - 1)) 8) (8 * (b - 1) + (b - 1)) n) ≡ 64)
-      × (atPair (set (wiped acked (8 * (b - 1)) 8) (8 * (b - 1) + (b - 1)) n) ≡ upd (atPair acked) b (upd M.zeros b n))
+      × (at_pair (set (wiped acked (8 * (b - 1)) 8) (8 * (b - 1) + (b - 1)) n) ≡ upd (at_pair acked) b (upd M.zeros b n))
   restart = finish (cleared 8 (omega arith))
 
 -- One more replica is looked at for the quorum of a receipt.
 pub counted-more : (acked : List ℕ) (b n x q q' : ℕ) → 1 ≤ b → b ≤ 8 → 1 ≤ x → x ≤ 8 → bits q
-    ≡ under x (countedAbove (atPair acked b) n)
+    ≡ under x (counted_above (at_pair acked b) n)
     → bits q' ≡ upd (bits q) x (ltb n (get_or acked (8 * (b - 1) + (x - 1)) 0)) → bits q'
-    ≡ under (x + 1) (countedAbove (atPair acked b) n)
+    ≡ under (x + 1) (counted_above (at_pair acked b) n)
 counted-more acked b n x q q' hb kb hx kx e f =
-    gathered (countedAbove (atPair acked b) n) x q q' _ hx kx e f (rw (replica b hb kb, replica x hx kx))
+    gathered (counted_above (at_pair acked b) n) x q q' _ hx kx e f (rw (replica b hb kb, replica x hx kx))

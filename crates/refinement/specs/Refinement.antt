@@ -4,14 +4,14 @@
 use Rattle.std.specs.Prelude.{cond, List, ◌≢◌, ◌≡◌, ℕ, ◌≤◌, length, take, get_or, set}
 use Rattle.model.specs.State.{Entry, entry, RowState, entries}
 use Rattle.model.specs.Steps.{Step, Writes, appends, commits, receives, nothing, writes, accepted, answer_of, behind, step}
-use Rattle.logstore.specs.Log.{pairs, place, logOf}
+use Rattle.logstore.specs.Log.{pairs, place, log_of}
 use Rattle.cluster.specs.declared.View.{View}
 use Rattle.cluster.specs.declared.Registry.{Registry}
 use Rattle.cluster.specs.declared.Controller.{Controller}
 use Rattle.cluster.specs.declared.Cluster.{Cluster}
 use Rattle.cluster.specs.declared.Outcome.{Outcome}
 use Rattle.cluster.specs.declared.Settled.{Settled}
-use Rattle.cluster.specs.Layout.{bits, registryOf, controllerOf, view_of, at, atPair, no_view, outlineOf}
+use Rattle.cluster.specs.Layout.{bits, registry_of, controller_of, view_of, at, at_pair, no_view, outline_of}
 pub use Rattle.cluster.specs.Stages.{HasLeader}
 
 -- The lent places of a call: the log store and the committed list (document 01: the receipts), which hold values, and
@@ -43,12 +43,12 @@ pub record Full (p : Places) : Type 0 where
 -- The state that a row and the lent places stand for.
 abbrev pub abs : Cluster → Places → RowState
 abs row p = record {
-  registry = registryOf row.registry;
-  controller = controllerOf row.controller;
+  registry = registry_of row.registry;
+  controller = controller_of row.controller;
   view = λ b. view_of (at no_view row.views b);
   joined = at 0 row.joined;
-  acked = atPair row.acked;
-  log = λ b. logOf (logged p) b (at 0 row.len b);
+  acked = at_pair row.acked;
+  log = λ b. log_of (logged p) b (at 0 row.len b);
   committed = take row.issued (listed p);
 }
 
@@ -82,38 +82,38 @@ pub record Ready (row : Cluster) : Type 0 where
   pub reads : HasLeader row.controller
 
 -- An entry written at a place of the store, value and term, and one at a place of the list.
-abbrev pub putLog : Places → ℕ → Entry → Places
-putLog p i x = lent (set p.store i x.value) (set p.store2 i x.term) p.list p.list2
+abbrev pub put_log : Places → ℕ → Entry → Places
+put_log p i x = lent (set p.store i x.value) (set p.store2 i x.term) p.list p.list2
 
-abbrev pub putList : Places → ℕ → Entry → Places
-putList p i x = lent p.store p.store2 (set p.list i x.value) (set p.list2 i x.term)
+abbrev pub put_list : Places → ℕ → Entry → Places
+put_list p i x = lent p.store p.store2 (set p.list i x.value) (set p.list2 i x.term)
 
 -- The entry at a place of the store.
-abbrev pub storeAt : Places → ℕ → Entry
-storeAt p i = entry (get_or p.store i 0) (get_or p.store2 i 0)
+abbrev pub store_at : Places → ℕ → Entry
+store_at p i = entry (get_or p.store i 0) (get_or p.store2 i 0)
 
 -- The places after an accepted step. Append (1) writes the value and b's own term at the end of b's log; receive (8)
 -- the leader's next entry there; commit (2) the next entry of b's log at the end of the receipts; no other step writes
 -- a place.
 abbrev pub written : Writes → Cluster → Places → Places
 written (appends b value) row p =
-    putLog p (place b (at 0 row.len b)) (entry value (at no_view row.views b).term)
-written (commits b) row p = putList p row.issued (storeAt p (place b row.issued))
+    put_log p (place b (at 0 row.len b)) (entry value (at no_view row.views b).term)
+written (commits b) row p = put_list p row.issued (store_at p (place b row.issued))
 written (receives b) row p =
-    let n = at 0 row.len b in putLog p (place b n) (storeAt p (place (at no_view row.views b).leader n))
+    let n = at 0 row.len b in put_log p (place b n) (store_at p (place (at no_view row.views b).leader n))
 written nothing row p = p
 
-abbrev pub placesAfter : Step → Cluster → Places → Places
-placesAfter st row p = written (writes st) row p
+abbrev pub places_after : Step → Cluster → Places → Places
+places_after st row p = written (writes st) row p
 
 -- What the step st of a row and its places answers, who is behind it, and what it leaves: the row of x, the places p'.
 pub record Turns (st : Step) (row : Cluster) (p : Places) (x : Outcome) (p' : Places) : Type 0 where
-  pub answer : x.answer ≡ answer_of (outlineOf row) st
-  pub behind : bits x.behind ≡ behind (outlineOf row) st
+  pub answer : x.answer ≡ answer_of (outline_of row) st
+  pub behind : bits x.behind ≡ behind (outline_of row) st
   pub state : abs x.row p' ≡ step entries (abs row p) st
   pub short : Short x.row.len
   pub issued : x.row.issued ≤ 512
-  pub places : p' ≡ cond (accepted (outlineOf row) st) (placesAfter st row p) p
+  pub places : p' ≡ cond (accepted (outline_of row) st) (places_after st row p) p
   pub refused : x.answer ≢ 0 → x.row ≡ row
 
 -- The same by the answer n, the mask q of those behind it, and the row row' that a step leaves.

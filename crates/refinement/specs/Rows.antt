@@ -3,7 +3,7 @@
 use Rattle.std.specs.Prelude.{◌≡◌, ℕ, ◌<◌, length}
 use Rattle.cluster.specs.declared.Controller.{Controller}
 use Rattle.cluster.specs.declared.Cluster.{Cluster}
-use Rattle.cluster.specs.Layout.{bits, at, no_view, outlineOf}
+use Rattle.cluster.specs.Layout.{bits, at, no_view, outline_of}
 use Rattle.refinement.specs.Refinement.{Shape}
 
 -- What a controller's type fixes: the lengths of its arrays, and that its members are a mask.
@@ -21,7 +21,7 @@ pub record Typed (row : Cluster) : Type 0 where
 
 -- Two rows with one outline are the same row: a promise that gives a row's outline gives the whole row.
 unfoldable pub RowsFixed : Type 0
-RowsFixed = (row row' : Cluster) → Typed row → Typed row' → outlineOf row ≡ outlineOf row' → row ≡ row'
+RowsFixed = (row row' : Cluster) → Typed row → Typed row' → outline_of row ≡ outline_of row' → row ≡ row'
 
 -- Two masks of one set are the same mask: a promise that gives a set gives the mask.
 unfoldable pub MasksFixed : Type 0

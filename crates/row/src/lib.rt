@@ -65,8 +65,8 @@ pub extern "C" fn describe_record(bytes: &[u8], answer: usize, line: &mut [u8]) 
 // a valid opening, then 3 for a slice that is shorter than the image; both leave the slice untouched.
 #[unsafe(no_mangle)]
 pub extern "C" fn save_sheet(sheet: &[u8], image: &mut [u8]) -> usize
-    ensures { (result ≡ Archive.saveResult sheet.now image.old)
-        × (image.new ≡ Archive.saveLeft sheet.now image.old) }
+    ensures { (result ≡ Archive.save_result sheet.now image.old)
+        × (image.new ≡ Archive.save_left sheet.now image.old) }
 {
     archive::save_sheet(sheet, &mut *image)
 }
@@ -76,9 +76,9 @@ pub extern "C" fn save_sheet(sheet: &[u8], image: &mut [u8]) -> usize
 // ends as zeros.
 #[unsafe(no_mangle)]
 pub extern "C" fn show_image(image: &[u8], text: &mut [u8], scratch: &mut [u8]) -> usize
-    ensures { (result ≡ Archive.showResult image.now text.old scratch.old)
-        × (text.new ≡ Archive.showLeft image.now text.old scratch.old)
-        × (scratch.new ≡ Archive.scratchLeft scratch.old) }
+    ensures { (result ≡ Archive.show_result image.now text.old scratch.old)
+        × (text.new ≡ Archive.show_left image.now text.old scratch.old)
+        × (scratch.new ≡ Archive.scratch_left scratch.old) }
 {
     archive::show_image(image, &mut *text, &mut *scratch)
 }
@@ -88,8 +88,8 @@ pub extern "C" fn show_image(image: &[u8], text: &mut [u8], scratch: &mut [u8]) 
 // there is no such list; each refusal leaves the slice untouched.
 #[unsafe(no_mangle)]
 pub extern "C" fn plan_sheet(sheet: &[u8], list: &mut [u8]) -> usize
-    ensures { (result ≡ Guiding.sheetResult sheet.now list.old)
-        × (list.new ≡ Guiding.sheetLeft sheet.now list.old) }
+    ensures { (result ≡ Guiding.sheet_result sheet.now list.old)
+        × (list.new ≡ Guiding.sheet_left sheet.now list.old) }
 {
     guiding::plan_sheet(sheet, &mut *list)
 }
@@ -99,9 +99,9 @@ pub extern "C" fn plan_sheet(sheet: &[u8], list: &mut [u8]) -> usize
 // refusal leaves the slice untouched. Past 3 the whole scratch ends as zeros.
 #[unsafe(no_mangle)]
 pub extern "C" fn plan_image(image: &[u8], list: &mut [u8], scratch: &mut [u8]) -> usize
-    ensures { (result ≡ Guiding.imageResult image.now list.old scratch.old)
-        × (list.new ≡ Guiding.imageLeft image.now list.old scratch.old)
-        × (scratch.new ≡ Guiding.scratchLeft list.old scratch.old) }
+    ensures { (result ≡ Guiding.image_result image.now list.old scratch.old)
+        × (list.new ≡ Guiding.image_left image.now list.old scratch.old)
+        × (scratch.new ≡ Guiding.scratch_left list.old scratch.old) }
 {
     guiding::plan_image(image, &mut *list, &mut *scratch)
 }

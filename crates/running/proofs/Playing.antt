@@ -9,12 +9,12 @@ use native.Mathlib.Omega.{arith}
 use lib.Dec.{T, eqb, leb, leb→le, eqb→eq}
 use lib.ListN.{length, take, drop, get_or, set, length-set}
 use lib.Seq.{take-suc-set, drop-drop, get_or-take}
-use Rattle.model.specs.Members.{isReplica, none}
-use Rattle.model.specs.State.{RowState, entries, outline, Opening, openingWith, canOpen, opened}
+use Rattle.model.specs.Members.{is_replica, none}
+use Rattle.model.specs.State.{RowState, entries, outline, Opening, opening_with, can_open, opened}
 use Rattle.model.specs.Steps.{Step, answer_of, behind, step}
-use Rattle.model.specs.Records.{openingOf, Record, step_of}
-use Rattle.model.specs.Runs.{steps_of, run, answers, setsBehind}
-use Rattle.model.specs.Ranges.{every, eight, in_range, termsInRange, keptInRange}
+use Rattle.model.specs.Records.{opening_of, Record, step_of}
+use Rattle.model.specs.Runs.{steps_of, run, answers, sets_behind}
+use Rattle.model.specs.Ranges.{every, eight, in_range, terms_in_range, kept_in_range}
 use Rattle.model.specs.Claim.{after}
 use Rattle.model.proofs.Tests.{split-and, is_true, of-true}
 use Rattle.model.proofs.Answer.{answer-most}
@@ -24,7 +24,7 @@ use Rattle.model.proofs.Made.{kept_in, terms-run}
 use Rattle.model.proofs.Theorem.{run-append}
 use Rattle.cluster.specs.declared.Cluster.{Cluster}
 use Rattle.cluster.specs.declared.Outcome.{Outcome}
-use Rattle.cluster.specs.Layout.{bits, outlineOf}
+use Rattle.cluster.specs.Layout.{bits, outline_of}
 use Rattle.refinement.specs.Refinement.{Places, Full, abs, Shape, Ready, Turns}
 use Rattle.refinement.proofs.Turning.{bits_none}
 use Rattle.steps_central.specs.Opening.{Opens, OpenedWith}
@@ -32,17 +32,17 @@ use Rattle.steps.specs.Call.{valid, Did}
 use Rattle.shown.proofs.Valid.{ready, all-tests}
 use Rattle.steps.proofs.Calling.{did-step, did-full}
 use Rattle.text.specs.Text.{Text}
-use Rattle.records.specs.Bytes.{recordAt, records, wholeRecords, isOpening, isSheet}
+use Rattle.records.specs.Bytes.{record_at, records, whole_records, is_opening, is_sheet}
 use Rattle.records.proofs.Decoding.{room, records-suc}
-use Rattle.running.specs.Running.{following, stateAt, answersOf, Ran}
+use Rattle.running.specs.Running.{following, state_at, answers_of, Ran}
 
 -- What refusal 2 has seen.
-module _ (s : Text) (e : isSheet s ≡ true) where
-  parts : T (wholeRecords (length s)) × T (isOpening (recordAt s))
-  parts = split-and (wholeRecords (length s)) (isOpening (recordAt s)) (of-true e)
+module _ (s : Text) (e : is_sheet s ≡ true) where
+  parts : T (whole_records (length s)) × T (is_opening (record_at s))
+  parts = split-and (whole_records (length s)) (is_opening (record_at s)) (of-true e)
 
-  pub sheet-whole : wholeRecords (length s) ≡ true
-  sheet-whole = is_true (wholeRecords (length s)) parts.0
+  pub sheet-whole : whole_records (length s) ≡ true
+  sheet-whole = is_true (whole_records (length s)) parts.0
 
   pub sheet-some : suc (length s / 8 - 1) ≡ length s / 8
   sheet-some = omega (arith, room (length s) sheet-whole)
@@ -52,37 +52,37 @@ module _ (s : Text) (e : isSheet s ≡ true) where
       leb→le (length s / 8) 4095
       (split-and (eqb (length s % 8) 0 && leb 1 (length s / 8)) (leb (length s / 8) 4095) parts.0).1
 
-  first : T (eqb (recordAt s).step 0) × T (isReplica (recordAt s).board)
+  first : T (eqb (record_at s).step 0) × T (is_replica (record_at s).board)
   first =
-      let r = recordAt s in
-      split-and (eqb r.step 0) (isReplica r.board)
-      (split-and (eqb r.step 0 && isReplica r.board) (eqb r.other 0)
-      (split-and (eqb r.step 0 && isReplica r.board && eqb r.other 0) (eqb r.spare 0)
-      (split-and (eqb r.step 0 && isReplica r.board && eqb r.other 0 && eqb r.spare 0) (eqb r.value 0)
+      let r = record_at s in
+      split-and (eqb r.step 0) (is_replica r.board)
+      (split-and (eqb r.step 0 && is_replica r.board) (eqb r.other 0)
+      (split-and (eqb r.step 0 && is_replica r.board && eqb r.other 0) (eqb r.spare 0)
+      (split-and (eqb r.step 0 && is_replica r.board && eqb r.other 0 && eqb r.spare 0) (eqb r.value 0)
       parts.1).0).0).0
 
-  pub sheet-step : (recordAt s).step ≡ 0
-  sheet-step = eqb→eq (recordAt s).step 0 first.0
+  pub sheet-step : (record_at s).step ≡ 0
+  sheet-step = eqb→eq (record_at s).step 0 first.0
 
-  pub sheet-real : T (isReplica (recordAt s).board)
+  pub sheet-real : T (is_replica (record_at s).board)
   sheet-real = first.1
 
 -- The opening call on its board.
-pub begun : (s : Text) → isSheet s ≡ true → (b : ℕ) → b ≡ (recordAt s).board → (x : Outcome) → Opens (openingWith b) x
-    → OpenedWith (openingOf (recordAt s)) x.row
+pub begun : (s : Text) → is_sheet s ≡ true → (b : ℕ) → b ≡ (record_at s).board → (x : Outcome) → Opens (opening_with b) x
+    → OpenedWith (opening_of (record_at s)) x.row
 begun s e b h x o =
-    let first = openingOf (recordAt s) in
+    let first = opening_of (record_at s) in
     subst (λ p. OpenedWith p x.row)
-    (ap (λ n. cond (isReplica n) (openingWith n) (openingWith 1)) h
-    ∙ ap (λ t. cond t first (openingWith 1)) (is_true (canOpen first) (sheet-real s e)))
+    (ap (λ n. cond (is_replica n) (opening_with n) (opening_with 1)) h
+    ∙ ap (λ t. cond t first (opening_with 1)) (is_true (can_open first) (sheet-real s e)))
     o.row
 
 -- One record more.
-pub following-suc : (s : Text) (k : ℕ) → following s (suc k) ≡ following s k ++ (recordAt (drop (8 * k + 8) s) ∷ [])
+pub following-suc : (s : Text) (k : ℕ) → following s (suc k) ≡ following s k ++ (record_at (drop (8 * k + 8) s) ∷ [])
 following-suc s k =
     let n : 8 + 8 * k ≡ 8 * k + 8 = omega arith in
     let d : drop (8 * k) (drop 8 s) ≡ drop (8 * k + 8) s = drop-drop (8 * k) 8 s ∙ ap (λ m. drop m s) n in
-    records-suc k (drop 8 s) ∙ ap (λ t. records k (drop 8 s) ++ (recordAt t ∷ [])) d
+    records-suc k (drop 8 s) ∙ ap (λ t. records k (drop 8 s) ++ (record_at t ∷ [])) d
 
 steps-suc : (rs : List Record) (r : Record) → steps_of (rs ++ (r ∷ [])) ≡ steps_of rs ++ (step_of r ∷ [])
 steps-suc [] r = refl
@@ -95,9 +95,9 @@ answers-suc s [] st = refl
 answers-suc s (q ∷ sts) st = ap (λ ns. answer_of (outline s) q ∷ ns) (answers-suc (step entries s q) sts st)
 
 sets-suc : (s : RowState) (sts : List Step) (st : Step)
-    → setsBehind entries s (sts ++ (st ∷ [])) ≡ setsBehind entries s sts
+    → sets_behind entries s (sts ++ (st ∷ [])) ≡ sets_behind entries s sts
     ++ (behind (outline (run entries s sts)) st ∷ [])
-unfolding setsBehind run
+unfolding sets_behind run
 sets-suc s [] st = refl
 sets-suc s (q ∷ sts) st = ap (λ qs. behind (outline s) q ∷ qs) (sets-suc (step entries s q) sts st)
 
@@ -112,37 +112,37 @@ pub all_most : (t : RowState) (sts : List Step) (i : ℕ) → get_or (0 ∷ answ
 all_most t sts zero = omega arith
 all_most t sts (suc i) = later-most t sts i
 
-pub answers-most : (s : Text) (i : ℕ) → get_or (answersOf s) i 0 ≤ 16
-unfolding answersOf
+pub answers-most : (s : Text) (i : ℕ) → get_or (answers_of s) i 0 ≤ 16
+unfolding answers_of
 answers-most s i =
-    all_most (opened (openingOf (recordAt s))) (steps_of (records (length s / 8 - 1) (drop 8 s))) i
+    all_most (opened (opening_of (record_at s))) (steps_of (records (length s / 8 - 1) (drop 8 s))) i
 
-module _ (s : Text) (sheet : isSheet s ≡ true) (k : ℕ) (row : Cluster) (p : Places) (ns ms : List ℕ)
+module _ (s : Text) (sheet : is_sheet s ≡ true) (k : ℕ) (row : Cluster) (p : Places) (ns ms : List ℕ)
     (h : Ran s k row p ns ms) where
   abbrev opening : Opening
-  opening = openingOf (recordAt s)
+  opening = opening_of (record_at s)
 
   abbrev past : List Step
   past = steps_of (following s k)
 
-  pub ran-fits : in_range (outlineOf row) ≡ true
+  pub ran-fits : in_range (outline_of row) ≡ true
   ran-fits =
       ap in_range h.outlined
-      ∙ is_true (in_range (outline (stateAt s k))) (in-range entries opening (sheet-real s sheet) past)
+      ∙ is_true (in_range (outline (state_at s k))) (in-range entries opening (sheet-real s sheet) past)
 
   -- The kept epochs are in range too.
-  pub kept-fits : T (keptInRange (stateAt s k))
+  pub kept-fits : T (kept_in_range (state_at s k))
   kept-fits = kept_in (terms-run opening (sheet-real s sheet) past)
 
-  pub ran-terms : termsInRange (abs row p).committed ≡ true
+  pub ran-terms : terms_in_range (abs row p).committed ≡ true
   ran-terms =
-      ap (λ (x : RowState). termsInRange x.committed) h.state
-      ∙ is_true (termsInRange (stateAt s k).committed)
-      (split-and (termsInRange (stateAt s k).committed)
-      (every (eight (λ b. termsInRange ((stateAt s k).log b)))) kept-fits).0
+      ap (λ (x : RowState). terms_in_range x.committed) h.state
+      ∙ is_true (terms_in_range (state_at s k).committed)
+      (split-and (terms_in_range (state_at s k).committed)
+      (every (eight (λ b. terms_in_range ((state_at s k).log b)))) kept-fits).0
 
   pub ran-issued : row.issued ≤ length p.list
-  ran-issued = omega (arith, h.full.list, (to-ranges (outlineOf row) (of-true ran-fits)).committed)
+  ran-issued = omega (arith, h.full.list, (to-ranges (outline_of row) (of-true ran-fits)).committed)
 
   -- No answer is above 16.
   pub ran-most : (i : ℕ) → i ≤ k → get_or ns i 0 ≤ 16
@@ -155,11 +155,11 @@ module _ (s : Text) (sheet : isSheet s ≡ true) (k : ℕ) (row : Cluster) (p : 
   ran-ready shape = ready row shape ran-fits
 
   -- The record r that stands next, and the call of it.
-  module _ (r : Record) (place : r ≡ recordAt (drop (8 * k + 8) s)) {x : Outcome} {p' : Places}
+  module _ (r : Record) (place : r ≡ record_at (drop (8 * k + 8) s)) {x : Outcome} {p' : Places}
       (t : Turns (step_of r) row p x p') (small : k + 1 < length ns) (few : k + 1 < length ms) where
     valid-here : valid row p ≡ true
     valid-here =
-        all-tests row p h.full ran-fits ∙ ap keptInRange h.state ∙ is_true (keptInRange (stateAt s k)) kept-fits
+        all-tests row p h.full ran-fits ∙ ap kept_in_range h.state ∙ is_true (kept_in_range (state_at s k)) kept-fits
 
     did : Did (step_of r) row p x p'
     did = did-step (step_of r) row p valid-here h.full t
@@ -168,7 +168,7 @@ module _ (s : Text) (sheet : isSheet s ≡ true) (k : ℕ) (row : Cluster) (p : 
     more =
         ap steps_of (following-suc s k ∙ ap (λ q. following s k ++ (q ∷ [])) (sym place)) ∙ steps-suc (following s k) r
 
-    reached : step entries (stateAt s k) (step_of r) ≡ stateAt s (suc k)
+    reached : step entries (state_at s k) (step_of r) ≡ state_at s (suc k)
     unfolding run
     reached = sym (run-append entries (opened opening) past (step_of r ∷ [])) ∙ ap (after entries opening) (sym more)
 
@@ -176,7 +176,7 @@ module _ (s : Text) (sheet : isSheet s ≡ true) (k : ℕ) (row : Cluster) (p : 
     ran-more = rw (add-one k) record {
       state = t.state ∙ ap (λ y. step entries y (step_of r)) h.state ∙ reached;
       outlined =
-          did.outlined ∙ ap (λ u. cond u (outline (step entries (abs row p) (step_of r))) (outlineOf row)) valid-here
+          did.outlined ∙ ap (λ u. cond u (outline (step entries (abs row p) (step_of r))) (outline_of row)) valid-here
           ∙ ap (λ y. outline (step entries y (step_of r))) h.state ∙ ap outline reached;
       answered = take-suc-set ns (suc k) x.answer (omega arith)
           ∙ ap₂ (λ xs n. xs ++ (n ∷ [])) h.answered (t.answer ∙ ap (λ o. answer_of o (step_of r)) h.outlined)
@@ -186,16 +186,16 @@ module _ (s : Text) (sheet : isSheet s ≡ true) (k : ℕ) (row : Cluster) (p : 
           ∙ map-append bits (take (suc k) ms) (x.behind ∷ [])
           ∙ ap₂ (λ xs q. xs ++ (q ∷ [])) h.behind (t.behind ∙ ap (λ o. behind o (step_of r)) h.outlined)
           ∙ ap (λ xs. none ∷ xs) (sym (sets-suc (opened opening) past (step_of r))
-          ∙ ap (setsBehind entries (opened opening)) (sym more));
+          ∙ ap (sets_behind entries (opened opening)) (sym more));
       full = did-full (step_of r) row p did h.full;
       room = length-set ns (suc k) x.answer ∙ h.room;
-      setRoom = length-set ms (suc k) x.behind ∙ h.setRoom;
+      set_room = length-set ms (suc k) x.behind ∙ h.set_room;
     }
 
 -- Nothing but the opening.
-pub ran-none : (s : Text) (row : Cluster) → OpenedWith (openingOf (recordAt s)) row → (p : Places) → Full p
+pub ran-none : (s : Text) (row : Cluster) → OpenedWith (opening_of (record_at s)) row → (p : Places) → Full p
     → (ns ms : List ℕ) → length ns ≡ 4096 → length ms ≡ 4096 → Ran s 0 row p (set ns 0 0) (set ms 0 0)
-unfolding records run answers setsBehind
+unfolding records run answers sets_behind
 ran-none s row o p full ns ms room sets = record {
   state = o.state p;
   outlined = o.outline;
@@ -203,11 +203,11 @@ ran-none s row o p full ns ms room sets = record {
   behind = ap (map bits) (take-suc-set ms 0 0 (omega arith)) ∙ ap (λ q. q ∷ []) bits_none;
   full = full;
   room = length-set ns 0 0 ∙ room;
-  setRoom = length-set ms 0 0 ∙ sets;
+  set_room = length-set ms 0 0 ∙ sets;
 }
 
 -- The answers that were kept are those of the run.
-pub answers-are : (s : Text) → isSheet s ≡ true → (row : Cluster) (p : Places) (ns ms : List ℕ)
-    → Ran s (length s / 8 - 1) row p ns ms → take (length s / 8) ns ≡ answersOf s
-unfolding answersOf
+pub answers-are : (s : Text) → is_sheet s ≡ true → (row : Cluster) (p : Places) (ns ms : List ℕ)
+    → Ran s (length s / 8 - 1) row p ns ms → take (length s / 8) ns ≡ answers_of s
+unfolding answers_of
 answers-are s e row p ns ms h = ap (λ n. take n ns) (sym (sheet-some s e)) ∙ h.answered

@@ -4,8 +4,8 @@ use Rattle.std.specs.Prelude.{[], ◌∷◌, ℕ, replicate}
 use Rattle.text.specs.Text.{Text}
 
 -- The sample of document 01: opening 1; append 1, 41; receipt by 1; add 2.
-abbrev pub sampleSheet : Text
-sampleSheet =
+abbrev pub sample_sheet : Text
+sample_sheet =
     0 ∷ 1 ∷ 0 ∷ 0 ∷ 0 ∷ 0 ∷ 0 ∷ 0
     ∷ 1 ∷ 1 ∷ 0 ∷ 0 ∷ 41 ∷ 0 ∷ 0 ∷ 0
     ∷ 2 ∷ 1 ∷ 0 ∷ 0 ∷ 0 ∷ 0 ∷ 0 ∷ 0

@@ -2,19 +2,19 @@
 // `explain` and `archive`.
 
 ghost use Rattle.std.specs.Prelude.{◌≡◌, true, ◌-◌, ◌/◌, length, take};
-ghost use Rattle.model.specs.Records.{openingOf};
+ghost use Rattle.model.specs.Records.{opening_of};
 ghost use Rattle.refinement.specs.Refinement.{lent, Full, row_of, Shape};
 ghost use Rattle.steps_central.specs.Opening.{OpenedWith};
-ghost use Rattle.records.specs.Bytes.{recordAt, isSheet};
-ghost use Rattle.running.specs.Running.{Ran, answersOf};
+ghost use Rattle.records.specs.Bytes.{record_at, is_sheet};
+ghost use Rattle.running.specs.Running.{Ran, answers_of};
 
 use cluster::{Cluster, Controller, Registry, View};
 use records::decode;
 
 // The opening. Callers see to it that refusal 2 lets the sheet through.
 fn begin(sheet: &[u8]) -> Cluster
-    requires { isSheet sheet.now ≡ true }
-    ensures { OpenedWith (openingOf (recordAt sheet.now)) result }
+    requires { is_sheet sheet.now ≡ true }
+    ensures { OpenedWith (opening_of (record_at sheet.now)) result }
 {
     let r = decode(sheet, 0);
     let o = steps::opening(r.board);
@@ -46,7 +46,7 @@ fn walk(
     answers: &mut [u8],
     sets: &mut [u8],
 ) -> Carried
-    requires { (isSheet sheet.now ≡ true)
+    requires { (is_sheet sheet.now ≡ true)
         × Shape (row_of o.registry o.controller o.views joined.old acked.old len.old o.issued)
         × Ran sheet.now 0
         (row_of o.registry o.controller o.views joined.old acked.old len.old o.issued)
@@ -111,7 +111,7 @@ pub fn play(
     answers: &mut [u8],
     sets: &mut [u8],
 ) -> Cluster
-    requires { (isSheet sheet.now ≡ true) × Full (lent store.old store2.old list.old list2.old)
+    requires { (is_sheet sheet.now ≡ true) × Full (lent store.old store2.old list.old list2.old)
         × (length answers.old ≡ 4096) × (length sets.old ≡ 4096) }
     ensures { Ran sheet.now (length sheet.now / 8 - 1) result
         (lent store.new store2.new list.new list2.new)
@@ -162,8 +162,8 @@ pub fn play(
 // The answers of a sheet's records, in an array whose further bytes are free. Inner layer: callers see to it that
 // refusal 2 lets the sheet through. The sheet is run in places of this call's own.
 pub fn answers(sheet: &[u8]) -> [u8; 4096]
-    requires { isSheet sheet.now ≡ true }
-    ensures { take (length sheet.now / 8) result ≡ answersOf sheet.now }
+    requires { is_sheet sheet.now ≡ true }
+    ensures { take (length sheet.now / 8) result ≡ answers_of sheet.now }
 {
     let mut store = [0u32; 4096];
     let mut store2 = [0u16; 4096];

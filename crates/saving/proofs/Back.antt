@@ -11,18 +11,18 @@ use lib.Seq.{sets, sets-eq, take-append_seam, take_at, drop_at}
 use borrow.Author.Tests.{eqb-true, eqb-false}
 use Rattle.model.specs.State.{Entry}
 use Rattle.model.specs.Ranges as M
-use Rattle.model.specs.Ranges.{termsInRange}
-use Rattle.logstore.specs.Log.{pairs, logOf}
+use Rattle.model.specs.Ranges.{terms_in_range}
+use Rattle.logstore.specs.Log.{pairs, log_of}
 use Rattle.logstore.proofs.Laws.{pairs-take, pairs-drop}
 use Rattle.text.specs.Text.{Text}
-use Rattle.chains.specs.Image.{next_of, value_of, epochOf, list_of, firstsFrom, firstsOf, values_of, epochsOf, epochsFit, holds}
-use Rattle.chains.specs.Chain.{chainsOf}
-use Rattle.loading.specs.Read.{boardsOf, receiptsOf, laid}
+use Rattle.chains.specs.Image.{next_of, value_of, epoch_of, list_of, firsts_from, firsts_of, values_of, epochs_of, epochs_fit, holds}
+use Rattle.chains.specs.Chain.{chains_of}
+use Rattle.loading.specs.Read.{boards_of, receipts_of, laid}
 use Rattle.loading.proofs.Places.{list-there}
-use Rattle.saving.specs.Saved.{firstsFor, recordsAll, bytes_of, nineLists, sum_of}
-use Rattle.saving.proofs.Lengths.{each, each-is, each_map, each_at, listAt, nine-each, Sized, sized-nine, sized-short, log-size}
+use Rattle.saving.specs.Saved.{firsts_for, records_all, bytes_of, nine_lists, sum_of}
+use Rattle.saving.proofs.Lengths.{each, each-is, each_map, each_at, list_at, nine-each, Sized, sized-nine, sized-short, log-size}
 use Rattle.saving.proofs.Bytes.{Holds, bytes-hold}
-use Rattle.saving.proofs.Numbering.{numbersFor, numbers-linked, chains-numbers, numbers-values, numbers-terms, numbers-lengths, epochs-fit}
+use Rattle.saving.proofs.Numbering.{numbers_for, numbers-linked, chains-numbers, numbers-values, numbers-terms, numbers-lengths, epochs-fit}
 
 -- Entries are their values and terms.
 pairs-back : (xs : List Entry) → pairs (map (λ x. x.value) xs) (map (λ x. x.term) xs) ≡ xs
@@ -48,32 +48,32 @@ module _ {A : Type 0} (p q : List A) (x y : A) (l : length p ≡ 8) (l' : length
 -- What a reader asks of an image, and the lengths that it finds.
 pub record Linked (lists : List (List Entry)) (len : List ℕ) (count : ℕ) (image : Text) : Type 0 where
   pub linked : holds (sum_of lists) image ≡ true
-  pub epochs : M.every (map termsInRange lists) ≡ true → epochsFit (sum_of lists) image ≡ true
-  pub logs : map length (boardsOf image) ≡ len
-  pub receipts : length (receiptsOf image) ≡ count
+  pub epochs : M.every (map terms_in_range lists) ≡ true → epochs_fit (sum_of lists) image ≡ true
+  pub logs : map length (boards_of image) ≡ len
+  pub receipts : length (receipts_of image) ≡ count
 
 -- Nine lists of the lengths len and count, after a head of 258 bytes that has their first records.
 module _ (lists : List (List Entry)) (len : List ℕ) (count : ℕ) (z : Sized lists len count) (head : Text)
     (long : length head ≡ 258) where
   abbrev image : Text
-  image = head ++ bytes_of (recordsAll 1 lists)
+  image = head ++ bytes_of (records_all 1 lists)
 
-  module _ (right : firstsOf image ≡ firstsFor 1 lists) where
-    records : Holds image 1 (recordsAll 1 lists)
-    records = bytes-hold head (recordsAll 1 lists) 1 long
+  module _ (right : firsts_of image ≡ firsts_for 1 lists) where
+    records : Holds image 1 (records_all 1 lists)
+    records = bytes-hold head (records_all 1 lists) 1 long
 
     -- The nine chains of the image are the numbers of the lists.
-    numbered : chainsOf (next_of image) (firstsOf image) ≡ numbersFor 1 lists
+    numbered : chains_of (next_of image) (firsts_of image) ≡ numbers_for 1 lists
     numbered =
-        ap (chainsOf (next_of image)) right
+        ap (chains_of (next_of image)) right
         ∙ chains-numbers image 1 lists (omega arith) (sized-short lists len count z) records
 
-    chains : each (list_of image) 0 9 ≡ numbersFor 1 lists
-    unfolding chainsOf firstsFrom each
+    chains : each (list_of image) 0 9 ≡ numbers_for 1 lists
+    unfolding chains_of firsts_from each
     chains = numbered
 
     -- What is read of each is what was written.
-    read : {B : Type 0} (f : List ℕ → B) (g : List Entry → B) → map f (numbersFor 1 lists) ≡ map g lists
+    read : {B : Type 0} (f : List ℕ → B) (g : List Entry → B) → map f (numbers_for 1 lists) ≡ map g lists
         → (i : ℕ) → i < 9 → f (list_of image i) ≡ g (get_or lists i [])
     read f g q i h =
         let o : 0 + i ≡ i = omega arith in
@@ -85,8 +85,8 @@ module _ (lists : List (List Entry)) (len : List ℕ) (count : ℕ) (z : Sized l
     values-at : (i : ℕ) → i < 9 → values_of image (list_of image i) ≡ map (λ x. x.value) (get_or lists i [])
     values-at = read (values_of image) (λ xs. map (λ x. x.value) xs) (numbers-values image 1 lists records)
 
-    terms-at : (i : ℕ) → i < 9 → epochsOf image (list_of image i) ≡ map (λ x. x.term) (get_or lists i [])
-    terms-at = read (epochsOf image) (λ xs. map (λ x. x.term) xs) (numbers-terms image 1 lists records)
+    terms-at : (i : ℕ) → i < 9 → epochs_of image (list_of image i) ≡ map (λ x. x.term) (get_or lists i [])
+    terms-at = read (epochs_of image) (λ xs. map (λ x. x.term) xs) (numbers-terms image 1 lists records)
 
     size-at : (i : ℕ) → i < 9 → length (list_of image i) ≡ length (get_or lists i [])
     size-at = read length length (numbers-lengths 1 lists)
@@ -94,58 +94,58 @@ module _ (lists : List (List Entry)) (len : List ℕ) (count : ℕ) (z : Sized l
     linked : holds (sum_of lists) image ≡ true
     linked = rw numbered (numbers-linked lists (sized-short lists len count z))
 
-    all-lengths : map length (boardsOf image) ++ (length (receiptsOf image) ∷ []) ≡ len ++ (count ∷ [])
-    unfolding chainsOf firstsFrom each
+    all-lengths : map length (boards_of image) ++ (length (receipts_of image) ∷ []) ≡ len ++ (count ∷ [])
+    unfolding chains_of firsts_from each
     all-lengths = ap (map length) chains ∙ numbers-lengths 1 lists ∙ z.lengths
 
-    eight-boards : length (map length (boardsOf image)) ≡ 8
-    unfolding chainsOf firstsFrom
+    eight-boards : length (map length (boards_of image)) ≡ 8
+    unfolding chains_of firsts_from
     eight-boards = refl
 
     pub image-back : Linked lists len count image
     image-back = record {
       linked = linked;
       epochs = epochs-fit image lists records;
-      logs = first-eight _ len (length (receiptsOf image)) count eight-boards z.eight all-lengths;
-      receipts = the_last (map length (boardsOf image)) len _ _ eight-boards z.eight all-lengths;
+      logs = first-eight _ len (length (receipts_of image)) count eight-boards z.eight all-lengths;
+      receipts = the_last (map length (boards_of image)) len _ _ eight-boards z.eight all-lengths;
     }
 
     -- One of the two numbers of each entry, f of its record and g of itself, where it is read to.
     module _ (f : ℕ → ℕ) (g : Entry → ℕ) (same : (i : ℕ) → i < 9 → map f (list_of image i) ≡ map g (get_or lists i []))
         (s : List ℕ) where
       log-there : length s ≡ 4096 → (i : ℕ) → i < 8
-          → take (get_or len i 0) (drop (512 * i) (laid s 0 (map (map f) (boardsOf image)))) ≡ map g (get_or lists i [])
+          → take (get_or len i 0) (drop (512 * i) (laid s 0 (map (map f) (boards_of image)))) ≡ map g (get_or lists i [])
       log-there l i h =
           let n : length (list_of image i) ≡ get_or len i 0 = size-at i (omega arith) ∙ log-size lists len count z i h in
           rw (← n) (list-there f image (sum_of lists) linked s i h l ∙ same i (omega arith))
 
-      receipts-there : length s ≡ 512 → take count (sets s 0 (map f (receiptsOf image))) ≡ map g (get_or lists 8 [])
+      receipts-there : length s ≡ 512 → take count (sets s 0 (map f (receipts_of image))) ≡ map g (get_or lists 8 [])
       receipts-there l =
-          let n : length (map f (receiptsOf image)) ≡ count = length-map (receiptsOf image) f ∙ image-back.receipts in
-          sets-front s (map f (receiptsOf image)) count n (omega (arith, z.few)) ∙ same 8 (omega arith)
+          let n : length (map f (receipts_of image)) ≡ count = length-map (receipts_of image) f ∙ image-back.receipts in
+          sets-front s (map f (receipts_of image)) count n (omega (arith, z.few)) ∙ same 8 (omega arith)
 
     -- Places of the right lengths, whatever they hold.
     module _ (store store2 list list2 : List ℕ) (full : length store ≡ 4096) (also : length store2 ≡ 4096)
         (l : length list ≡ 512) (l2 : length list2 ≡ 512) where
       -- What they hold after the reading.
       abbrev store' : List ℕ
-      store' = laid store 0 (map (values_of image) (boardsOf image))
+      store' = laid store 0 (map (values_of image) (boards_of image))
 
       abbrev store2' : List ℕ
-      store2' = laid store2 0 (map (epochsOf image) (boardsOf image))
+      store2' = laid store2 0 (map (epochs_of image) (boards_of image))
 
       abbrev list' : List ℕ
-      list' = sets list 0 (values_of image (receiptsOf image))
+      list' = sets list 0 (values_of image (receipts_of image))
 
       abbrev list2' : List ℕ
-      list2' = sets list2 0 (epochsOf image (receiptsOf image))
+      list2' = sets list2 0 (epochs_of image (receipts_of image))
 
-      log_back : (i : ℕ) → i < 8 → get_or lists i [] ≡ logOf (pairs store' store2') (suc i) (get_or len i 0)
+      log_back : (i : ℕ) → i < 8 → get_or lists i [] ≡ log_of (pairs store' store2') (suc i) (get_or len i 0)
       log_back i h =
           let n = get_or len i 0 in
           let b : suc i - 1 ≡ i = omega arith in
           let v = log-there (value_of image) (λ x. x.value) values-at store full i h in
-          let t = log-there (epochOf image) (λ x. x.term) terms-at store2 also i h in
+          let t = log-there (epoch_of image) (λ x. x.term) terms-at store2 also i h in
           sym (rw (b, pairs-drop (512 * i) store' store2')
           (pairs-take n (drop (512 * i) store') (drop (512 * i) store2') ∙ ap₂ pairs v t
           ∙ pairs-back (get_or lists i [])))
@@ -153,12 +153,12 @@ module _ (lists : List (List Entry)) (len : List ℕ) (count : ℕ) (z : Sized l
       receipts-back : get_or lists 8 [] ≡ take count (pairs list' list2')
       receipts-back =
           let v = receipts-there (value_of image) (λ x. x.value) values-at list l in
-          let t = receipts-there (epochOf image) (λ x. x.term) terms-at list2 l2 in
+          let t = receipts-there (epoch_of image) (λ x. x.term) terms-at list2 l2 in
           sym (pairs-take count list' list2' ∙ ap₂ pairs v t ∙ pairs-back (get_or lists 8 []))
 
       -- The list i, as the places hold it.
       abbrev held : ℕ → List Entry
-      held i = listAt store' store2' len list' list2' count i
+      held i = list_at store' store2' len list' list2' count i
 
       list_back : (i : ℕ) → i < 9 → get_or lists i [] ≡ held i
       list_back i h = go (eqb i 8) refl
@@ -168,7 +168,7 @@ module _ (lists : List (List Entry)) (len : List ℕ) (count : ℕ) (z : Sized l
           go false e = let q = eqb-false i 8 e in rw e (log_back i (omega arith))
 
       -- They hold the lists.
-      pub places-back : nineLists store' store2' len list' list2' count ≡ lists
+      pub places-back : nine_lists store' store2' len list' list2' count ≡ lists
       places-back =
           let n = sized-nine lists len count z in
           let a = each-is [] held lists 0

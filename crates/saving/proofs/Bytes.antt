@@ -8,8 +8,8 @@ use lib.Seq.{get_or-append-add}
 use Rattle.model.specs.State.{Entry}
 use Rattle.text.specs.Text.{Text}
 use Rattle.fields.proofs.Back.{two_back, four-back}
-use Rattle.chains.specs.Image.{value_of, epochOf, next_of}
-use Rattle.saving.specs.Saved.{Record, recordBytes, bytes_of, recordsFor, recordsAll, sum_of}
+use Rattle.chains.specs.Image.{value_of, epoch_of, next_of}
+use Rattle.saving.specs.Saved.{Record, record_bytes, bytes_of, records_for, records_all, sum_of}
 
 -- Lengths
 
@@ -23,23 +23,23 @@ unfolding bytes_of
 records-bytes [] = refl
 records-bytes (r ∷ rs) = omega (arith, records-bytes rs)
 
-pub records-length : (k : ℕ) (xs : List Entry) → length (recordsFor k xs) ≡ length xs
-unfolding recordsFor
+pub records-length : (k : ℕ) (xs : List Entry) → length (records_for k xs) ≡ length xs
+unfolding records_for
 records-length k [] = refl
 records-length k (x ∷ xs) = ap suc (records-length (suc k) xs)
 
-pub all-length : (k : ℕ) (xss : List (List Entry)) → length (recordsAll k xss) ≡ sum_of xss
-unfolding recordsAll sum_of
+pub all-length : (k : ℕ) (xss : List (List Entry)) → length (records_all k xss) ≡ sum_of xss
+unfolding records_all sum_of
 all-length k [] = refl
 all-length k (xs ∷ xss) =
-    length-append (recordsFor k xs) (recordsAll (k + length xs) xss)
+    length-append (records_for k xs) (records_all (k + length xs) xss)
     ∙ rw (records-length k xs, all-length (k + length xs) xss)
 
-pub list-bytes : (k : ℕ) (xs : List Entry) → length (bytes_of (recordsFor k xs)) ≡ 8 * length xs
-list-bytes k xs = records-bytes (recordsFor k xs) ∙ rw (records-length k xs)
+pub list-bytes : (k : ℕ) (xs : List Entry) → length (bytes_of (records_for k xs)) ≡ 8 * length xs
+list-bytes k xs = records-bytes (records_for k xs) ∙ rw (records-length k xs)
 
-pub bytes-length : (k : ℕ) (xss : List (List Entry)) → length (bytes_of (recordsAll k xss)) ≡ 8 * sum_of xss
-bytes-length k xss = records-bytes (recordsAll k xss) ∙ rw (all-length k xss)
+pub bytes-length : (k : ℕ) (xss : List (List Entry)) → length (bytes_of (records_all k xss)) ≡ 8 * sum_of xss
+bytes-length k xss = records-bytes (records_all k xss) ∙ rw (all-length k xss)
 
 -- Reading
 
@@ -47,15 +47,15 @@ bytes-length k xss = records-bytes (recordsAll k xss) ∙ rw (all-length k xss)
 unfoldable pub Holds : Text → ℕ → List Record → Type 0
 Holds image k [] = Unit {0}
 Holds image k (r ∷ rs) =
-    (value_of image k ≡ r.value) × (epochOf image k ≡ r.term) × (next_of image k ≡ r.next) × Holds image (suc k) rs
+    (value_of image k ≡ r.value) × (epoch_of image k ≡ r.term) × (next_of image k ≡ r.next) × Holds image (suc k) rs
 
 -- One record after those before it.
 module _ (pre : Text) (r : Record) (rest : Text) (k : ℕ) (l : length pre ≡ 8 * k + 250) where
   abbrev image : Text
-  image = pre ++ (recordBytes r ++ rest)
+  image = pre ++ (record_bytes r ++ rest)
 
-  byte : (i j : ℕ) → j ≡ 8 * k + 250 + i → get_or image j 0 ≡ get_or (recordBytes r ++ rest) i 0
-  byte i j q = rw (q, ← l) (get_or-append-add pre (recordBytes r ++ rest) i 0)
+  byte : (i j : ℕ) → j ≡ 8 * k + 250 + i → get_or image j 0 ≡ get_or (record_bytes r ++ rest) i 0
+  byte i j q = rw (q, ← l) (get_or-append-add pre (record_bytes r ++ rest) i 0)
 
   value-is : value_of image k ≡ r.value
   value-is =
@@ -66,7 +66,7 @@ module _ (pre : Text) (r : Record) (rest : Text) (k : ℕ) (l : length pre ≡ 8
       let d : get_or image (8 * k + 250 + 3) 0 ≡ v / 16777216 = byte 3 (8 * k + 250 + 3) refl in
       rw (a, b, c, d) (four-back v)
 
-  term_is : epochOf image k ≡ r.term
+  term_is : epoch_of image k ≡ r.term
   term_is =
       let a : get_or image (8 * k + 254) 0 ≡ r.term % 256 = byte 4 (8 * k + 254) (omega arith) in
       let b : get_or image (8 * k + 254 + 1) 0 ≡ r.term / 256 = byte 5 (8 * k + 254 + 1) (omega arith) in
@@ -83,7 +83,7 @@ pub bytes-hold : (pre : Text) (rs : List Record) (k : ℕ) → length pre ≡ 8 
 unfolding Holds bytes_of
 bytes-hold pre [] k l = tt
 bytes-hold pre (r ∷ rs) k l =
-    let one = recordBytes r in
+    let one = record_bytes r in
     let e : (pre ++ one) ++ bytes_of rs ≡ pre ++ (one ++ bytes_of rs) = append_assoc pre one (bytes_of rs) in
     let n : length (pre ++ one) ≡ 8 * suc k + 250 = omega (arith, length-append pre one, l) in (
       value-is pre r (bytes_of rs) k l,

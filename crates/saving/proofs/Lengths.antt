@@ -11,10 +11,10 @@ use lib.ListN.{length, get_or, take, length-append, length-map, get_or-append, g
 use lib.Seq.{length-take-le, get_or_at}
 use borrow.Author.Tests.{eqb-true, eqb-false, ne_eqb}
 use Rattle.model.specs.State.{Entry}
-use Rattle.logstore.specs.Log.{pairs, logOf}
+use Rattle.logstore.specs.Log.{pairs, log_of}
 use Rattle.logstore.proofs.Laws.{pairs-length, log-length}
 use Rattle.cluster.specs.Layout.{at}
-use Rattle.saving.specs.Saved.{firstFor, firstsFor, nineLists, sum_of, sumBy, firstsBy}
+use Rattle.saving.specs.Saved.{first_for, firsts_for, nine_lists, sum_of, sum_by, firsts_by}
 
 -- Elements in turn
 
@@ -47,22 +47,22 @@ each_at d f b (suc m) (suc i) h =
 
 -- By the lengths
 
-first_by : (k : ℕ) (xs : List Entry) → firstFor k xs ≡ cond (eqb (length xs) 0) 0 k
+first_by : (k : ℕ) (xs : List Entry) → first_for k xs ≡ cond (eqb (length xs) 0) 0 k
 first_by k [] = refl
 first_by k (x ∷ xs) = rw (ne_eqb (suc (length xs)) 0 (λ (e : suc (length xs) ≡ 0). omega arith))
 
-pub firsts-by : (k : ℕ) (xss : List (List Entry)) → firstsFor k xss ≡ firstsBy k (map length xss)
-unfolding firstsFor firstsBy
+pub firsts-by : (k : ℕ) (xss : List (List Entry)) → firsts_for k xss ≡ firsts_by k (map length xss)
+unfolding firsts_for firsts_by
 firsts-by k [] = refl
 firsts-by k (xs ∷ xss) = rw (first_by k xs, firsts-by (k + length xs) xss)
 
-pub sum_by : (xss : List (List Entry)) → sum_of xss ≡ sumBy (map length xss)
-unfolding sum_of sumBy
-sum_by [] = refl
-sum_by (xs ∷ xss) = rw (sum_by xss)
+pub sum_by_lem : (xss : List (List Entry)) → sum_of xss ≡ sum_by (map length xss)
+unfolding sum_of sum_by
+sum_by_lem [] = refl
+sum_by_lem (xs ∷ xss) = rw (sum_by_lem xss)
 
-sum-within : (ns : List ℕ) → ((i : ℕ) → get_or ns i 0 ≤ 512) → sumBy ns ≤ 512 * length ns
-unfolding sumBy
+sum-within : (ns : List ℕ) → ((i : ℕ) → get_or ns i 0 ≤ 512) → sum_by ns ≤ 512 * length ns
+unfolding sum_by
 sum-within [] h = omega arith
 sum-within (n ∷ ns) h = omega (arith, h 0, sum-within ns (λ i. h (suc i)))
 
@@ -75,7 +75,7 @@ one_more (m ∷ ns) n h k (suc i) = one_more ns n (λ j. h (suc j)) k i
 
 -- "258 plus 8 times 0 to 4,608"
 pub sum-most : (len : List ℕ) (count : ℕ) → length len ≡ 8 → ((b : ℕ) → at 0 len b ≤ 512) → count ≤ 512
-    → sumBy (len ++ (count ∷ [])) ≤ 4608
+    → sum_by (len ++ (count ∷ [])) ≤ 4608
 sum-most len count e h k =
     let m = sum-within (len ++ (count ∷ [])) (one_more len count (λ i. h (suc i)) k) in
     omega (arith, m, length-append len (count ∷ []))
@@ -108,11 +108,11 @@ module _ (lists : List (List Entry)) (len : List ℕ) (count : ℕ) (z : Sized l
   pub sized-short : Short lists
   sized-short i = rw (length_at i) (one_more len count (λ j. z.most (suc j)) z.few i)
 
-  pub sized-sum : sum_of lists ≡ sumBy (len ++ (count ∷ []))
-  sized-sum = sum_by lists ∙ ap sumBy z.lengths
+  pub sized-sum : sum_of lists ≡ sum_by (len ++ (count ∷ []))
+  sized-sum = sum_by_lem lists ∙ ap sum_by z.lengths
 
-  pub sized-firsts : (k : ℕ) → firstsFor k lists ≡ firstsBy k (len ++ (count ∷ []))
-  sized-firsts k = firsts-by k lists ∙ ap (firstsBy k) z.lengths
+  pub sized-firsts : (k : ℕ) → firsts_for k lists ≡ firsts_by k (len ++ (count ∷ []))
+  sized-firsts k = firsts-by k lists ∙ ap (firsts_by k) z.lengths
 
   pub sized-most : sum_of lists ≤ 4608
   sized-most = omega (arith, sized-sum, sum-most len count z.eight z.most z.few)
@@ -121,27 +121,27 @@ module _ (lists : List (List Entry)) (len : List ℕ) (count : ℕ) (z : Sized l
 
 module _ (store store2 len list list2 : List ℕ) (count : ℕ) where
   -- The list i: the log of the board after i, or the receipts.
-  abbrev pub listAt : ℕ → List Entry
-  listAt i = cond (eqb i 8) (take count (pairs list list2)) (logOf (pairs store store2) (suc i) (get_or len i 0))
+  abbrev pub list_at : ℕ → List Entry
+  list_at i = cond (eqb i 8) (take count (pairs list list2)) (log_of (pairs store store2) (suc i) (get_or len i 0))
 
-  pub nine-each : nineLists store store2 len list list2 count ≡ each listAt 0 9
-  unfolding nineLists each
+  pub nine-each : nine_lists store store2 len list list2 count ≡ each list_at 0 9
+  unfolding nine_lists each
   nine-each = refl
 
-  pub nine-at : (i : ℕ) → i < 9 → get_or (nineLists store store2 len list list2 count) i [] ≡ listAt i
+  pub nine-at : (i : ℕ) → i < 9 → get_or (nine_lists store store2 len list list2 count) i [] ≡ list_at i
   nine-at i h =
       let z : 0 + i ≡ i = omega arith in
-      ap (λ xss. get_or xss i []) nine-each ∙ each_at [] listAt 0 9 i h ∙ ap listAt z
+      ap (λ xss. get_or xss i []) nine-each ∙ each_at [] list_at 0 9 i h ∙ ap list_at z
 
-  pub board-list : (i : ℕ) → i < 8 → listAt i ≡ logOf (pairs store store2) (suc i) (get_or len i 0)
+  pub board-list : (i : ℕ) → i < 8 → list_at i ≡ log_of (pairs store store2) (suc i) (get_or len i 0)
   board-list i h = rw (ne_eqb i 8 (λ (e : i ≡ 8). omega arith))
 
   module _ (full : length store ≡ 4096) (also : length store2 ≡ 4096) (eight : length len ≡ 8)
       (most : (b : ℕ) → at 0 len b ≤ 512) (l : length list ≡ 512) (l2 : length list2 ≡ 512) (few : count ≤ 512) where
-    list_length : (i : ℕ) → i < 9 → get_or (len ++ (count ∷ [])) i 0 ≡ length (listAt i)
+    list_length : (i : ℕ) → i < 9 → get_or (len ++ (count ∷ [])) i 0 ≡ length (list_at i)
     list_length i h = go (eqb i 8) refl
       where
-        go : (t : Bool) → eqb i 8 ≡ t → get_or (len ++ (count ∷ [])) i 0 ≡ length (listAt i)
+        go : (t : Bool) → eqb i 8 ≡ t → get_or (len ++ (count ∷ [])) i 0 ≡ length (list_at i)
         go true e =
             let q = eqb-true i 8 e in
             let n : length (pairs list list2) ≡ 512 = pairs-length list list2 (l ∙ sym l2) ∙ l in
@@ -152,14 +152,14 @@ module _ (store store2 len list list2 : List ℕ) (count : ℕ) where
             rw (e, log-length (pairs store store2) n (suc i) (omega arith) (omega arith) (get_or len i 0) (most (suc i)))
             (get_or-append len (count ∷ []) 0 i (omega arith))
 
-    pub nine-lengths : map length (nineLists store store2 len list list2 count) ≡ len ++ (count ∷ [])
+    pub nine-lengths : map length (nine_lists store store2 len list list2 count) ≡ len ++ (count ∷ [])
     nine-lengths =
         let ns = len ++ (count ∷ []) in
         let n : length ns ≡ 9 = length-append len (count ∷ []) ∙ rw eight in
-        let a = each-is 0 (λ i. length (listAt i)) ns 0 (λ i h.
+        let a = each-is 0 (λ i. length (list_at i)) ns 0 (λ i h.
         let q : 0 + i ≡ i = omega arith in rw q (list_length i (omega arith))) in
-        ap (map length) nine-each ∙ each_map length listAt 0 9
-        ∙ subst (λ m. each (λ i. length (listAt i)) 0 m ≡ ns) n (sym a)
+        ap (map length) nine-each ∙ each_map length list_at 0 9
+        ∙ subst (λ m. each (λ i. length (list_at i)) 0 m ≡ ns) n (sym a)
 
-    pub nine-sized : Sized (nineLists store store2 len list list2 count) len count
+    pub nine-sized : Sized (nine_lists store store2 len list list2 count) len count
     nine-sized = record { lengths = nine-lengths; eight = eight; most = most; few = few }

@@ -10,14 +10,14 @@ use lib.ListN.{length}
 use borrow.Author.Tests.{le-leb, ne_eqb, eq-eqb}
 use Rattle.model.specs.State.{Entry}
 use Rattle.model.specs.Ranges as M
-use Rattle.model.specs.Ranges.{isEpoch, termsInRange}
+use Rattle.model.specs.Ranges.{is_epoch, terms_in_range}
 use Rattle.marks.specs.Marks.{Numbers, none, adding}
 use Rattle.text.specs.Text.{Text}
-use Rattle.chains.specs.Image.{epochOf, next_of, values_of, epochsOf, epochsFit}
-use Rattle.chains.specs.Chain.{chain, chainOf, chainsOf, isShort, every, joined, has, distinct, up_to, linked, wellLinked}
+use Rattle.chains.specs.Image.{epoch_of, next_of, values_of, epochs_of, epochs_fit}
+use Rattle.chains.specs.Chain.{chain, chain_of, chains_of, is_short, every, joined, has, distinct, up_to, linked, well_linked}
 use Rattle.chains.proofs.Walking.{chain-end, chain-step}
-use Rattle.chains.proofs.Meeting.{goodAll, well-linked-is}
-use Rattle.saving.specs.Saved.{Record, firstFor, firstsFor, recordsFor, recordsAll, sum_of}
+use Rattle.chains.proofs.Meeting.{good_all, well-linked-is}
+use Rattle.saving.specs.Saved.{Record, first_for, firsts_for, records_for, records_all, sum_of}
 use Rattle.saving.proofs.Lengths.{Short}
 use Rattle.saving.proofs.Bytes.{Holds, records-length, all-length}
 
@@ -27,9 +27,9 @@ unfoldable pub range : ℕ → ℕ → List ℕ
 range k zero = []
 range k (suc m) = k ∷ range (suc k) m
 
-unfoldable pub numbersFor : ℕ → List (List Entry) → List (List ℕ)
-numbersFor k [] = []
-numbersFor k (xs ∷ xss) = range k (length xs) ∷ numbersFor (k + length xs) xss
+unfoldable pub numbers_for : ℕ → List (List Entry) → List (List ℕ)
+numbers_for k [] = []
+numbers_for k (xs ∷ xss) = range k (length xs) ∷ numbers_for (k + length xs) xss
 
 range_length : (k m : ℕ) → length (range k m) ≡ m
 unfolding range
@@ -44,8 +44,8 @@ range-append k (suc m) n =
     let b : suc m + n ≡ suc (m + n) = omega arith in
     rw (a, b, range-append (suc k) m n)
 
-numbers-joined : (k : ℕ) (xss : List (List Entry)) → joined (numbersFor k xss) ≡ range k (sum_of xss)
-unfolding numbersFor joined sum_of range
+numbers-joined : (k : ℕ) (xss : List (List Entry)) → joined (numbers_for k xss) ≡ range k (sum_of xss)
+unfolding numbers_for joined sum_of range
 numbers-joined k [] = refl
 numbers-joined k (xs ∷ xss) = rw (numbers-joined (k + length xs) xss) (range-append k (length xs) (sum_of xss))
 
@@ -59,20 +59,20 @@ range-linked n met k (suc m) h l f =
     (range-linked n (adding k met) (suc k) m (omega arith) (omega arith)
     (λ j g. rw (ne_eqb j k (λ (e : j ≡ k). omega arith), f j (omega arith))))
 
-numbers-short : (k : ℕ) (xss : List (List Entry)) → Short xss → every isShort (numbersFor k xss) ≡ true
-unfolding numbersFor every
+numbers-short : (k : ℕ) (xss : List (List Entry)) → Short xss → every is_short (numbers_for k xss) ≡ true
+unfolding numbers_for every
 numbers-short k [] s = refl
 numbers-short k (xs ∷ xss) s =
     rw (range_length k (length xs), le-leb (length xs) 512 (s 0))
     (numbers-short (k + length xs) xss (λ i. s (suc i)))
 
-pub numbers-linked : (xss : List (List Entry)) → Short xss → wellLinked (sum_of xss) (numbersFor 1 xss) ≡ true
+pub numbers-linked : (xss : List (List Entry)) → Short xss → well_linked (sum_of xss) (numbers_for 1 xss) ≡ true
 numbers-linked xss s =
     let n = sum_of xss in
-    let g : goodAll n none (numbersFor 1 xss) ≡ true =
+    let g : good_all n none (numbers_for 1 xss) ≡ true =
     rw (numbers-short 1 xss s, numbers-joined 1 xss)
     (range-linked n none 1 n (omega arith) (omega arith) (λ j h. refl)) in
-    well-linked-is n (numbersFor 1 xss) ∙ rw (g, numbers-joined 1 xss, range_length 1 n) (eq-eqb n n refl)
+    well-linked-is n (numbers_for 1 xss) ∙ rw (g, numbers-joined 1 xss, range_length 1 n) (eq-eqb n n refl)
 
 -- Lists in an image
 
@@ -89,9 +89,9 @@ module _ (image : Text) where
       let e : k + length (r ∷ rs) ≡ suc k + length rs = omega arith in rw e (holds-back (suc k) rs ss h.3)
 
   -- The chain of a list is its numbers in a row,
-  chain-numbers : (f k : ℕ) (xs : List Entry) → 1 ≤ k → length xs ≤ f → Holds image k (recordsFor k xs)
-      → chain (next_of image) f (firstFor k xs) ≡ range k (length xs)
-  unfolding Holds recordsFor range
+  chain-numbers : (f k : ℕ) (xs : List Entry) → 1 ≤ k → length xs ≤ f → Holds image k (records_for k xs)
+      → chain (next_of image) f (first_for k xs) ≡ range k (length xs)
+  unfolding Holds records_for range
   chain-numbers f k [] h l r = chain-end (next_of image) f
   chain-numbers zero k (x ∷ xs) h l r = absurd (not-suc-le-zero l)
   chain-numbers (suc f) k (x ∷ xs) h l r =
@@ -99,67 +99,67 @@ module _ (image : Text) where
       (ap (λ ks. k ∷ ks) (chain-numbers f (suc k) xs (omega arith) (omega arith) r.3))
 
   -- and what they hold is the list.
-  held-values : (k : ℕ) (xs : List Entry) → Holds image k (recordsFor k xs)
+  held-values : (k : ℕ) (xs : List Entry) → Holds image k (records_for k xs)
       → values_of image (range k (length xs)) ≡ map (λ x. x.value) xs
-  unfolding Holds recordsFor range
+  unfolding Holds records_for range
   held-values k [] r = refl
   held-values k (x ∷ xs) r = rw (r.0, held-values (suc k) xs r.3)
 
-  held-terms : (k : ℕ) (xs : List Entry) → Holds image k (recordsFor k xs)
-      → epochsOf image (range k (length xs)) ≡ map (λ x. x.term) xs
-  unfolding Holds recordsFor range
+  held-terms : (k : ℕ) (xs : List Entry) → Holds image k (records_for k xs)
+      → epochs_of image (range k (length xs)) ≡ map (λ x. x.term) xs
+  unfolding Holds records_for range
   held-terms k [] r = refl
   held-terms k (x ∷ xs) r = rw (r.1, held-terms (suc k) xs r.3)
 
   -- The first of some lists, and the others.
-  module _ (k : ℕ) (xs : List Entry) (xss : List (List Entry)) (r : Holds image k (recordsAll k (xs ∷ xss))) where
-    own : Holds image k (recordsFor k xs)
-    unfolding recordsAll
-    own = holds-front k (recordsFor k xs) (recordsAll (k + length xs) xss) r
+  module _ (k : ℕ) (xs : List Entry) (xss : List (List Entry)) (r : Holds image k (records_all k (xs ∷ xss))) where
+    own : Holds image k (records_for k xs)
+    unfolding records_all
+    own = holds-front k (records_for k xs) (records_all (k + length xs) xss) r
 
-    others : Holds image (k + length xs) (recordsAll (k + length xs) xss)
-    unfolding recordsAll
+    others : Holds image (k + length xs) (records_all (k + length xs) xss)
+    unfolding records_all
     others =
-        subst (λ m. Holds image (k + m) (recordsAll (k + length xs) xss)) (records-length k xs)
-        (holds-back k (recordsFor k xs) (recordsAll (k + length xs) xss) r)
+        subst (λ m. Holds image (k + m) (records_all (k + length xs) xss)) (records-length k xs)
+        (holds-back k (records_for k xs) (records_all (k + length xs) xss) r)
 
-  pub chains-numbers : (k : ℕ) (xss : List (List Entry)) → 1 ≤ k → Short xss → Holds image k (recordsAll k xss)
-      → chainsOf (next_of image) (firstsFor k xss) ≡ numbersFor k xss
-  unfolding chainsOf firstsFor numbersFor
+  pub chains-numbers : (k : ℕ) (xss : List (List Entry)) → 1 ≤ k → Short xss → Holds image k (records_all k xss)
+      → chains_of (next_of image) (firsts_for k xss) ≡ numbers_for k xss
+  unfolding chains_of firsts_for numbers_for
   chains-numbers k [] h s r = refl
   chains-numbers k (xs ∷ xss) h s r =
       rw (chain-numbers 513 k xs h (omega (arith, s 0)) (own k xs xss r))
       (ap (λ kss. range k (length xs) ∷ kss)
       (chains-numbers (k + length xs) xss (omega arith) (λ i. s (suc i)) (others k xs xss r)))
 
-  pub numbers-values : (k : ℕ) (xss : List (List Entry)) → Holds image k (recordsAll k xss)
-      → map (values_of image) (numbersFor k xss) ≡ map (λ xs. map (λ x. x.value) xs) xss
-  unfolding numbersFor
+  pub numbers-values : (k : ℕ) (xss : List (List Entry)) → Holds image k (records_all k xss)
+      → map (values_of image) (numbers_for k xss) ≡ map (λ xs. map (λ x. x.value) xs) xss
+  unfolding numbers_for
   numbers-values k [] r = refl
   numbers-values k (xs ∷ xss) r =
       rw (held-values k xs (own k xs xss r), numbers-values (k + length xs) xss (others k xs xss r))
 
-  pub numbers-terms : (k : ℕ) (xss : List (List Entry)) → Holds image k (recordsAll k xss)
-      → map (epochsOf image) (numbersFor k xss) ≡ map (λ xs. map (λ x. x.term) xs) xss
-  unfolding numbersFor
+  pub numbers-terms : (k : ℕ) (xss : List (List Entry)) → Holds image k (records_all k xss)
+      → map (epochs_of image) (numbers_for k xss) ≡ map (λ xs. map (λ x. x.term) xs) xss
+  unfolding numbers_for
   numbers-terms k [] r = refl
   numbers-terms k (xs ∷ xss) r =
       rw (held-terms k xs (own k xs xss r), numbers-terms (k + length xs) xss (others k xs xss r))
 
   -- Every record's epoch is in its range where those of the records are.
-  epoch-fits : (k : ℕ) (rs : List Record) → Holds image k rs → M.every (map (λ r. isEpoch r.term) rs) ≡ true
-      → (i : ℕ) → i < length rs → isEpoch (epochOf image (k + i)) ≡ true
+  epoch-fits : (k : ℕ) (rs : List Record) → Holds image k rs → M.every (map (λ r. is_epoch r.term) rs) ≡ true
+      → (i : ℕ) → i < length rs → is_epoch (epoch_of image (k + i)) ≡ true
   unfolding Holds
   epoch-fits k [] h t i l = absurd (not-suc-le-zero l)
   epoch-fits k (r ∷ rs) h t zero l =
-      rw (add-zero k, h.1) ((and-eq-true_iff (isEpoch r.term) (M.every (map (λ r. isEpoch r.term) rs))).0 t).0
+      rw (add-zero k, h.1) ((and-eq-true_iff (is_epoch r.term) (M.every (map (λ r. is_epoch r.term) rs))).0 t).0
   epoch-fits k (r ∷ rs) h t (suc i) l =
       let e : k + suc i ≡ suc k + i = omega arith in
-      let p = (and-eq-true_iff (isEpoch r.term) (M.every (map (λ r. isEpoch r.term) rs))).0 t in
+      let p = (and-eq-true_iff (is_epoch r.term) (M.every (map (λ r. is_epoch r.term) rs))).0 t in
       rw e (epoch-fits (suc k) rs h.3 p.1 i (omega arith))
 
-pub numbers-lengths : (k : ℕ) (xss : List (List Entry)) → map length (numbersFor k xss) ≡ map length xss
-unfolding numbersFor
+pub numbers-lengths : (k : ℕ) (xss : List (List Entry)) → map length (numbers_for k xss) ≡ map length xss
+unfolding numbers_for
 numbers-lengths k [] = refl
 numbers-lengths k (xs ∷ xss) = rw (range_length k (length xs), numbers-lengths (k + length xs) xss)
 
@@ -171,20 +171,20 @@ every_append (true ∷ s) t = every_append s t
 every_append (false ∷ s) t = refl
 
 terms-for : (k : ℕ) (xs : List Entry)
-    → map (λ r. isEpoch r.term) (recordsFor k xs) ≡ map (λ x. isEpoch x.term) xs
-unfolding recordsFor
+    → map (λ r. is_epoch r.term) (records_for k xs) ≡ map (λ x. is_epoch x.term) xs
+unfolding records_for
 terms-for k [] = refl
-terms-for k (x ∷ xs) = ap (λ ts. isEpoch x.term ∷ ts) (terms-for (suc k) xs)
+terms-for k (x ∷ xs) = ap (λ ts. is_epoch x.term ∷ ts) (terms-for (suc k) xs)
 
 -- The records' terms are epochs where the entries' are.
 terms-all : (k : ℕ) (xss : List (List Entry))
-    → M.every (map (λ r. isEpoch r.term) (recordsAll k xss)) ≡ M.every (map termsInRange xss)
-unfolding recordsAll
+    → M.every (map (λ r. is_epoch r.term) (records_all k xss)) ≡ M.every (map terms_in_range xss)
+unfolding records_all
 terms-all k [] = refl
 terms-all k (xs ∷ xss) =
-    let f : Record → Bool = λ r. isEpoch r.term in
-    let rest = recordsAll (k + length xs) xss in
-    ap M.every (map-append f (recordsFor k xs) rest) ∙ every_append (map f (recordsFor k xs)) (map f rest)
+    let f : Record → Bool = λ r. is_epoch r.term in
+    let rest = records_all (k + length xs) xss in
+    ap M.every (map-append f (records_for k xs) rest) ∙ every_append (map f (records_for k xs)) (map f rest)
     ∙ rw (terms-for k xs, terms-all (k + length xs) xss)
 
 up-to : (n : ℕ) (m : Numbers) → ((i : ℕ) → i < n → m (1 + i) ≡ true) → up_to n m ≡ true
@@ -195,19 +195,19 @@ up-to (suc n) m h =
     let a : m (suc n) ≡ true = ap m (sym e) ∙ h n (omega arith) in
     rw a (up-to n m (λ i l. h i (omega arith)))
 
-pub epochs-fit : (image : Text) (xss : List (List Entry)) → Holds image 1 (recordsAll 1 xss)
-    → M.every (map termsInRange xss) ≡ true → epochsFit (sum_of xss) image ≡ true
+pub epochs-fit : (image : Text) (xss : List (List Entry)) → Holds image 1 (records_all 1 xss)
+    → M.every (map terms_in_range xss) ≡ true → epochs_fit (sum_of xss) image ≡ true
 epochs-fit image xss h t =
-    up-to (sum_of xss) (λ k. isEpoch (epochOf image k))
-    (λ i l. epoch-fits image 1 (recordsAll 1 xss) h (terms-all 1 xss ∙ t) i (omega (arith, all-length 1 xss)))
+    up-to (sum_of xss) (λ k. is_epoch (epoch_of image k))
+    (λ i l. epoch-fits image 1 (records_all 1 xss) h (terms-all 1 xss ∙ t) i (omega (arith, all-length 1 xss)))
 
 -- The definitions, tried: two chains of three records; then one met twice, by one chain and by two, one not met, one
 -- past the last; and a chain that comes back to itself, which has 513 steps of no end.
 tried :
-    (wellLinked 3 ((2 ∷ 1 ∷ []) ∷ [] ∷ (3 ∷ []) ∷ []) ≡ true)
-    × (wellLinked 3 ((2 ∷ 1 ∷ 2 ∷ []) ∷ (3 ∷ []) ∷ []) ≡ false)
-    × (wellLinked 3 ((2 ∷ 1 ∷ []) ∷ (3 ∷ 1 ∷ []) ∷ []) ≡ false) × (wellLinked 3 ((2 ∷ 1 ∷ []) ∷ []) ≡ false)
-    × (wellLinked 3 ((2 ∷ 1 ∷ []) ∷ (3 ∷ 4 ∷ []) ∷ []) ≡ false) × (length (chainOf (λ k. k) 7) ≡ 513)
-    × (chainOf (λ k. k - 1) 4 ≡ 4 ∷ 3 ∷ 2 ∷ 1 ∷ [])
-unfolding wellLinked every joined has distinct up_to chain
+    (well_linked 3 ((2 ∷ 1 ∷ []) ∷ [] ∷ (3 ∷ []) ∷ []) ≡ true)
+    × (well_linked 3 ((2 ∷ 1 ∷ 2 ∷ []) ∷ (3 ∷ []) ∷ []) ≡ false)
+    × (well_linked 3 ((2 ∷ 1 ∷ []) ∷ (3 ∷ 1 ∷ []) ∷ []) ≡ false) × (well_linked 3 ((2 ∷ 1 ∷ []) ∷ []) ≡ false)
+    × (well_linked 3 ((2 ∷ 1 ∷ []) ∷ (3 ∷ 4 ∷ []) ∷ []) ≡ false) × (length (chain_of (λ k. k) 7) ≡ 513)
+    × (chain_of (λ k. k - 1) 4 ≡ 4 ∷ 3 ∷ 2 ∷ 1 ∷ [])
+unfolding well_linked every joined has distinct up_to chain
 tried = (refl, refl, refl, refl, refl, refl, refl)

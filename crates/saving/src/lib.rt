@@ -1,15 +1,15 @@
 // The lists of a row written as chains of records (document 02, Paper 7): the records, and where each chain begins.
 
 ghost use Rattle.std.specs.Prelude.{cond, [], ◌∷◌, ◌++◌, ◌≡◌, ℕ, ◌+◌, ◌*◌, ◌<◌, ◌≤◌, eqb, ltb, length};
-ghost use Rattle.logstore.specs.Log.{pairs, logOf};
+ghost use Rattle.logstore.specs.Log.{pairs, log_of};
 ghost use Rattle.cluster.specs.Layout.{at};
 ghost use Rattle.text.specs.Text.{over};
-ghost use Rattle.saving.specs.Saved.{recordOf, recordBytes, bytes_of, recordsFor, recordsAll, nineLists, sumBy, firstsBy};
+ghost use Rattle.saving.specs.Saved.{record_of, record_bytes, bytes_of, records_for, records_all, nine_lists, sum_by, firsts_by};
 
 // How many records the nine lists make, by their lengths. Inner layer: callers see to these.
 pub fn total(len: &[u16], count: usize) -> usize
     requires { (length len.now ≡ 8) × ((b : ℕ) → at 0 len.now b ≤ 512) × (count ≤ 512) }
-    ensures { result ≡ sumBy (len.now ++ (count ∷ [])) }
+    ensures { result ≡ sum_by (len.now ++ (count ∷ [])) }
 {
     let mut sum = count;
     let mut i: usize = 0;
@@ -33,7 +33,7 @@ fn start(k: u16, n: u16) -> u16
 // The first records of the nine lists, by their lengths. Inner layer: callers see to these.
 pub fn firsts(len: [u16; 8], count: u16) -> [u16; 9]
     requires { (b : ℕ) → at 0 len b ≤ 512 }
-    ensures { result ≡ firstsBy 1 (len ++ (count ∷ [])) }
+    ensures { result ≡ firsts_by 1 (len ++ (count ∷ [])) }
 {
     let mut all = [0u16; 9];
     let mut k: u16 = 1;
@@ -51,7 +51,7 @@ pub fn firsts(len: [u16; 8], count: u16) -> [u16; 9]
 // Writes the record k. Inner layer: callers see to the room.
 fn put_record(out: &mut [u8], k: usize, value: u32, term: u16, next: u16)
     requires { 8 * k + 258 ≤ length out.old }
-    ensures { out.new ≡ over out.old (8 * k + 250) (recordBytes (recordOf value term next)) }
+    ensures { out.new ≡ over out.old (8 * k + 250) (record_bytes (record_of value term next)) }
 {
     let at = 8 * k + 250;
     out[at] = (value % 256) as u8;
@@ -82,7 +82,7 @@ fn put_chain(out: &mut [u8], k: usize, values: &[u32], terms: &[u16])
         × (8 * (k + length values.now) + 250 ≤ length out.old) }
     ensures { out.new
         ≡ over out.old (8 * k + 250)
-        (bytes_of (recordsFor k (pairs values.now terms.now))) }
+        (bytes_of (records_for k (pairs values.now terms.now))) }
 {
     let n = values.len();
     let mut i: usize = 0;
@@ -100,7 +100,7 @@ fn put_log(out: &mut [u8], k: usize, store: &[u32], store2: &[u16], i: usize, n:
         × (8 * (k + n) + 250 ≤ length out.old) }
     ensures { out.new
         ≡ over out.old (8 * k + 250)
-        (bytes_of (recordsFor k (logOf (pairs store.now store2.now) (i + 1) n))) }
+        (bytes_of (records_for k (log_of (pairs store.now store2.now) (i + 1) n))) }
 {
     let from = 512 * i;
     let to = from + n;
@@ -120,10 +120,10 @@ pub fn put_chains(
 )
     requires { (length store.now ≡ 4096) × (length store2.now ≡ 4096) × (length len.now ≡ 8)
         × ((b : ℕ) → at 0 len.now b ≤ 512) × (length list.now ≡ 512) × (length list2.now ≡ 512) × (count ≤ 512)
-        × (258 + 8 * sumBy (len.now ++ (count ∷ [])) ≤ length out.old) }
+        × (258 + 8 * sum_by (len.now ++ (count ∷ [])) ≤ length out.old) }
     ensures { out.new
         ≡ over out.old 258
-        (bytes_of (recordsAll 1 (nineLists store.now store2.now len.now
+        (bytes_of (records_all 1 (nine_lists store.now store2.now len.now
         list.now list2.now count))) }
 {
     let mut k: usize = 1;

@@ -10,18 +10,18 @@ use lib.ListN.{length, take, drop, length-append, length-take}
 use lib.Seq.{drop-drop, drop_at, take_all}
 use borrow.Author.Tests.{lt-ltb}
 use Rattle.model.proofs.Tests.{eqb_same, le-or-lt}
-use Rattle.text.specs.Text.{Text, Wrote, digitsWithin, digits}
+use Rattle.text.specs.Text.{Text, Wrote, digits_within, digits}
 use Rattle.text.proofs.Laws.{digits-most-4, digits-most-10, wrote-length}
 use Rattle.lines.specs.Lines.{word, space, newline}
-use Rattle.reading.specs.Reading.{isDigit, leading, digitsAt, reads}
+use Rattle.reading.specs.Reading.{is_digit, leading, digits_at, reads}
 use Rattle.reading.proofs.Decimal.{digits-back, number-lead, cut-number}
-use Rattle.generator.specs.Seeded.{seedSheet, isCount}
+use Rattle.generator.specs.Seeded.{seed_sheet, is_count}
 use Rattle.generator.proofs.Sheets.{count-range, sheet-bytes}
-use Rattle.seedline.specs.Line.{seedLine, Asks, IsOther, Prints, bytesRead, LinesDiffer, LinesSeen, LinesLook, OthersRefused}
+use Rattle.seedline.specs.Line.{seed_line, Asks, IsOther, Prints, bytes_read, LinesDiffer, LinesSeen, LinesLook, OthersRefused}
 
 -- No line that asks for a sheet has more than 16 bytes.
-pub line-most : (m n : ℕ) → m < 2 ^ 32 → n ≤ 4095 → length (seedLine m n) ≤ 16
-unfolding seedLine
+pub line-most : (m n : ℕ) → m < 2 ^ 32 → n ≤ 4095 → length (seed_line m n) ≤ 16
+unfolding seed_line
 line-most m n h l =
     omega (
       arith,
@@ -36,13 +36,13 @@ module _ {input : Text} {m n : ℕ} (a : Asks input m n) where
   line-short = omega (arith, ap length a.line, line-most m n a.seed (count-range n a.count).1)
 
   -- Its digits, up to the space and behind it.
-  first-digits : digitsAt input 0 ≡ digits m
-  unfolding seedLine
-  first-digits = ap (leading isDigit) a.line ∙ number-lead m 32 (digits n ++ newline) refl
+  first-digits : digits_at input 0 ≡ digits m
+  unfolding seed_line
+  first-digits = ap (leading is_digit) a.line ∙ number-lead m 32 (digits n ++ newline) refl
 
-  second_digits : (k : ℕ) → k ≡ length (digitsAt input 0) → digitsAt input (k + 1) ≡ digits n
-  unfolding seedLine
-  second_digits k e = ap (leading isDigit) behind ∙ number-lead n 10 [] refl
+  second_digits : (k : ℕ) → k ≡ length (digits_at input 0) → digits_at input (k + 1) ≡ digits n
+  unfolding seed_line
+  second_digits k e = ap (leading is_digit) behind ∙ number-lead n 10 [] refl
     where
       behind : drop (k + 1) input ≡ digits n ++ newline
       behind =
@@ -51,25 +51,25 @@ module _ {input : Text} {m n : ℕ} (a : Asks input m n) where
           ∙ ap (λ l. drop 1 l) (ap (drop k) a.line ∙ drop_at (digits m) rest k (sym (e ∙ ap length first-digits)))
 
   -- So its numbers are read back.
-  pub seed-back : (v : ℕ) → v ≡ reads 0 (digitsAt input 0) → v ≡ m
+  pub seed-back : (v : ℕ) → v ≡ reads 0 (digits_at input 0) → v ≡ m
   seed-back v e = e ∙ ap (reads 0) first-digits ∙ digits-back m
 
-  pub count-back : (k w : ℕ) → k ≡ length (digitsAt input 0) → w ≡ reads 0 (digitsAt input (k + 1)) → w ≡ n
+  pub count-back : (k w : ℕ) → k ≡ length (digits_at input 0) → w ≡ reads 0 (digits_at input (k + 1)) → w ≡ n
   count-back k w ek e = e ∙ ap (reads 0) (second_digits k ek) ∙ digits-back n
 
-  pub line-back : (v w : ℕ) → v ≡ m → w ≡ n → input ≡ seedLine v w
+  pub line-back : (v w : ℕ) → v ≡ m → w ≡ n → input ≡ seed_line v w
   line-back v w e f = a.line ∙ rw (e, f)
 
   -- There is a byte after the seed.
-  pub seed-within : (k : ℕ) → k ≡ length (digitsAt input 0) → k < length input
-  unfolding seedLine
+  pub seed-within : (k : ℕ) → k ≡ length (digits_at input 0) → k < length input
+  unfolding seed_line
   seed-within k e =
       let rest = space ++ (digits n ++ newline) in
       omega (arith, e ∙ ap length first-digits, ap length a.line, length-append (digits m) rest)
 
 -- A line is that of one seed and one count.
 pub lines-differ : LinesDiffer
-unfolding seedLine
+unfolding seed_line
 lines-differ s n s' n' e =
     let x = cut-number s s' 32 32 (digits n ++ newline) (digits n' ++ newline) refl refl e in
     let y = cut-number n n' 10 10 [] [] refl refl (tail-eq_of_cons-eq x.1) in
@@ -87,10 +87,10 @@ seen-in input s n k m =
     seen a = omega (arith, line-short a, length-take k input)
 
 pub lines-seen : LinesSeen
-lines-seen input s n = seen-in input s n bytesRead (lit≤ tt)
+lines-seen input s n = seen-in input s n bytes_read (lit≤ tt)
 
 pub lines-look : LinesLook
-unfolding seedLine digits digitsWithin
+unfolding seed_line digits digits_within
 lines-look = (refl, refl)
 
 -- Other inputs, by a test that is computed
@@ -109,9 +109,9 @@ alike-itself (x ∷ xs) = rw (eqb_same x) (alike-itself xs)
 -- Whether the input is the line of the numbers that are read from it.
 abbrev asks : Text → Bool
 asks input =
-    let s = reads 0 (digitsAt input 0) in
-    let n = reads 0 (digitsAt input (length (digitsAt input 0) + 1)) in
-    ltb s (2 ^ 32) && isCount n && alike input (seedLine s n)
+    let s = reads 0 (digits_at input 0) in
+    let n = reads 0 (digits_at input (length (digits_at input 0) + 1)) in
+    ltb s (2 ^ 32) && is_count n && alike input (seed_line s n)
 
 other : (input : Text) → asks input ≡ false → IsOther input
 other input f s n a = true≢false (sym yes ∙ f)
@@ -122,7 +122,7 @@ other input f s n a = true≢false (sym yes ∙ f)
         (alike-itself input)
 
 pub others-refused : OthersRefused
-unfolding seedLine digits digitsWithin
+unfolding seed_line digits digits_within
 others-refused = (
   other _ refl,
   other _ refl,
@@ -144,7 +144,7 @@ others-refused = (
 -- What the program prints
 
 -- Where the line was read, the sheet is printed that it asks for, and no other,
-pub prints-sheet : {input d e : Text} {r s n : ℕ} → Asks input s n → Wrote d 0 (seedSheet s n) e r → Prints input d e r
+pub prints-sheet : {input d e : Text} {r s n : ℕ} → Asks input s n → Wrote d 0 (seed_sheet s n) e r → Prints input d e r
 prints-sheet {input} {d} {e} {r} {s} {n} a w = record {
   sheet = λ s' n' b. let q = lines-differ s n s' n' (sym a.line ∙ b.line) in rw (← q.0, ← q.1) w;
   refusal = λ f. absurd (f s n a);

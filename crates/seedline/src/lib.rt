@@ -2,7 +2,7 @@
 
 ghost use Rattle.std.specs.Prelude.{◌*◌, ◌≤◌, length};
 ghost use Rattle.text.specs.Text.{Wrote};
-ghost use Rattle.seedline.specs.Line.{seedLine, Read, Prints, LinesDiffer, LinesSeen, LinesLook, OthersRefused};
+ghost use Rattle.seedline.specs.Line.{seed_line, Read, Prints, LinesDiffer, LinesSeen, LinesLook, OthersRefused};
 
 // What an input asks for: the sheet of a seed and a count of records, in this order; or it is another input.
 #[derive(Drop)]
@@ -13,8 +13,8 @@ pub enum Input {
 
 // Writes the line of a seed and a count.
 fn put_line(out: &mut [u8], seed: u32, count: u32) -> usize
-    requires { length (seedLine seed count) ≤ length out.old }
-    ensures { Wrote out.old 0 (seedLine seed count) out.new result }
+    requires { length (seed_line seed count) ≤ length out.old }
+    ensures { Wrote out.old 0 (seed_line seed count) out.new result }
 {
     let p = text::put_field(&mut *out, 0, seed);
     let q = text::put_number(&mut *out, p, count);

@@ -6,29 +6,29 @@ use Prim.Native.Nat.{ℕ, ◌-◌, ◌≤◌}
 use native.Mathlib.Omega.{arith}
 use lib.Dec.{T, eqb}
 use lib.ListN.{length, take, get_or}
-use Rattle.model.specs.Members.{isReplica}
+use Rattle.model.specs.Members.{is_replica}
 use Rattle.model.specs.State.{Entry}
 use Rattle.model.specs.Ranges.{in_range}
 use Rattle.model.proofs.Tests.{of-true, ne-fact}
 use Rattle.model.proofs.Range.{to-ranges}
 use Rattle.members.proofs.Laws.{replica}
 use Rattle.cluster.specs.declared.Cluster.{Cluster}
-use Rattle.cluster.specs.Layout.{at, outlineOf}
+use Rattle.cluster.specs.Layout.{at, outline_of}
 use Rattle.cluster.proofs.Laws.{at-index}
-use Rattle.logstore.specs.Log.{logOf, visibleOf}
+use Rattle.logstore.specs.Log.{log_of, visible_of}
 use Rattle.logstore.proofs.Laws.{take-values, take-terms, log-values, log-terms}
 use Rattle.refinement.specs.Refinement.{Places, logged, listed, Full, abs}
-use Rattle.shown.specs.Shown.{valid, shown, shownValues, shownTerms}
+use Rattle.shown.specs.Shown.{valid, shown, shown_values, shown_terms}
 
 -- The shown list: the part that the leader's length, found at its seat l, cuts out of the numbers f of the entries.
 module _ (row : Cluster) (p : Places) (f : Entry → ℕ) (store list : List ℕ)
-    (logs : (b n : ℕ) → map f (logOf (logged p) b n) ≡ logOf store b n)
+    (logs : (b n : ℕ) → map f (log_of (logged p) b n) ≡ log_of store b n)
     (given : (n : ℕ) → map f (take n (listed p)) ≡ take n list) where
   abbrev leader : ℕ
   leader = row.registry.view.leader
 
-  pub shown-is : (l : ℕ) → valid row p ≡ true → leader ≤ 8 → (isReplica leader ≡ true → l ≡ leader)
-      → visibleOf store list leader (get_or row.len (l - 1) 0) row.issued ≡ map f (shown row p)
+  pub shown-is : (l : ℕ) → valid row p ≡ true → leader ≤ 8 → (is_replica leader ≡ true → l ≡ leader)
+      → visible_of store list leader (get_or row.len (l - 1) 0) row.issued ≡ map f (shown row p)
   shown-is l v small hl = go (eqb leader 0) at-seat
       ∙ ap (λ t. map f (cond t (cond (eqb leader 0) (abs row p).committed ((abs row p).log leader)) [])) (sym v)
     where
@@ -39,15 +39,15 @@ module _ (row : Cluster) (p : Places) (f : Entry → ℕ) (store list : List ℕ
           ∙ sym (at-index 0 row.len leader (omega (arith, n)))
 
       go : (t : Bool) → (T (not t) → get_or row.len (l - 1) 0 ≡ at 0 row.len leader)
-          → cond t (take row.issued list) (logOf store leader (get_or row.len (l - 1) 0))
+          → cond t (take row.issued list) (log_of store leader (get_or row.len (l - 1) 0))
           ≡ map f (cond t (abs row p).committed ((abs row p).log leader))
       go true h = sym (given row.issued)
-      go false h = ap (logOf store leader) (h tt) ∙ sym (logs leader (at 0 row.len leader))
+      go false h = ap (log_of store leader) (h tt) ∙ sym (logs leader (at 0 row.len leader))
 
 -- So it is for the values and for the terms.
 module _ (row : Cluster) (p : Places) (full : Full p) (l : ℕ) (v : valid row p ≡ true)
     (small : row.registry.view.leader ≤ 8)
-    (hl : isReplica row.registry.view.leader ≡ true → l ≡ row.registry.view.leader) where
+    (hl : is_replica row.registry.view.leader ≡ true → l ≡ row.registry.view.leader) where
   stores : length p.store ≡ length p.store2
   stores = full.store ∙ sym full.store2
 
@@ -55,16 +55,16 @@ module _ (row : Cluster) (p : Places) (full : Full p) (l : ℕ) (v : valid row p
   lists = full.list ∙ sym full.list2
 
   pub shown-values :
-      visibleOf p.store p.list row.registry.view.leader (get_or row.len (l - 1) 0) row.issued
-      ≡ shownValues row p
+      visible_of p.store p.list row.registry.view.leader (get_or row.len (l - 1) 0) row.issued
+      ≡ shown_values row p
   shown-values = shown-is row p (λ x. x.value) p.store p.list
       (λ b n. log-values p.store p.store2 b n stores) (λ n. take-values p.list p.list2 n lists) l v small hl
 
   pub shown-terms :
-      visibleOf p.store2 p.list2 row.registry.view.leader (get_or row.len (l - 1) 0) row.issued
-      ≡ shownTerms row p
+      visible_of p.store2 p.list2 row.registry.view.leader (get_or row.len (l - 1) 0) row.issued
+      ≡ shown_terms row p
   shown-terms = shown-is row p (λ x. x.term) p.store2 p.list2
       (λ b n. log-terms p.store p.store2 b n stores) (λ n. take-terms p.list p.list2 n lists) l v small hl
 
-pub leader-small : (row : Cluster) → in_range (outlineOf row) ≡ true → row.registry.view.leader ≤ 8
-leader-small row e = (to-ranges (outlineOf row) (of-true e)).registry.leader
+pub leader-small : (row : Cluster) → in_range (outline_of row) ≡ true → row.registry.view.leader ≤ 8
+leader-small row e = (to-ranges (outline_of row) (of-true e)).registry.leader

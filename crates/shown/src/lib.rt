@@ -3,14 +3,14 @@
 
 ghost use Rattle.std.specs.Prelude.{◌≡◌};
 ghost use Rattle.refinement.specs.Refinement.{lent, Shape};
-ghost use Rattle.shown.specs.Shown.{lengthsFit, valid, shownValues, shownTerms, shownAt};
+ghost use Rattle.shown.specs.Shown.{lengths_fit, valid, shown_values, shown_terms, shown_at};
 ghost use Rattle.shown.specs.Refusals.{RefusalsHold};
 
 use cluster::Cluster;
 
 // Whether the lent places have their lengths.
 pub fn lengths(store: &[u32], store2: &[u16], list: &[u32], list2: &[u16]) -> bool
-    ensures { result ≡ lengthsFit (lent store.now store2.now list.now list2.now) }
+    ensures { result ≡ lengths_fit (lent store.now store2.now list.now list2.now) }
 {
     (store.len() == 4096) & (store2.len() == 4096) & (list.len() == 512) & (list2.len() == 512)
 }
@@ -38,9 +38,9 @@ pub fn visible<'a>(
     list: &'a [u32],
     list2: &[u16],
 ) -> &'a [u32]
-    ensures { (result.now ≡ shownValues row
+    ensures { (result.now ≡ shown_values row
         (lent store.now store2.now list.now list2.now))
-        × (result.ref_ptr ≡ shownAt 4 row
+        × (result.ref_ptr ≡ shown_at 4 row
         (lent store.now store2.now list.now list2.now)
         store.entry.ref_ptr list.entry.ref_ptr) }
 {
@@ -63,9 +63,9 @@ pub fn visible_terms<'a>(
     list: &[u32],
     list2: &'a [u16],
 ) -> &'a [u16]
-    ensures { (result.now ≡ shownTerms row
+    ensures { (result.now ≡ shown_terms row
         (lent store.now store2.now list.now list2.now))
-        × (result.ref_ptr ≡ shownAt 2 row
+        × (result.ref_ptr ≡ shown_at 2 row
         (lent store.now store2.now list.now list2.now)
         store2.entry.ref_ptr list2.entry.ref_ptr) }
 {

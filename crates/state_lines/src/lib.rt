@@ -4,18 +4,18 @@
 ghost use Rattle.std.specs.Prelude.{◌++◌, ◌+◌, ◌≤◌, length};
 ghost use Rattle.model.specs.State.{entry};
 ghost use Rattle.members.specs.Mask.{bits};
-ghost use Rattle.cluster.specs.Layout.{statusOf, stageOf, view_of, registryOf, controllerOf};
+ghost use Rattle.cluster.specs.Layout.{status_of, stage_of, view_of, registry_of, controller_of};
 ghost use Rattle.text.specs.Text.{Wrote};
-ghost use Rattle.lines.specs.Lines.{space, newline, viewText, statusWord, stageWord, lateWord, registryLine, controlLine, boardText, receiptText};
+ghost use Rattle.lines.specs.Lines.{space, newline, view_text, status_word, stage_word, late_word, registry_line, control_line, board_text, receipt_text};
 
 use cluster::{Controller, Registry, Stage, Status, View};
 
 // Writes the four parts of a view.
 fn put_parts(out: &mut [u8], at: usize, epoch: u16, term: u16, leader: u8, m: u8) -> usize
-    requires { at + length (viewText (record { epoch = epoch; term = term; leader = leader; members = bits m }))
+    requires { at + length (view_text (record { epoch = epoch; term = term; leader = leader; members = bits m }))
         ≤ length out.old }
     ensures { Wrote out.old at
-        (viewText (record { epoch = epoch; term = term; leader = leader; members = bits m })) out.new result }
+        (view_text (record { epoch = epoch; term = term; leader = leader; members = bits m })) out.new result }
 {
     let a = text::put_field(&mut *out, at, epoch as u32);
     let b = text::put_field(&mut *out, a, term as u32);
@@ -25,8 +25,8 @@ fn put_parts(out: &mut [u8], at: usize, epoch: u16, term: u16, leader: u8, m: u8
 
 // Writes a view and a space after it: epoch, leader epoch, leader, members.
 fn put_view(out: &mut [u8], at: usize, v: View) -> usize
-    requires { at + length (viewText (view_of v) ++ space) ≤ length out.old }
-    ensures { Wrote out.old at (viewText (view_of v) ++ space) out.new result }
+    requires { at + length (view_text (view_of v) ++ space) ≤ length out.old }
+    ensures { Wrote out.old at (view_text (view_of v) ++ space) out.new result }
 {
     let a = put_parts(&mut *out, at, v.epoch, v.term, v.leader, v.members);
     text::put_byte(&mut *out, a, 32)
@@ -34,8 +34,8 @@ fn put_view(out: &mut [u8], at: usize, v: View) -> usize
 
 // Writes the registry's status, which ends its line.
 fn put_status(out: &mut [u8], at: usize, g: Status) -> usize
-    requires { at + length (statusWord (statusOf g) ++ newline) ≤ length out.old }
-    ensures { Wrote out.old at (statusWord (statusOf g) ++ newline) out.new result }
+    requires { at + length (status_word (status_of g) ++ newline) ≤ length out.old }
+    ensures { Wrote out.old at (status_word (status_of g) ++ newline) out.new result }
 {
     match g {
         Status::Normal => text::put_bytes(&mut *out, at, b"normal\n"),
@@ -46,8 +46,8 @@ fn put_status(out: &mut [u8], at: usize, g: Status) -> usize
 
 // Writes the controller's stage, which ends its line.
 fn put_stage(out: &mut [u8], at: usize, g: Stage) -> usize
-    requires { at + length (stageWord (stageOf g) ++ newline) ≤ length out.old }
-    ensures { Wrote out.old at (stageWord (stageOf g) ++ newline) out.new result }
+    requires { at + length (stage_word (stage_of g) ++ newline) ≤ length out.old }
+    ensures { Wrote out.old at (stage_word (stage_of g) ++ newline) out.new result }
 {
     match g {
         Stage::Idle => text::put_bytes(&mut *out, at, b"idle\n"),
@@ -59,8 +59,8 @@ fn put_stage(out: &mut [u8], at: usize, g: Stage) -> usize
 
 // Writes the registry's line. Inner layer: callers see to the room.
 pub fn put_registry(out: &mut [u8], at: usize, r: Registry) -> usize
-    requires { at + length (registryLine (registryOf r)) ≤ length out.old }
-    ensures { Wrote out.old at (registryLine (registryOf r)) out.new result }
+    requires { at + length (registry_line (registry_of r)) ≤ length out.old }
+    ensures { Wrote out.old at (registry_line (registry_of r)) out.new result }
 {
     let v = r.view;
     let g = r.status;
@@ -71,8 +71,8 @@ pub fn put_registry(out: &mut [u8], at: usize, r: Registry) -> usize
 
 // Writes the controller's line. Inner layer: callers see to the room.
 pub fn put_control(out: &mut [u8], at: usize, k: Controller) -> usize
-    requires { at + length (controlLine (controllerOf k)) ≤ length out.old }
-    ensures { Wrote out.old at (controlLine (controllerOf k)) out.new result }
+    requires { at + length (control_line (controller_of k)) ≤ length out.old }
+    ensures { Wrote out.old at (control_line (controller_of k)) out.new result }
 {
     let v = k.view;
     let g = k.stage;
@@ -83,8 +83,8 @@ pub fn put_control(out: &mut [u8], at: usize, k: Controller) -> usize
 
 // Writes whether a replica is late, which ends its line.
 fn put_late(out: &mut [u8], at: usize, late: bool) -> usize
-    requires { at + length (lateWord late ++ newline) ≤ length out.old }
-    ensures { Wrote out.old at (lateWord late ++ newline) out.new result }
+    requires { at + length (late_word late ++ newline) ≤ length out.old }
+    ensures { Wrote out.old at (late_word late ++ newline) out.new result }
 {
     if late {
         return text::put_bytes(&mut *out, at, b"late\n");
@@ -103,8 +103,8 @@ pub fn put_board(
     len: u16,
     late: bool,
 ) -> usize
-    requires { at + length (boardText b (view_of v) joined len late) ≤ length out.old }
-    ensures { Wrote out.old at (boardText b (view_of v) joined len late) out.new result }
+    requires { at + length (board_text b (view_of v) joined len late) ≤ length out.old }
+    ensures { Wrote out.old at (board_text b (view_of v) joined len late) out.new result }
 {
     let p0 = text::put_bytes(&mut *out, at, b"board ");
     let p1 = text::put_field(&mut *out, p0, b as u32);
@@ -116,8 +116,8 @@ pub fn put_board(
 
 // Writes a receipt: its value, `@`, its term. Inner layer: callers see to the room.
 pub fn put_receipt(out: &mut [u8], at: usize, value: u32, term: u16) -> usize
-    requires { at + length (receiptText (entry value term)) ≤ length out.old }
-    ensures { Wrote out.old at (receiptText (entry value term)) out.new result }
+    requires { at + length (receipt_text (entry value term)) ≤ length out.old }
+    ensures { Wrote out.old at (receipt_text (entry value term)) out.new result }
 {
     let a = text::put_number(&mut *out, at, value);
     let b = text::put_byte(&mut *out, a, 64);

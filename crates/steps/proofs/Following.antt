@@ -6,10 +6,10 @@ use Prim.Native.Nat.{ℕ}
 use native.Mathlib.Omega.{arith}
 use Rattle.model.specs.Prelude.{◌⊑◌}
 use Rattle.model.specs.Members.{none}
-use Rattle.model.specs.State.{RowState, entries, Entry, outline, Opening, openingWith, canOpen, opened}
+use Rattle.model.specs.State.{RowState, entries, Entry, outline, Opening, opening_with, can_open, opened}
 use Rattle.model.specs.Steps.{Step, answer_of, behind, step}
-use Rattle.model.specs.Runs.{run, answers, setsBehind}
-use Rattle.model.specs.Ranges.{in_range, keptInRange}
+use Rattle.model.specs.Runs.{run, answers, sets_behind}
+use Rattle.model.specs.Ranges.{in_range, kept_in_range}
 use Rattle.model.specs.Claim.{LeadsUnder, after, receipts, Safe}
 use Rattle.model.proofs.Tests.{is_true}
 use Rattle.model.proofs.Invariant.{Inv}
@@ -17,7 +17,7 @@ use Rattle.model.proofs.Range.{from-ranges}
 use Rattle.model.proofs.Theorem.{opened-inv, step_keeps, run-append, safe}
 use Rattle.model.proofs.Bounds.{Bounds, opened-bounds, step-bounds, all_in}
 use Rattle.model.proofs.Made.{Kept, TermIn, kept_in, terms-opened, terms-step}
-use Rattle.cluster.specs.Layout.{bits, outlineOf}
+use Rattle.cluster.specs.Layout.{bits, outline_of}
 use Rattle.refinement.specs.Refinement.{Full, abs}
 use Rattle.image.specs.Keeping.{Resumes}
 use Rattle.image.proofs.Resuming.{resumes, read-full}
@@ -29,7 +29,7 @@ use Rattle.steps.proofs.Calling.{did-full}
 -- A caller holds the state s, which a run reaches.
 pub record Holds (s : RowState) (h : Held) : Type 0 where
   pub state : state_of h ≡ s
-  pub outlined : outlineOf h.row ≡ outline s
+  pub outlined : outline_of h.row ≡ outline s
   pub full : Full h.places
 
 -- what the run knows of it
@@ -43,7 +43,7 @@ pub fit : {s : RowState} {h : Held} → Reached s → Holds s h → valid h.row 
 fit {s} {h} k m =
     all-tests h.row h.places m.full (ap in_range m.outlined
     ∙ is_true (in_range (outline s)) (from-ranges (outline s) (all_in k.inv k.bounds)))
-    ∙ ap keptInRange m.state ∙ is_true (keptInRange s) (kept_in k.kept)
+    ∙ ap kept_in_range m.state ∙ is_true (kept_in_range s) (kept_in k.kept)
 
 -- A call goes on to the model's next state, with the model's answer and set.
 pub record Goes (s : RowState) (st : Step) (h : Held) (n q : ℕ) : Type 0 where
@@ -58,9 +58,9 @@ goes {s} {st} {h} {h'} k m d =
     let v = fit k m in
     let i = step_keeps entries k.inv st in
     record {
-      answered = d.answer ∙ ap (λ t. cond t (answer_of (outlineOf h.row) st) 1) v
+      answered = d.answer ∙ ap (λ t. cond t (answer_of (outline_of h.row) st) 1) v
           ∙ ap (λ x. answer_of x st) m.outlined;
-      behind = d.behind ∙ ap (λ t. cond t (behind (outlineOf h.row) st) none) v
+      behind = d.behind ∙ ap (λ t. cond t (behind (outline_of h.row) st) none) v
           ∙ ap (λ x. behind x st) m.outlined;
       reached = record {
         history = i.history;
@@ -71,7 +71,7 @@ goes {s} {st} {h} {h'} k m d =
       holds = record {
         state = d.state ∙ ap (λ t. cond t (step entries (state_of h) st) (state_of h)) v
             ∙ ap (λ x. step entries x st) m.state;
-        outlined = d.outlined ∙ ap (λ t. cond t (outline (step entries (state_of h) st)) (outlineOf h.row)) v
+        outlined = d.outlined ∙ ap (λ t. cond t (outline (step entries (state_of h) st)) (outline_of h.row)) v
             ∙ ap (λ x. outline (step entries x st)) m.state;
         full = did-full st h.row h.places d m.full;
       };
@@ -86,20 +86,20 @@ takes-up {s} {h} {h'} m t =
     (λ e. omega (arith, e)) (λ e. omega (arith, e)) in
     record {
       state = ap (λ row. abs row h'.places) r.1 ∙ r.2 ∙ m.state;
-      outlined = ap outlineOf r.1 ∙ m.outlined;
+      outlined = ap outline_of r.1 ∙ m.outlined;
       full = read-full t.loads (λ e. omega (arith, e)) (λ e. omega (arith, e));
     }
 
 -- After calls of sts from s: the model's answers and sets, and the model's state.
 pub record Ends (s : RowState) (sts : List Step) (h : Held) (ns qs : List ℕ) : Type 0 where
   pub answered : ns ≡ answers entries s sts
-  pub behind : map bits qs ≡ setsBehind entries s sts
+  pub behind : map bits qs ≡ sets_behind entries s sts
   pub reached : Reached (run entries s sts)
   pub holds : Holds (run entries s sts) h
 
 pub follow : {h h' : Held} {sts : List Step} {ns qs : List ℕ} → Calls h sts h' ns qs → (s : RowState) → Reached s
     → Holds s h → Ends s sts h' ns qs
-unfolding run answers setsBehind
+unfolding run answers sets_behind
 follow stop s k m = record { answered = refl; behind = refl; reached = k; holds = m }
 follow (call {st = st} d cs) s k m =
     let g = goes k m d in
@@ -116,9 +116,9 @@ module _ (o : Opening) (h : Held) (start : Begins o h) where
   pub opening : Holds (opened o) h
   opening = record {
     state = start.opens.row.state h.places
-        ∙ ap (λ t. opened (cond t o (openingWith 1))) (is_true (canOpen o) start.real);
+        ∙ ap (λ t. opened (cond t o (opening_with 1))) (is_true (can_open o) start.real);
     outlined = start.opens.row.outline
-        ∙ ap (λ t. outline {E = Entry} (opened (cond t o (openingWith 1)))) (is_true (canOpen o) start.real);
+        ∙ ap (λ t. outline {E = Entry} (opened (cond t o (opening_with 1)))) (is_true (can_open o) start.real);
     full = start.full;
   }
 
@@ -162,7 +162,7 @@ module _ (o : Opening) (h : Held) (start : Begins o h) where
           (subst (λ x. receipts entries o sts ⊑ x)
           (sym (ap (λ s. s.committed) (later more h'' ms ps cs) ∙ (safe entries o start.real (sts ++ more)).kept))
           (model.lasting more));
-      alone = λ more h'' ms ps cs x y t p q. model.aloneLater more x y t
+      alone = λ more h'' ms ps cs x y t p q. model.alone_later more x y t
           (subst (λ s. LeadsUnder s x t) here.holds.state p)
           (subst (λ s. LeadsUnder s y t) (later more h'' ms ps cs) q);
     }

@@ -3,13 +3,13 @@
 -- promise of `steps::claim`, and by hub's, which adds the calls over a lent controller. Assumes nothing.
 use Rattle.std.specs.Prelude.{true, List, [], ◌∷◌, map, ◌≢◌, ◌≡◌, ℕ, T, take}
 use Rattle.model.specs.Prelude.{◌⊑◌}
-use Rattle.model.specs.State.{RowState, entries, outline, Opening, canOpen, opened}
-use Rattle.model.specs.Steps.{Step, append, commit, add, remove, changeLeader, refresh, join, receive, acknowledge, refreshController, readLeader, read, setNormal, hear, install}
-use Rattle.model.specs.Runs.{steps_of, answers, setsBehind}
+use Rattle.model.specs.State.{RowState, entries, outline, Opening, can_open, opened}
+use Rattle.model.specs.Steps.{Step, append, commit, add, remove, change_leader, refresh, join, receive, acknowledge, refreshController, read_leader, read, set_normal, hear, install}
+use Rattle.model.specs.Runs.{steps_of, answers, sets_behind}
 use Rattle.model.specs.Claim.{LeadsUnder, after, receipts}
-use Rattle.model.specs.Records.{bare, of, of_both, ofValue}
+use Rattle.model.specs.Records.{bare, of, of_both, of_value}
 use Rattle.cluster.specs.declared.Cluster.{Cluster}
-use Rattle.cluster.specs.Layout.{bits, outlineOf}
+use Rattle.cluster.specs.Layout.{bits, outline_of}
 use Rattle.refinement.specs.Refinement.{Places, Full, abs}
 use Rattle.refinement.specs.Rows.{Typed}
 use Rattle.text.specs.Text.{Text}
@@ -61,7 +61,7 @@ pub data Calls : Held → List Step → Held → List ℕ → List ℕ → Type 
 
 -- The caller has made the opening o, and was lent places of their lengths that may hold anything.
 pub record Begins (o : Opening) (h : Held) : Type 0 where
-  pub real : T (canOpen o)
+  pub real : T (can_open o)
   pub opens : Opens o (record { answer = 0; behind = 0; row = h.row })
   pub full : Full h.places
 
@@ -69,9 +69,9 @@ pub record Begins (o : Opening) (h : Held) : Type 0 where
 pub record Follows (o : Opening) (sts : List Step) (h : Held) (ns qs : List ℕ) : Type 0 where
   -- "The calls accept the same steps, and the row and lent places that they return or leave hold the same."
   pub answered : ns ≡ answers entries (opened o) sts
-  pub behind : map bits qs ≡ setsBehind entries (opened o) sts
+  pub behind : map bits qs ≡ sets_behind entries (opened o) sts
   pub state : state_of h ≡ after entries o sts
-  pub outlined : outlineOf h.row ≡ outline (after entries o sts)
+  pub outlined : outline_of h.row ≡ outline (after entries o sts)
   -- No row of a run earns refusal 1.
   pub fit : valid h.row h.places ≡ true
   -- The receipts given are the first entries of the log of the leader that the registry names; the two lists hold just
@@ -95,7 +95,7 @@ CallsSafe =
 -- record's.
 unfoldable pub NamesHold : Type 0
 NamesHold = (a b v : ℕ)
-    → steps_of (ofValue 1 b v ∷ of 2 b ∷ of 3 b ∷ of 4 b ∷ bare 5 ∷ of 6 b ∷ of 7 b ∷ of 8 b ∷ of_both 9 a b
+    → steps_of (of_value 1 b v ∷ of 2 b ∷ of 3 b ∷ of 4 b ∷ bare 5 ∷ of 6 b ∷ of 7 b ∷ of 8 b ∷ of_both 9 a b
     ∷ bare 10 ∷ bare 11 ∷ of 12 b ∷ bare 13 ∷ of 14 b ∷ of 15 b ∷ [])
-    ≡ append b v ∷ commit b ∷ add b ∷ remove b ∷ changeLeader ∷ refresh b ∷ join b ∷ receive b ∷ acknowledge a b
-    ∷ refreshController ∷ readLeader ∷ read b ∷ setNormal ∷ hear b ∷ install b ∷ []
+    ≡ append b v ∷ commit b ∷ add b ∷ remove b ∷ change_leader ∷ refresh b ∷ join b ∷ receive b ∷ acknowledge a b
+    ∷ refreshController ∷ read_leader ∷ read b ∷ set_normal ∷ hear b ∷ install b ∷ []

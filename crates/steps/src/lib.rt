@@ -9,7 +9,7 @@ ghost use Rattle.refinement.specs.Refinement.{lent, Full, Ready, Turns};
 ghost use Rattle.refinement.specs.Rows.{RowsFixed, MasksFixed};
 ghost use Rattle.steps_central.specs.Opening.{Opens};
 ghost use Rattle.steps.specs.Calls.{CallsSafe, NamesHold};
-ghost use Rattle.records.specs.Record.{recordOf};
+ghost use Rattle.records.specs.Record.{record_of};
 ghost use Rattle.steps.specs.Call.{Did};
 
 use cluster::{Cluster, Outcome};
@@ -36,7 +36,7 @@ fn turn(
     r: Record,
 ) -> Outcome
     requires { Ready row × Full (lent store.old store2.old list.old list2.old) }
-    ensures { Turns (R.step_of (recordOf r)) row
+    ensures { Turns (R.step_of (record_of r)) row
         (lent store.old store2.old list.old list2.old)
         result (lent store.new store2.new list.new list2.new) }
 {
@@ -90,7 +90,7 @@ pub fn step(
     list2: &mut [u16],
     r: Record,
 ) -> Outcome
-    ensures { Did (R.step_of (recordOf r)) row
+    ensures { Did (R.step_of (record_of r)) row
         (lent store.old store2.old list.old list2.old)
         result (lent store.new store2.new list.new list2.new) }
 {
@@ -103,7 +103,7 @@ pub fn step(
 // The opening with board b; it is lent nothing. Refused, it returns the row opened with board 1: the papers leave it
 // free.
 pub fn opening(b: u8) -> Outcome
-    ensures { Opens (M.openingWith b) result }
+    ensures { Opens (M.opening_with b) result }
 {
     steps_central::opening(b)
 }
@@ -235,7 +235,7 @@ pub fn change(
     list: &mut [u32],
     list2: &mut [u16],
 ) -> Outcome
-    ensures { Did S.Step.changeLeader row
+    ensures { Did S.Step.change_leader row
         (lent store.old store2.old list.old list2.old)
         result (lent store.new store2.new list.new list2.new) }
 {
@@ -408,7 +408,7 @@ pub fn read_leader(
     list: &mut [u32],
     list2: &mut [u16],
 ) -> Outcome
-    ensures { Did S.Step.readLeader row
+    ensures { Did S.Step.read_leader row
         (lent store.old store2.old list.old list2.old)
         result (lent store.new store2.new list.new list2.new) }
 {
@@ -465,7 +465,7 @@ pub fn set_normal(
     list: &mut [u32],
     list2: &mut [u16],
 ) -> Outcome
-    ensures { Did S.Step.setNormal row
+    ensures { Did S.Step.set_normal row
         (lent store.old store2.old list.old list2.old)
         result (lent store.new store2.new list.new list2.new) }
 {

@@ -3,13 +3,13 @@
 // `&` and `|`, which make no branch: the result is then the contract's term by computation.
 
 ghost use Rattle.std.specs.Prelude.{◌≡◌, not, ◌&&◌, ◌||◌, ◌≤◌, leb, ltb, eqb};
-ghost use Rattle.model.specs.Prelude.{firstFailed};
+ghost use Rattle.model.specs.Prelude.{first_failed};
 ghost use Rattle.model.specs.Steps as S;
 ghost use Rattle.members.specs.Mask.{bits, under};
 ghost use Rattle.cluster.specs.Layout.{at};
 ghost use Rattle.cluster.specs.Parts.{Settles};
-ghost use Rattle.steps_both.specs.Checks.{setNormalChecks, installChecks};
-ghost use Rattle.steps_both.specs.Heard.{longEnough, notAbove};
+ghost use Rattle.steps_both.specs.Checks.{set_normal_checks, install_checks};
+ghost use Rattle.steps_both.specs.Heard.{long_enough, not_above};
 
 use cluster::{
     Controller, Registry, Settled, Stage, Status, View, check, number, raised, replica, seat,
@@ -38,7 +38,7 @@ fn long_enough(h: u16, low: u16) -> bool
 
 // Step 13: those that are heard at a length not below low.
 fn heard_enough(heard: [u16; 8], low: u16) -> u8
-    ensures { bits result ≡ under 9 (longEnough heard low) }
+    ensures { bits result ≡ under 9 (long_enough heard low) }
 {
     let mut q: u8 = 0;
     let mut b: u8 = 1;
@@ -60,7 +60,7 @@ fn not_above(h: u16, j: u16, l: u16, k: u16) -> bool
 
 // Step 15: those that are heard and do not rank above length l and joined epoch k.
 fn ranked_not_above(heard: [u16; 8], joined: [u16; 8], l: u16, k: u16) -> u8
-    ensures { bits result ≡ under 9 (notAbove heard joined l k) }
+    ensures { bits result ≡ under 9 (not_above heard joined l k) }
 {
     let mut q: u8 = 0;
     let mut b: u8 = 1;
@@ -75,7 +75,7 @@ fn ranked_not_above(heard: [u16; 8], joined: [u16; 8], l: u16, k: u16) -> u8
 // Step 13: what is answered: the registry r, the controller's view v and stage g, its members heard at a length not
 // below the leader's heard one, q.
 fn may_set_normal(r: Registry, v: View, g: Stage, q: u8) -> u8
-    ensures { result ≡ firstFailed (setNormalChecks r v g q) }
+    ensures { result ≡ first_failed (set_normal_checks r v g q) }
 {
     let w = r.view;
     let n7 = check(w.epoch < 4000, 0, 7);
@@ -86,7 +86,7 @@ fn may_set_normal(r: Registry, v: View, g: Stage, q: u8) -> u8
 
 // Step 13, the registry goes normal on the controller's word.
 pub fn set_normal(r: Registry, c: Controller) -> Settled
-    ensures { Settles S.Step.setNormal r c result }
+    ensures { Settles S.Step.set_normal r c result }
 {
     let w = r.view;
     let v = c.view;
@@ -137,7 +137,7 @@ pub fn set_normal(r: Registry, c: Controller) -> Settled
 // l heard of b, 0 for none, the members heard and not ranked above b, q.
 fn may_install(r: Registry, v: View, g: Stage, l: u16, q: u8, k: u8, b: u8) -> u8
     requires { (1 ≤ k) × (k ≤ 8) }
-    ensures { result ≡ firstFailed (installChecks r v g l q k b) }
+    ensures { result ≡ first_failed (install_checks r v g l q k b) }
 {
     let w = r.view;
     let n7 = check(w.epoch < 4000, 0, 7);

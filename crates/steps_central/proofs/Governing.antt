@@ -6,9 +6,9 @@ use mathlib.Core.Logic.{◌≢◌}
 use mathlib.Core.Path.{◌≡◌, refl, sym, ap, ◌∙◌}
 use Prim.Native.Nat.{ℕ, ◌-◌, ◌≤◌}
 use lib.ListN.{length, get_or}
-use Rattle.model.specs.Members.{isReplica, none}
+use Rattle.model.specs.Members.{is_replica, none}
 use Rattle.model.specs.State.{RowState, Outline, outline, entries}
-use Rattle.model.specs.Steps.{Step, nothing, writes, accepted, answer_of, qualified, behind, next, step, withRegistry, withController}
+use Rattle.model.specs.Steps.{Step, nothing, writes, accepted, answer_of, qualified, behind, next, step, with_registry, with_controller}
 use Rattle.model.proofs.Tests.{same-choice}
 use Rattle.members.specs.Mask.{bits}
 use Rattle.members.proofs.Laws.{bits_none}
@@ -19,7 +19,7 @@ use Rattle.cluster.specs.declared.Cluster.{Cluster}
 use Rattle.cluster.specs.declared.Ruled.{Ruled}
 use Rattle.cluster.specs.declared.Told.{Told}
 use Rattle.cluster.specs.declared.Settled.{Settled}
-use Rattle.cluster.specs.Layout.{at, no_view, outlineOf}
+use Rattle.cluster.specs.Layout.{at, no_view, outline_of}
 use Rattle.cluster.specs.Parts.{Rules, Tells, Settles}
 use Rattle.cluster.proofs.Laws.{at-index}
 use Rattle.refinement.specs.Refinement.{Places, logged, Full, abs, row_of, Short, written, Governs}
@@ -30,14 +30,14 @@ pub record Only (put : RowState → RowState → RowState) (st : Step) : Type 0 
   pub state : (s : RowState) → next entries s st ≡ put s (next entries s st)
   pub places : writes st ≡ nothing
 
-abbrev pub takeRegistry : RowState → RowState → RowState
-takeRegistry s x = withRegistry s x.registry
+abbrev pub take_registry : RowState → RowState → RowState
+take_registry s x = with_registry s x.registry
 
-abbrev pub takeController : RowState → RowState → RowState
-takeController s x = withController s x.controller
+abbrev pub take_controller : RowState → RowState → RowState
+take_controller s x = with_controller s x.controller
 
-abbrev pub takeBoth : RowState → RowState → RowState
-takeBoth s x = withController (withRegistry s x.registry) x.controller
+abbrev pub take_both : RowState → RowState → RowState
+take_both s x = with_controller (with_registry s x.registry) x.controller
 
 -- So it is for the step as a whole, which may be refused.
 whole : (put : RowState → RowState → RowState) (st : Step) → Only put st → ((s : RowState) → put s s ≡ s)
@@ -70,7 +70,7 @@ module _ (st : Step) (g : Registry) (c : Controller) (views : List View) (joined
         state = h.2 ∙ whole put st o idle (abs (row acked issued) p);
         short = s;
         issued = few;
-        places = same-choice (accepted (outlineOf (row acked issued)) st)
+        places = same-choice (accepted (outline_of (row acked issued)) st)
             (ap (λ w. written w (row acked issued) p) o.places);
         refused = λ z. let q = r z in λ i. row_of (q.0 i) (q.1 i) views joined acked len issued;
       }
@@ -80,41 +80,41 @@ module _ (st : Step) (g : Registry) (c : Controller) (views : List View) (joined
   nobody quiet m = bits_none ∙ same-choice (accepted m st) (quiet m)
 
   -- A step of the registry alone.
-  pub rules-govern : Only takeRegistry st → ((m : Outline) → qualified m st ≡ none) → (a : Ruled) → Rules st g a
+  pub rules-govern : Only take_registry st → ((m : Outline) → qualified m st ≡ none) → (a : Ruled) → Rules st g a
       → Governs st g c views joined len
       (record { answer = a.answer; behind = 0; registry = a.registry; controller = c })
   rules-govern o quiet a h =
-      governs takeRegistry (λ s. refl) o
+      governs take_registry (λ s. refl) o
       (record { answer = a.answer; behind = 0; registry = a.registry; controller = c })
       (λ acked issued p _. let s = abs (row acked issued) p in
-      (h.answer s, nobody quiet (outline s), ap (withRegistry s) (h.after s)))
+      (h.answer s, nobody quiet (outline s), ap (with_registry s) (h.after s)))
       (λ z. (h.refused z, refl))
 
   -- A step of the controller alone, which is told what is so of the row.
-  pub tells-govern : {Known : RowState → Type 0} → Only takeController st → ((m : Outline) → qualified m st ≡ none)
+  pub tells-govern : {Known : RowState → Type 0} → Only take_controller st → ((m : Outline) → qualified m st ≡ none)
       → (a : Told) → Tells Known st c a
       → ((acked : List ℕ) (issued : ℕ) (p : Places) → Full p → Known (abs (row acked issued) p))
       → Governs st g c views joined len
       (record { answer = a.answer; behind = 0; registry = g; controller = a.controller })
   tells-govern o quiet a h k =
-      governs takeController (λ s. refl) o
+      governs take_controller (λ s. refl) o
       (record { answer = a.answer; behind = 0; registry = g; controller = a.controller })
       (λ acked issued p full. let s = abs (row acked issued) p in let e = k acked issued p full in
-      (h.answer s e, nobody quiet (outline s), ap (withController s) (h.after s e)))
+      (h.answer s e, nobody quiet (outline s), ap (with_controller s) (h.after s e)))
       (λ z. (refl, h.refused z))
 
   -- A step of both.
-  pub settles-govern : Only takeBoth st → (a : Settled) → Settles st g c a → Governs st g c views joined len a
-  settles-govern o a h = governs takeBoth (λ s. refl) o a
+  pub settles-govern : Only take_both st → (a : Settled) → Settles st g c a → Governs st g c views joined len a
+  settles-govern o a h = governs take_both (λ s. refl) o a
       (λ acked issued p _. let s = abs (row acked issued) p in
-      (h.answer s, h.behind s, λ i. withController (withRegistry s (h.registry s i)) (h.controller s i)))
+      (h.answer s, h.behind s, λ i. with_controller (with_registry s (h.registry s i)) (h.controller s i)))
       h.refused
 
 -- What stands at the seat k of b is, if b is a replica, what b has.
 module _ (len : List ℕ) (s : Short len) (k : ℕ) (low : 1 ≤ k) where
   pub seated : (g : Registry) (c : Controller) (views : List View) (joined acked : List ℕ) (issued b : ℕ)
-      → (isReplica b ≡ true → k ≡ b)
-      → (p : Places) → Full p → isReplica b ≡ true
+      → (is_replica b ≡ true → k ≡ b)
+      → (p : Places) → Full p → is_replica b ≡ true
       → (((abs (row_of g c views joined acked len issued) p).view b).epoch ≡ (get_or views (k - 1) no_view).epoch)
       × ((abs (row_of g c views joined acked len issued) p).joined b ≡ get_or joined (k - 1) 0)
       × (length ((abs (row_of g c views joined acked len issued) p).log b) ≡ get_or len (k - 1) 0)

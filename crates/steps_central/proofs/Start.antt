@@ -6,26 +6,26 @@ use Prim.Native.Nat.{ℕ, zero, suc, ◌+◌, ◌-◌, ◌*◌, ◌≤◌, ◌<�
 use native.Mathlib.Omega.{arith}
 use lib.ListN.{get_or, take, replicate, get_or-replicate, get_or-eq_default}
 use borrow.Author.Tests.{le-leb, lt-leb}
-use Rattle.model.specs.Members.{isReplica, only}
+use Rattle.model.specs.Members.{is_replica, only}
 use Rattle.model.specs.State as M
 use Rattle.model.proofs.Tests.{le-or-lt}
 use Rattle.members.specs.Mask.{bits}
 use Rattle.members.proofs.Laws.{replica, replica-range, bits_none}
-use Rattle.logstore.specs.Log.{logOf}
+use Rattle.logstore.specs.Log.{log_of}
 use Rattle.cluster.specs.declared.View.{View}
 use Rattle.cluster.specs.declared.Status.TheVariants.{Normal}
 use Rattle.cluster.specs.declared.Stage.TheVariants.{Idle}
 use Rattle.cluster.specs.declared.Cluster.{Cluster}
-use Rattle.cluster.specs.Layout.{at, atPair, no_view, view_of, outlineOf}
+use Rattle.cluster.specs.Layout.{at, at_pair, no_view, view_of, outline_of}
 use Rattle.refinement.specs.Refinement.{logged, listed}
 use Rattle.steps_central.specs.Opening.{OpenedWith, Opens}
 
 -- Eight of a kind, by a number: 0, 1 to 8, or above.
-at_all : {A : Type 0} (d v : A) (x : ℕ) → at d (replicate 8 v) x ≡ cond (isReplica x) v d
+at_all : {A : Type 0} (d v : A) (x : ℕ) → at d (replicate 8 v) x ≡ cond (is_replica x) v d
 at_all d v zero = refl
 at_all d v (suc x) = go (le-or-lt (suc x) 8)
   where
-    go : (suc x ≤ 8) ⊎ (8 < suc x) → get_or (replicate 8 v) x d ≡ cond (isReplica (suc x)) v d
+    go : (suc x ≤ 8) ⊎ (8 < suc x) → get_or (replicate 8 v) x d ≡ cond (is_replica (suc x)) v d
     go (inl h) = rw (replica (suc x) (omega arith) h) (get_or-replicate 8 x v d (omega arith))
     go (inr h) =
         rw (le-leb 1 (suc x) (omega arith), lt-leb (suc x) 8 h)
@@ -39,8 +39,8 @@ zero-at (suc n) (suc k) = zero-at n k
 none-heard : at 0 (replicate 8 0) ≡ M.zeros
 none-heard = fun_ext (zero-at 9)
 
-none-counted : atPair (replicate 64 0) ≡ (λ x. M.zeros)
-none-counted = fun_ext (λ x. fun_ext (λ y. go (isReplica x) (isReplica y) (8 * (x - 1) + (y - 1))))
+none-counted : at_pair (replicate 64 0) ≡ (λ x. M.zeros)
+none-counted = fun_ext (λ x. fun_ext (λ y. go (is_replica x) (is_replica y) (8 * (x - 1) + (y - 1))))
   where
     go : (t u : Bool) (k : ℕ) → ◌≡◌ {A = ℕ} (cond (t && u) (get_or (replicate 64 0) k 0) 0) 0
     go true true k = zero-at 64 k
@@ -51,8 +51,8 @@ module _ (b m : ℕ) (e : bits m ≡ only b) where
   abbrev first : View
   first = record { epoch = 1; term = 1; leader = b; members = m }
 
-  abbrev pub openRow : Cluster
-  openRow = record {
+  abbrev pub open_row : Cluster
+  open_row = record {
     registry = record { view = first; status = Normal };
     controller = record { view = first; stage = Idle; heard = replicate 8 0; joined = replicate 8 0 };
     views = replicate 8 first;
@@ -62,20 +62,20 @@ module _ (b m : ℕ) (e : bits m ≡ only b) where
     issued = 0;
   }
 
-  first-view : view_of first ≡ M.firstView (M.openingWith b)
+  first-view : view_of first ≡ M.first_view (M.opening_with b)
   first-view i = record { epoch = 1; term = 1; leader = b; members = e i }
 
-  views : (λ x. view_of (at no_view (replicate 8 first) x)) ≡ (M.opened {E = M.Entry} (M.openingWith b)).view
-  views = fun_ext (λ x. ap view_of (at_all no_view first x) ∙ go (isReplica x))
+  views : (λ x. view_of (at no_view (replicate 8 first) x)) ≡ (M.opened {E = M.Entry} (M.opening_with b)).view
+  views = fun_ext (λ x. ap view_of (at_all no_view first x) ∙ go (is_replica x))
     where
-      go : (t : Bool) → view_of (cond t first no_view) ≡ cond t (M.firstView (M.openingWith b)) M.no_view
+      go : (t : Bool) → view_of (cond t first no_view) ≡ cond t (M.first_view (M.opening_with b)) M.no_view
       go true = first-view
       go false = λ i. record { epoch = 0; term = 0; leader = 0; members = bits_none i }
 
-  outlined : outlineOf openRow ≡ M.outline {E = M.Entry} (M.opened (M.openingWith b))
+  outlined : outline_of open_row ≡ M.outline {E = M.Entry} (M.opened (M.opening_with b))
   outlined i = record {
     registry = record { view = first-view i; status = M.normal };
-    controller = record { view = first-view i; stage = M.idle; heard = none-heard i; heardJoined = none-heard i };
+    controller = record { view = first-view i; stage = M.idle; heard = none-heard i; heard_joined = none-heard i };
     view = views i;
     joined = fun_ext (at_all 0 1) i;
     acked = none-counted i;
@@ -83,7 +83,7 @@ module _ (b m : ℕ) (e : bits m ≡ only b) where
     issued = 0;
   }
 
-  pub opened_with : OpenedWith (M.openingWith b) openRow
+  pub opened_with : OpenedWith (M.opening_with b) open_row
   opened_with = record {
     state = λ p i. record {
       registry = (outlined i).registry;
@@ -91,29 +91,29 @@ module _ (b m : ℕ) (e : bits m ≡ only b) where
       view = (outlined i).view;
       joined = (outlined i).joined;
       acked = (outlined i).acked;
-      log = λ x. logOf (logged p) x (none-heard i x);
+      log = λ x. log_of (logged p) x (none-heard i x);
       committed = take 0 (listed p);
     };
     outline = outlined;
   }
 
 -- The replica that the row is opened with.
-module _ (b k : ℕ) (e : k ≡ cond (isReplica b) b 1) where
+module _ (b k : ℕ) (e : k ≡ cond (is_replica b) b 1) where
   pub chosen : (1 ≤ k) × (k ≤ 8)
-  chosen = subst (λ n. (1 ≤ n) × (n ≤ 8)) (sym e) (go (isReplica b) refl)
+  chosen = subst (λ n. (1 ≤ n) × (n ≤ 8)) (sym e) (go (is_replica b) refl)
     where
-      go : (t : Bool) → isReplica b ≡ t → (1 ≤ cond t b 1) × (cond t b 1 ≤ 8)
+      go : (t : Bool) → is_replica b ≡ t → (1 ≤ cond t b 1) × (cond t b 1 ≤ 8)
       go true h = replica-range b h
       go false h = (omega arith, omega arith)
 
-  pub opens : (n : ℕ) (row : Cluster) → n ≡ M.openAnswer (M.openingWith b) → OpenedWith (M.openingWith k) row
-      → Opens (M.openingWith b) (record { answer = n; behind = 0; row = row })
+  pub opens : (n : ℕ) (row : Cluster) → n ≡ M.open_answer (M.opening_with b) → OpenedWith (M.opening_with k) row
+      → Opens (M.opening_with b) (record { answer = n; behind = 0; row = row })
   opens n row a o = record {
     answer = a;
     behind = bits_none;
-    row = subst (λ p. OpenedWith p row) (ap M.openingWith e ∙ by-board (isReplica b)) o;
+    row = subst (λ p. OpenedWith p row) (ap M.opening_with e ∙ by-board (is_replica b)) o;
   }
     where
-      by-board : (t : Bool) → M.openingWith (cond t b 1) ≡ cond t (M.openingWith b) (M.openingWith 1)
+      by-board : (t : Bool) → M.opening_with (cond t b 1) ≡ cond t (M.opening_with b) (M.opening_with 1)
       by-board true = refl
       by-board false = refl

@@ -18,7 +18,7 @@ use cluster::{
 // The row opened with the replica b.
 fn opened(b: u8) -> Cluster
     requires { (1 ≤ b) × (b ≤ 8) }
-    ensures { OpenedWith (M.openingWith b) result }
+    ensures { OpenedWith (M.opening_with b) result }
 {
     let m = members::single(b);
     let v = View {
@@ -50,7 +50,7 @@ fn opened(b: u8) -> Cluster
 
 // The opening call. With a number that is no replica: answer 1, and the row opened with replica 1.
 pub fn opening(b: u8) -> Outcome
-    ensures { Opens (M.openingWith b) result }
+    ensures { Opens (M.opening_with b) result }
 {
     let t = replica(b);
     let k = check(t, b, 1);
@@ -96,7 +96,7 @@ pub fn remove(g: Registry, c: Controller, b: u8) -> Settled
 // Step 5, the registry changes the leader.
 pub fn change(g: Registry, c: Controller) -> Settled
     ensures { (views : List View) (joined len : List ℕ) → Short len
-        → Governs (S.Step.changeLeader) g c views joined len result }
+        → Governs (S.Step.change_leader) g c views joined len result }
 {
     let a = steps_registry::change(g);
     let h = a.registry;
@@ -126,7 +126,7 @@ pub fn refresh_controller(g: Registry, c: Controller) -> Settled
 // Step 11, the controller reads its leader. Inner layer: callers see to the leader and the lengths.
 pub fn read_leader(g: Registry, c: Controller, views: [View; 8], len: &[u16]) -> Settled
     requires { HasLeader c × Short len.now }
-    ensures { (joined : List ℕ) → Governs S.Step.readLeader g c views joined len.now result }
+    ensures { (joined : List ℕ) → Governs S.Step.read_leader g c views joined len.now result }
 {
     let w = c.view;
     let k = seat(w.leader);
@@ -166,7 +166,7 @@ pub fn read(g: Registry, c: Controller, joined: &[u16], len: &[u16], b: u8) -> S
 // Step 13, the registry goes normal on the controller's word.
 pub fn set_normal(g: Registry, c: Controller) -> Settled
     ensures { (views : List View) (joined len : List ℕ) → Short len
-        → Governs (S.Step.setNormal) g c views joined len result }
+        → Governs (S.Step.set_normal) g c views joined len result }
 {
     steps_both::set_normal(g, c)
 }

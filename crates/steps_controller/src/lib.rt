@@ -4,20 +4,20 @@
 // others with 1.
 
 ghost use Rattle.std.specs.Prelude.{◌≡◌, ◌≤◌};
-ghost use Rattle.model.specs.Prelude.{firstFailed};
+ghost use Rattle.model.specs.Prelude.{first_failed};
 ghost use Rattle.model.specs.State as M;
 ghost use Rattle.model.specs.Steps as S;
-ghost use Rattle.cluster.specs.Layout.{statusOf, stageOf, controllerOf};
+ghost use Rattle.cluster.specs.Layout.{status_of, stage_of, controller_of};
 ghost use Rattle.cluster.specs.Parts.{Tells};
 ghost use Rattle.cluster.specs.Stages.{HasLeader};
-ghost use Rattle.steps_controller.specs.Checks.{refreshControllerChecks, readLeaderChecks, readChecks, hearChecks};
+ghost use Rattle.steps_controller.specs.Checks.{refresh_controller_checks, read_leader_checks, read_checks, hear_checks};
 ghost use Rattle.steps_controller.specs.Known.{RegistryKnown, LeaderKnown, ReadKnown, HearKnown};
 
 use cluster::{Controller, Registry, Stage, Status, Told, View, check, number, replica, seat};
 
 // Step 10: the stage for a status.
 fn stage(g: Status) -> Stage
-    ensures { stageOf result ≡ M.stageFor (statusOf g) }
+    ensures { stage_of result ≡ M.stage_for (status_of g) }
 {
     match g {
         Status::Normal => Stage::Idle,
@@ -28,7 +28,7 @@ fn stage(g: Status) -> Stage
 
 // Step 10: what the controller is answered: its view v, the registry's view w.
 fn may_refresh_controller(v: View, w: View) -> u8
-    ensures { result ≡ firstFailed (refreshControllerChecks v w) }
+    ensures { result ≡ first_failed (refresh_controller_checks v w) }
 {
     check(v.epoch < w.epoch, 0, 12)
 }
@@ -62,7 +62,7 @@ pub fn refresh_controller(c: Controller, r: Registry) -> Told
 // The controller c once the length n and the joined epoch j are heard of the replica k; its stage is then g.
 fn heard(c: Controller, g: Stage, k: u8, n: u16, j: u16) -> Controller
     requires { (1 ≤ k) × (k ≤ 8) × (n ≤ 512) }
-    ensures { controllerOf result ≡ S.heardOf (controllerOf c) (stageOf g) k n j }
+    ensures { controller_of result ≡ S.heard_of (controller_of c) (stage_of g) k n j }
 {
     let i = (k - 1) as usize;
     let v = c.view;
@@ -81,7 +81,7 @@ fn heard(c: Controller, g: Stage, k: u8, n: u16, j: u16) -> Controller
 
 // Step 11: what the controller is answered: its view v, its stage g, its leader's epoch e.
 fn may_read_leader(v: View, g: Stage, e: u16) -> u8
-    ensures { result ≡ firstFailed (readLeaderChecks v g e) }
+    ensures { result ≡ first_failed (read_leader_checks v g e) }
 {
     let n16 = check(e == v.epoch, 0, 16);
     check(number(g) == 1, n16, 15)
@@ -91,7 +91,7 @@ fn may_read_leader(v: View, g: Stage, e: u16) -> u8
 // the length, and to a leader at stage leader.
 pub fn read_leader(c: Controller, e: u16, n: u16) -> Told
     requires { HasLeader c × (n ≤ 512) }
-    ensures { Tells (LeaderKnown c e n) S.Step.readLeader c result }
+    ensures { Tells (LeaderKnown c e n) S.Step.read_leader c result }
 {
     let v = c.view;
     let g = c.stage;
@@ -114,7 +114,7 @@ pub fn read_leader(c: Controller, e: u16, n: u16) -> Told
 // b; b's joined epoch j, the length n of b's log.
 fn may_read(v: View, g: Stage, h: u16, j: u16, n: u16, k: u8, b: u8) -> u8
     requires { (1 ≤ k) × (k ≤ 8) }
-    ensures { result ≡ firstFailed (readChecks v g h j n k b) }
+    ensures { result ≡ first_failed (read_checks v g h j n k b) }
 {
     let n12 = check(h <= n, 0, 12); // Heard is none, 0, or one more than the length.
     let n11 = check(j == v.term, n12, 11);
@@ -153,7 +153,7 @@ pub fn read(c: Controller, b: u8, j: u16, n: u16) -> Told
 // b; b's epoch e, the length n of b's log.
 fn may_hear(v: View, g: Stage, h: u16, e: u16, n: u16, k: u8, b: u8) -> u8
     requires { (1 ≤ k) × (k ≤ 8) }
-    ensures { result ≡ firstFailed (hearChecks v g h e n k b) }
+    ensures { result ≡ first_failed (hear_checks v g h e n k b) }
 {
     let n12 = check(h <= n, 0, 12);
     let n16 = check(e == v.epoch, n12, 16);

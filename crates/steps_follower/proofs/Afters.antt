@@ -7,19 +7,19 @@ use native.Mathlib.Omega.{arith}
 use lib.Dec.{eqb, ltb→lt}
 use lib.ListN.{length, take, get_or, set}
 use Rattle.model.specs.Prelude.{upd}
-use Rattle.model.specs.Members.{isReplica}
+use Rattle.model.specs.Members.{is_replica}
 use Rattle.model.specs.State as M
-use Rattle.model.specs.State.{Entry, entry, sameEntry, entries}
+use Rattle.model.specs.State.{Entry, entry, same_entry, entries}
 use Rattle.model.specs.Steps.{refresh, join, receive, checks, accepted, next, shared}
 use Rattle.model.proofs.Tests.{facts, upd-idle, is_true, of-true}
 use Rattle.model.proofs.Quorum.{replica-range}
-use Rattle.logstore.specs.Log.{place, logOf}
+use Rattle.logstore.specs.Log.{place, log_of}
 use Rattle.logstore.proofs.Laws.{log-entry, log-length, log-joins, shared-length}
 use Rattle.cluster.specs.declared.View.{View}
 use Rattle.cluster.specs.declared.Cluster.{Cluster}
-use Rattle.cluster.specs.Layout.{view_of, at, atPair, no_view, outlineOf}
+use Rattle.cluster.specs.Layout.{view_of, at, at_pair, no_view, outline_of}
 use Rattle.cluster.proofs.Laws.{at-index, at_set, at-seat}
-use Rattle.refinement.specs.Refinement.{Places, logged, listed, putLog, storeAt, Full, abs, Short, placesAfter}
+use Rattle.refinement.specs.Refinement.{Places, logged, listed, put_log, store_at, Full, abs, Short, places_after}
 use Rattle.refinement.proofs.Turning.{logged-full, logged-at, logged-put, log-len, logs-set, logs-grow}
 use Rattle.steps_follower.proofs.Answers.{leader-seat}
 
@@ -35,22 +35,22 @@ upd-cond f b false x = sym (upd-idle f b (f b) refl)
 
 -- What is shared is no longer than the log was.
 pub join-short : (store ys : List Entry) (k n m : ℕ) → length store ≡ 4096 → 1 ≤ k → k ≤ 8 → n ≤ 512 → m
-    ≡ length (shared sameEntry (logOf store k n) ys) → m ≤ 512
+    ≡ length (shared same_entry (log_of store k n) ys) → m ≤ 512
 join-short store ys k n m full low high h e =
-    omega (arith, shared-length sameEntry (logOf store k n) ys, log-length store full k low high n h)
+    omega (arith, shared-length same_entry (log_of store k n) ys, log-length store full k low high n h)
 
 -- The entry that step 8 writes is the one after its own log in its leader's.
-pub receive-places : (row : Cluster) (p : Places) (b k : ℕ) (hk : isReplica b ≡ true → k ≡ b) (v : View)
-    (ev : v ≡ get_or row.views (k - 1) no_view) (l : ℕ) → (isReplica v.leader ≡ true → l ≡ v.leader)
-    → ((x : ℕ) → (at no_view row.views x).leader ≤ 8) → accepted (outlineOf row) (receive b) ≡ true
-    → putLog p (place k (get_or row.len (k - 1) 0)) (storeAt p (place l (get_or row.len (k - 1) 0)))
-    ≡ placesAfter (receive b) row p
+pub receive-places : (row : Cluster) (p : Places) (b k : ℕ) (hk : is_replica b ≡ true → k ≡ b) (v : View)
+    (ev : v ≡ get_or row.views (k - 1) no_view) (l : ℕ) → (is_replica v.leader ≡ true → l ≡ v.leader)
+    → ((x : ℕ) → (at no_view row.views x).leader ≤ 8) → accepted (outline_of row) (receive b) ≡ true
+    → put_log p (place k (get_or row.len (k - 1) 0)) (store_at p (place l (get_or row.len (k - 1) 0)))
+    ≡ places_after (receive b) row p
 receive-places row p b k hk v ev l hl small t =
-    let h = facts (checks (outlineOf row) (receive b)) (of-true t) in
+    let h = facts (checks (outline_of row) (receive b)) (of-true t) in
     rw (
       at-seat 0 row.len b k hk (h 1),
       (leader-seat row b k hk v ev l hl small (h 1) (h 9)).1,
-      hk (is_true (isReplica b) (h 1)),
+      hk (is_true (is_replica b) (h 1)),
     )
 
 module _ (row : Cluster) (short : Short row.len) (p : Places) (full : Full p) where
@@ -61,14 +61,14 @@ module _ (row : Cluster) (short : Short row.len) (p : Places) (full : Full p) wh
   whole = logged-full p full
 
   -- Step 6.
-  pub refresh-after : (b k j n : ℕ) (v : View) (acked : List ℕ) → (isReplica b ≡ true → k ≡ b) → v
+  pub refresh-after : (b k j n : ℕ) (v : View) (acked : List ℕ) → (is_replica b ≡ true → k ≡ b) → v
       ≡ get_or row.views (k - 1) no_view → n ≡ get_or row.len (k - 1) 0 → length row.views ≡ 8
       → length row.joined ≡ 8
       → j ≡ cond (not (eqb v.term row.registry.view.term) && eqb row.registry.view.leader k)
       row.registry.view.term (get_or row.joined (k - 1) 0)
-      → atPair acked ≡ cond (not (eqb v.term row.registry.view.term))
-      (upd (atPair row.acked) k (upd M.zeros k n)) (atPair row.acked)
-      → accepted (outlineOf row) (refresh b) ≡ true
+      → at_pair acked ≡ cond (not (eqb v.term row.registry.view.term))
+      (upd (at_pair row.acked) k (upd M.zeros k n)) (at_pair row.acked)
+      → accepted (outline_of row) (refresh b) ≡ true
       → abs (record {
         registry = row.registry;
         controller = row.controller;
@@ -80,9 +80,9 @@ module _ (row : Cluster) (short : Short row.len) (p : Places) (full : Full p) wh
       }) p
       ≡ next entries (abs row p) (refresh b)
   refresh-after b k j n v acked hk ev en lv lj ej ea t =
-      let h = facts (checks (outlineOf row) (refresh b)) (of-true t) in
+      let h = facts (checks (outline_of row) (refresh b)) (of-true t) in
       let r = replica-range b (h 1) in
-      let q : k ≡ b = hk (is_true (isReplica b) (h 1)) in
+      let q : k ≡ b = hk (is_true (is_replica b) (h 1)) in
       let vb : get_or row.views (b - 1) no_view ≡ at no_view row.views b =
       sym (at-index no_view row.views b r.0) in
       let views : (λ x. view_of (at no_view (set row.views (k - 1) row.registry.view) x))
@@ -90,14 +90,14 @@ module _ (row : Cluster) (short : Short row.len) (p : Places) (full : Full p) wh
       rw q (fun_ext (λ x. ap (λ f. view_of (f x)) (at_set no_view row.views b row.registry.view r.0 r.1 lv)
       ∙ cond-ap view_of (eqb x b) row.registry.view (at no_view row.views x))) in
       let nj : get_or row.joined (b - 1) 0 ≡ at 0 row.joined b = sym (at-index 0 row.joined b r.0) in
-      let nb : get_or row.len (b - 1) 0 ≡ length (logOf store b (at 0 row.len b)) =
+      let nb : get_or row.len (b - 1) 0 ≡ length (log_of store b (at 0 row.len b)) =
       sym (log-len store whole row.len short b ∙ at-index 0 row.len b r.0) in
       let joined : at 0 (set row.joined (k - 1) j) ≡ (next entries (abs row p) (refresh b)).joined =
       rw (ej, ev, q, vb, nj) (at_set 0 row.joined b _ r.0 r.1 lj) in
-      let counts : atPair acked ≡ (next entries (abs row p) (refresh b)).acked =
-      ea ∙ rw (ev, en, q, vb, nb) (upd-cond (atPair row.acked) b
+      let counts : at_pair acked ≡ (next entries (abs row p) (refresh b)).acked =
+      ea ∙ rw (ev, en, q, vb, nb) (upd-cond (at_pair row.acked) b
       (not (eqb (at no_view row.views b).term row.registry.view.term))
-      (upd M.zeros b (length (logOf store b (at 0 row.len b))))) in
+      (upd M.zeros b (length (log_of store b (at 0 row.len b))))) in
       λ i. record {
         registry = (abs row p).registry;
         controller = (abs row p).controller;
@@ -109,12 +109,12 @@ module _ (row : Cluster) (short : Short row.len) (p : Places) (full : Full p) wh
       }
 
   -- Step 7.
-  pub join-after : (b k l n : ℕ) (v : View) → (isReplica b ≡ true → k ≡ b) → length row.joined ≡ 8 → v
+  pub join-after : (b k l n : ℕ) (v : View) → (is_replica b ≡ true → k ≡ b) → length row.joined ≡ 8 → v
       ≡ get_or row.views (k - 1) no_view
-      → (isReplica v.leader ≡ true → l ≡ v.leader) → ((x : ℕ) → (at no_view row.views x).leader ≤ 8)
-      → n ≡ length (shared sameEntry (logOf store k (get_or row.len (k - 1) 0))
-      (logOf store l (get_or row.len (l - 1) 0)))
-      → accepted (outlineOf row) (join b) ≡ true
+      → (is_replica v.leader ≡ true → l ≡ v.leader) → ((x : ℕ) → (at no_view row.views x).leader ≤ 8)
+      → n ≡ length (shared same_entry (log_of store k (get_or row.len (k - 1) 0))
+      (log_of store l (get_or row.len (l - 1) 0)))
+      → accepted (outline_of row) (join b) ≡ true
       → abs (record {
         registry = row.registry;
         controller = row.controller;
@@ -126,9 +126,9 @@ module _ (row : Cluster) (short : Short row.len) (p : Places) (full : Full p) wh
       }) p
       ≡ next entries (abs row p) (join b)
   join-after b k l n v hk lj ev hl small en t =
-      let h = facts (checks (outlineOf row) (join b)) (of-true t) in
+      let h = facts (checks (outline_of row) (join b)) (of-true t) in
       let r = replica-range b (h 1) in
-      let q : k ≡ b = hk (is_true (isReplica b) (h 1)) in
+      let q : k ≡ b = hk (is_true (is_replica b) (h 1)) in
       let ld = leader-seat row b k hk v ev l hl small (h 1) (h 9) in
       let vb : get_or row.views (b - 1) no_view ≡ at no_view row.views b =
       sym (at-index no_view row.views b r.0) in
@@ -136,16 +136,16 @@ module _ (row : Cluster) (short : Short row.len) (p : Places) (full : Full p) wh
       let ll : (at no_view row.views b).leader ≡ l = sym ld.1 in
       let nl : get_or row.len (l - 1) 0 ≡ at 0 row.len l = sym (at-index 0 row.len l ld.0) in
       let m = at 0 row.len b in
-      let other = logOf store (at no_view row.views b).leader (at 0 row.len (at no_view row.views b).leader) in
-      let en' : n ≡ length (shared sameEntry (logOf store b m) other) = en ∙ rw (q, nb, nl, ll) in
+      let other = log_of store (at no_view row.views b).leader (at 0 row.len (at no_view row.views b).leader) in
+      let en' : n ≡ length (shared same_entry (log_of store b m) other) = en ∙ rw (q, nb, nl, ll) in
       let joined : at 0 (set row.joined (k - 1) v.term)
       ≡ upd (at 0 row.joined) b (at no_view row.views b).term =
       rw (ev, q, vb) (at_set 0 row.joined b (at no_view row.views b).term r.0 r.1 lj) in
-      let logs : (λ x. logOf store x (at 0 (set row.len (k - 1) n) x))
-      ≡ upd (λ x. logOf store x (at 0 row.len x)) b (shared sameEntry (logOf store b m) other) =
+      let logs : (λ x. log_of store x (at 0 (set row.len (k - 1) n) x))
+      ≡ upd (λ x. log_of store x (at 0 row.len x)) b (shared same_entry (log_of store b m) other) =
       rw q (logs-set row.len short b n r.0 r.1 store store (λ _ _ _. refl))
-      ∙ ap (upd (λ x. logOf store x (at 0 row.len x)) b)
-      (ap (logOf store b) en' ∙ log-joins store whole b r.0 r.1 m sameEntry other (short.most b)) in
+      ∙ ap (upd (λ x. log_of store x (at 0 row.len x)) b)
+      (ap (log_of store b) en' ∙ log-joins store whole b r.0 r.1 m same_entry other (short.most b)) in
       λ j. record {
         registry = (abs row p).registry;
         controller = (abs row p).controller;
@@ -157,9 +157,9 @@ module _ (row : Cluster) (short : Short row.len) (p : Places) (full : Full p) wh
       }
 
   -- Step 8.
-  pub receive-after : (b k : ℕ) → (isReplica b ≡ true → k ≡ b)
-      → (p' : Places) → p' ≡ placesAfter (receive b) row p
-      → accepted (outlineOf row) (receive b) ≡ true
+  pub receive-after : (b k : ℕ) → (is_replica b ≡ true → k ≡ b)
+      → (p' : Places) → p' ≡ places_after (receive b) row p
+      → accepted (outline_of row) (receive b) ≡ true
       → abs (record {
         registry = row.registry;
         controller = row.controller;
@@ -171,23 +171,23 @@ module _ (row : Cluster) (short : Short row.len) (p : Places) (full : Full p) wh
       }) p'
       ≡ next entries (abs row p) (receive b)
   receive-after b k hk p' ep t =
-      let h = facts (checks (outlineOf row) (receive b)) (of-true t) in
+      let h = facts (checks (outline_of row) (receive b)) (of-true t) in
       let r = replica-range b (h 1) in
-      let q : k ≡ b = hk (is_true (isReplica b) (h 1)) in
+      let q : k ≡ b = hk (is_true (is_replica b) (h 1)) in
       let o = (at no_view row.views b).leader in
       let n = at 0 row.len b in
       let nb : get_or row.len (b - 1) 0 ≡ n = sym (at-index 0 row.len b r.0) in
       let lt = ltb→lt n (at 0 row.len o) (h 12) in
-      let e : storeAt p (place o n) ≡ get_or (logOf store o (at 0 row.len o)) (length (logOf store b n)) (entry 0 0) =
+      let e : store_at p (place o n) ≡ get_or (log_of store o (at 0 row.len o)) (length (log_of store b n)) (entry 0 0) =
       sym (logged-at p full (place o n)) ∙ sym (log-entry (entry 0 0) store o (at 0 row.len o) n lt)
-      ∙ ap (λ x. get_or (logOf store o (at 0 row.len o)) x (entry 0 0))
+      ∙ ap (λ x. get_or (log_of store o (at 0 row.len o)) x (entry 0 0))
       (sym (log-len store whole row.len short b)) in
-      let logs : (λ x. logOf (logged p') x (at 0 (set row.len (k - 1) (get_or row.len (k - 1) 0 + 1)) x))
-      ≡ upd (λ x. logOf store x (at 0 row.len x)) b
-      (logOf store b n ++ (get_or (logOf store o (at 0 row.len o)) (length (logOf store b n)) (entry 0 0) ∷ [])) =
-      rw (ap logged ep ∙ logged-put p (place b n) (storeAt p (place o n)), q, nb)
+      let logs : (λ x. log_of (logged p') x (at 0 (set row.len (k - 1) (get_or row.len (k - 1) 0 + 1)) x))
+      ≡ upd (λ x. log_of store x (at 0 row.len x)) b
+      (log_of store b n ++ (get_or (log_of store o (at 0 row.len o)) (length (log_of store b n)) (entry 0 0) ∷ [])) =
+      rw (ap logged ep ∙ logged-put p (place b n) (store_at p (place o n)), q, nb)
       (logs-grow row.len short store whole b _ r.0 r.1 (omega (arith, lt, short.most o)))
-      ∙ ap (λ x. upd (λ x. logOf store x (at 0 row.len x)) b (logOf store b n ++ (x ∷ []))) e in
+      ∙ ap (λ x. upd (λ x. log_of store x (at 0 row.len x)) b (log_of store b n ++ (x ∷ []))) e in
       let given : take row.issued (listed p') ≡ take row.issued (listed p) =
       ap (λ z. take row.issued (listed z)) ep in
       λ j. record {

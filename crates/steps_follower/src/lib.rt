@@ -5,16 +5,16 @@
 // none.
 
 ghost use Rattle.std.specs.Prelude.{◌≡◌, not, cond, ◌&&◌, List, ℕ, ◌≤◌, ◌<◌, eqb, length, set};
-ghost use Rattle.model.specs.Prelude.{upd, firstFailed};
+ghost use Rattle.model.specs.Prelude.{upd, first_failed};
 ghost use Rattle.model.specs.State as M;
 ghost use Rattle.model.specs.Steps as S;
 ghost use Rattle.members.specs.Mask.{bits};
 ghost use Rattle.cluster.specs.declared.Registry.{Registry};
 ghost use Rattle.cluster.specs.declared.Controller.{Controller};
 ghost use Rattle.cluster.specs.declared.Status.{Status};
-ghost use Rattle.cluster.specs.Layout.{atPair};
+ghost use Rattle.cluster.specs.Layout.{at_pair};
 ghost use Rattle.refinement.specs.Refinement.{Places, lent, Full, row_of, Short, Led, Leaves};
-ghost use Rattle.steps_follower.specs.Checks.{refreshChecks, joinChecks, receiveChecks};
+ghost use Rattle.steps_follower.specs.Checks.{refresh_checks, join_checks, receive_checks};
 
 use cluster::{View, check, replica, seat};
 use refinement::{lookup, view};
@@ -30,7 +30,7 @@ pub struct Taken {
 // The counts of b become 0 but its own, which becomes n.
 fn restart(acked: &mut [u16], b: u8, n: u16)
     requires { (1 ≤ b) × (b ≤ 8) × (length acked.old ≡ 64) }
-    ensures { atPair acked.new ≡ upd (atPair acked.old) b (upd M.zeros b n) }
+    ensures { at_pair acked.new ≡ upd (at_pair acked.old) b (upd M.zeros b n) }
 {
     let i = 8 * ((b - 1) as usize);
     acked[i] = 0;
@@ -60,9 +60,9 @@ fn joins(t: u16, w: View, b: u8, j: u16) -> u16
 // Step 6: the counts after news w for b, whose leader epoch was t and whose log has n entries.
 fn counts(t: u16, w: View, b: u8, acked: &mut [u16], n: u16)
     requires { (1 ≤ b) × (b ≤ 8) × (length acked.old ≡ 64) }
-    ensures { atPair acked.new
-        ≡ cond (not (eqb t w.term)) (upd (atPair acked.old) b (upd M.zeros b n))
-        (atPair acked.old) }
+    ensures { at_pair acked.new
+        ≡ cond (not (eqb t w.term)) (upd (at_pair acked.old) b (upd M.zeros b n))
+        (at_pair acked.old) }
 {
     if t == w.term {
         return;
@@ -72,7 +72,7 @@ fn counts(t: u16, w: View, b: u8, acked: &mut [u16], n: u16)
 
 // Step 6: what b is answered: its view v, the registry's view w.
 fn may_refresh(v: View, w: View, b: u8) -> u8
-    ensures { result ≡ firstFailed (refreshChecks v w b) }
+    ensures { result ≡ first_failed (refresh_checks v w b) }
 {
     let n12 = check(v.epoch < w.epoch, 0, 12);
     check(replica(b), n12, 1)
@@ -129,7 +129,7 @@ fn follows(l: u8, b: u8) -> bool
 // Step 7: what b, whose seat is k, is answered: its view v, its leader's view w, its joined epoch j.
 fn may_join(v: View, w: View, j: u16, k: u8, b: u8) -> u8
     requires { (1 ≤ k) × (k ≤ 8) }
-    ensures { result ≡ firstFailed (joinChecks v w j k b) }
+    ensures { result ≡ first_failed (join_checks v w j k b) }
 {
     let n11 = check(j != v.term, 0, 11);
     let n10 = check(v.term == w.term, n11, 10);
@@ -188,7 +188,7 @@ fn both_have(m: u8, o: u8, b: u8) -> bool
 // o of their logs.
 fn may_receive(v: View, w: View, j: u16, n: u16, o: u16, k: u8, b: u8) -> u8
     requires { (1 ≤ k) × (k ≤ 8) }
-    ensures { result ≡ firstFailed (receiveChecks v w j n o k b) }
+    ensures { result ≡ first_failed (receive_checks v w j n o k b) }
 {
     let n12 = check(n < o, 0, 12);
     let n11 = check(j == v.term, n12, 11);

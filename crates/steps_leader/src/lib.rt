@@ -4,20 +4,20 @@
 // lent places have their lengths and that no log is longer than 512.
 
 ghost use Rattle.std.specs.Prelude.{◌≡◌, not, ◌&&◌, List, ℕ, ◌≤◌, eqb, length};
-ghost use Rattle.model.specs.Prelude.{firstFailed};
+ghost use Rattle.model.specs.Prelude.{first_failed};
 ghost use Rattle.model.specs.Members as Q;
 ghost use Rattle.model.specs.Steps as S;
 ghost use Rattle.cluster.specs.declared.Registry.{Registry};
 ghost use Rattle.cluster.specs.declared.Controller.{Controller};
 ghost use Rattle.refinement.specs.Refinement.{Places, lent, Full, row_of, Short, Leaves};
-ghost use Rattle.steps_leader.specs.Checks.{appendChecks, acknowledgeChecks};
+ghost use Rattle.steps_leader.specs.Checks.{append_checks, acknowledge_checks};
 
 use cluster::{View, check, replica, seat};
 use refinement::{lookup, pair, view};
 
 // Step 1: what b is answered: its view v, the length n of its log.
 fn may_append(v: View, n: u16, b: u8) -> u8
-    ensures { result ≡ firstFailed (appendChecks v n b) }
+    ensures { result ≡ first_failed (append_checks v n b) }
 {
     let n13 = check(n < 512, 0, 13);
     let n8 = check(v.leader == b, n13, 8);
@@ -60,7 +60,7 @@ pub fn append(
 
 // Whether a and b are two replicas.
 fn two(a: u8, b: u8) -> bool
-    ensures { result ≡ (Q.isReplica a && Q.isReplica b && not (eqb a b)) }
+    ensures { result ≡ (Q.is_replica a && Q.is_replica b && not (eqb a b)) }
 {
     replica(a) & replica(b) & (a != b)
 }
@@ -69,7 +69,7 @@ fn two(a: u8, b: u8) -> bool
 // of b, the length n of b's log.
 fn may_acknowledge(v: View, w: View, t: u16, c: u16, n: u16, k: u8, a: u8, b: u8) -> u8
     requires { (1 ≤ k) × (k ≤ 8) }
-    ensures { result ≡ firstFailed (acknowledgeChecks v w t c n k a b) }
+    ensures { result ≡ first_failed (acknowledge_checks v w t c n k a b) }
 {
     let n12 = check(c < n, 0, 12);
     let n11 = check(t == w.term, n12, 11);

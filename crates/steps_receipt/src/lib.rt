@@ -4,14 +4,14 @@
 // lengths and that no log is longer than 512.
 
 ghost use Rattle.std.specs.Prelude.{◌≡◌, List, ℕ, ◌≤◌, length};
-ghost use Rattle.model.specs.Prelude.{firstFailed};
+ghost use Rattle.model.specs.Prelude.{first_failed};
 ghost use Rattle.model.specs.Steps as S;
 ghost use Rattle.members.specs.Mask.{bits, under};
 ghost use Rattle.cluster.specs.declared.Registry.{Registry};
 ghost use Rattle.cluster.specs.declared.Controller.{Controller};
-ghost use Rattle.cluster.specs.Layout.{atPair};
+ghost use Rattle.cluster.specs.Layout.{at_pair};
 ghost use Rattle.refinement.specs.Refinement.{lent, Full, row_of, Short, Leaves};
-ghost use Rattle.steps_receipt.specs.Checks.{commitChecks};
+ghost use Rattle.steps_receipt.specs.Checks.{commit_checks};
 
 use cluster::{View, check, replica, seat};
 use refinement::{lookup, pair, view};
@@ -27,7 +27,7 @@ pub struct Given {
 // The replicas that b has counted above n, members or not, among the counts acked.
 fn counted(acked: &[u16], b: u8, n: u16) -> u8
     requires { (1 ≤ b) × (b ≤ 8) × (length acked.now ≡ 64) }
-    ensures { bits result ≡ under 9 (S.countedAbove (atPair acked.now b) n) }
+    ensures { bits result ≡ under 9 (S.counted_above (at_pair acked.now b) n) }
 {
     let mut q: u8 = 0;
     let mut x: u8 = 1;
@@ -41,7 +41,7 @@ fn counted(acked: &[u16], b: u8, n: u16) -> u8
 
 // Step 2: what b is answered: its view v, the length n of its log, the members q that it has counted above `issued`.
 fn may_commit(v: View, n: u16, issued: u16, q: u8, b: u8) -> u8
-    ensures { result ≡ firstFailed (commitChecks v n issued q b) }
+    ensures { result ≡ first_failed (commit_checks v n issued q b) }
 {
     let n14 = check(members::is_quorum(v.members, q), 0, 14);
     let n12 = check(issued < n, n14, 12);

@@ -3,31 +3,31 @@
 -- this: they cite the model. Assumes nothing.
 use Rattle.std.specs.Prelude.{not, List, [], ◌∷◌, ℕ, leb, eqb}
 use Rattle.model.specs.Prelude.{Check, ◌else◌}
-use Rattle.model.specs.Members.{isReplica, size}
-use Rattle.model.specs.State.{isNormal, isChoosing}
+use Rattle.model.specs.Members.{is_replica, size}
+use Rattle.model.specs.State.{is_normal, is_choosing}
 use Rattle.model.specs.Steps.{raise}
 use Rattle.members.specs.Mask.{bits}
 use Rattle.cluster.specs.declared.Registry.{Registry}
-use Rattle.cluster.specs.Layout.{statusOf, registryOf}
+use Rattle.cluster.specs.Layout.{status_of, registry_of}
 
 -- Step 3, of b, whose seat is k: "not choosing [4]; not a member [5]; raise".
-abbrev pub addChecks : Registry → ℕ → ℕ → List Check
-addChecks r k b = (isReplica b else 1)
-    ∷ (not (isChoosing (statusOf r.status)) else 4)
+abbrev pub add_checks : Registry → ℕ → ℕ → List Check
+add_checks r k b = (is_replica b else 1)
+    ∷ (not (is_choosing (status_of r.status)) else 4)
     ∷ (not (bits r.view.members k) else 5)
-    ∷ raise (registryOf r) ∷ []
+    ∷ raise (registry_of r) ∷ []
 
 -- Step 4, of b, whose seat is k: "not choosing [4]; a member [5]; not the leader [6]; raise".
-abbrev pub removeChecks : Registry → ℕ → ℕ → List Check
-removeChecks r k b = (isReplica b else 1)
-    ∷ (not (isChoosing (statusOf r.status)) else 4)
+abbrev pub remove_checks : Registry → ℕ → ℕ → List Check
+remove_checks r k b = (is_replica b else 1)
+    ∷ (not (is_choosing (status_of r.status)) else 4)
     ∷ (bits r.view.members k else 5)
     ∷ (not (eqb b r.view.leader) else 6)
-    ∷ raise (registryOf r) ∷ []
+    ∷ raise (registry_of r) ∷ []
 
 -- Step 5: "normal [4]; two members or more [6]; raise".
-abbrev pub changeChecks : Registry → List Check
-changeChecks r =
-    (isNormal (statusOf r.status) else 4)
+abbrev pub change_checks : Registry → List Check
+change_checks r =
+    (is_normal (status_of r.status) else 4)
     ∷ (leb 2 (size (bits r.view.members)) else 6)
-    ∷ raise (registryOf r) ∷ []
+    ∷ raise (registry_of r) ∷ []

@@ -2,21 +2,21 @@
 // which makes the checks of specs/Checks.antt; refused it gives the registry back.
 
 ghost use Rattle.std.specs.Prelude.{◌≡◌, false, cond, ◌≤◌, eqb};
-ghost use Rattle.model.specs.Prelude.{upd, firstFailed};
+ghost use Rattle.model.specs.Prelude.{upd, first_failed};
 ghost use Rattle.model.specs.State as M;
 ghost use Rattle.model.specs.Steps as S;
 ghost use Rattle.members.specs.Mask.{bits};
-ghost use Rattle.cluster.specs.Layout.{statusOf, registryOf};
+ghost use Rattle.cluster.specs.Layout.{status_of, registry_of};
 ghost use Rattle.cluster.specs.Parts.{Rules};
-ghost use Rattle.steps_registry.specs.Checks.{addChecks, removeChecks, changeChecks};
-ghost use Rattle.steps_registry.specs.Succession.{successionOf};
+ghost use Rattle.steps_registry.specs.Checks.{add_checks, remove_checks, change_checks};
+ghost use Rattle.steps_registry.specs.Succession.{succession_of};
 
 use cluster::{Registry, Ruled, Status, View, check, choosing, normal, raised, replica, seat};
 
 // Step 3: what is answered about b, whose seat is k.
 fn may_add(r: Registry, k: u8, b: u8) -> u8
     requires { (1 ≤ k) × (k ≤ 8) }
-    ensures { result ≡ firstFailed (addChecks r k b) }
+    ensures { result ≡ first_failed (add_checks r k b) }
 {
     let v = r.view;
     let g = r.status;
@@ -59,7 +59,7 @@ pub fn add(r: Registry, b: u8) -> Ruled
 // Step 4: what is answered about b, whose seat is k.
 fn may_remove(r: Registry, k: u8, b: u8) -> u8
     requires { (1 ≤ k) × (k ≤ 8) }
-    ensures { result ≡ firstFailed (removeChecks r k b) }
+    ensures { result ≡ first_failed (remove_checks r k b) }
 {
     let v = r.view;
     let g = r.status;
@@ -100,7 +100,7 @@ pub fn remove(r: Registry, b: u8) -> Ruled
 
 // Step 4: normal if exactly one member is left, else waiting.
 fn status_left(size: u8) -> Status
-    ensures { statusOf result ≡ cond (eqb size 1) M.normal M.waiting }
+    ensures { status_of result ≡ cond (eqb size 1) M.normal M.waiting }
 {
     if size == 1 {
         return Status::Normal;
@@ -110,7 +110,7 @@ fn status_left(size: u8) -> Status
 
 // Step 5: what is answered.
 fn may_change(r: Registry) -> u8
-    ensures { result ≡ firstFailed (changeChecks r) }
+    ensures { result ≡ first_failed (change_checks r) }
 {
     let v = r.view;
     let g = r.status;
@@ -121,7 +121,7 @@ fn may_change(r: Registry) -> u8
 
 // Step 5, change leader.
 pub fn change(r: Registry) -> Ruled
-    ensures { Rules S.Step.changeLeader r result }
+    ensures { Rules S.Step.change_leader r result }
 {
     let v = r.view;
     let n = may_change(r);
@@ -152,7 +152,7 @@ fn without(m: u8, l: u8) -> u8
 
 // Step 5: the members m are left, under epoch e; t was the term.
 fn succession(e: u16, t: u16, m: u8) -> Registry
-    ensures { registryOf result ≡ successionOf e t (bits m) }
+    ensures { registry_of result ≡ succession_of e t (bits m) }
 {
     let n = members::size(m);
     if n == 1 {

@@ -10,7 +10,7 @@ use lib.Dec.{ltb}
 use lib.ListN.{length, take, drop, set, length-append}
 use lib.Seq.{length-sets, sets-eq, length-take-le, drop_at, take-append_seam, take-set-le, drop-set-lt, set_comm}
 use borrow.Author.Tests.{lt-ltb, le-ltb, ltb-true, ltb-false, lt-leb, le-leb}
-use Rattle.text.specs.Text.{Text, over, Wrote, Delivered, eachOf, digitsWithin, digits}
+use Rattle.text.specs.Text.{Text, over, Wrote, Delivered, each_of, digits_within, digits}
 
 -- Storing a text
 
@@ -131,43 +131,43 @@ fitting {text} {out} h w =
 -- Texts of numbers, one after the other
 
 -- One more takes no less room,
-pub each_more : (text : ℕ → Text) (i d : ℕ) → length (eachOf text i) ≤ length (eachOf text (i + d))
-unfolding eachOf
+pub each_more : (text : ℕ → Text) (i d : ℕ) → length (each_of text i) ≤ length (each_of text (i + d))
+unfolding each_of
 each_more text i zero = rw (add-zero i) (omega arith)
 each_more text i (suc d) =
     rw (add-suc i d)
-    (omega (arith, each_more text i d, length-append (eachOf text (i + d)) (text (i + d))))
+    (omega (arith, each_more text i d, length-append (each_of text (i + d)) (text (i + d))))
 
 -- so room for n of them is room for each after those before it.
 pub each-room : (text : ℕ → Text) (i n : ℕ) → i < n
-    → length (eachOf text i) + length (text i) ≤ length (eachOf text n)
-unfolding eachOf
+    → length (each_of text i) + length (text i) ≤ length (each_of text n)
+unfolding each_of
 each-room text i n h =
     let e : suc i + (n - suc i) ≡ n = omega (arith, h) in
-    let m = subst (λ k. length (eachOf text (suc i)) ≤ length (eachOf text k)) e
+    let m = subst (λ k. length (each_of text (suc i)) ≤ length (each_of text k)) e
     (each_more text (suc i) (n - suc i)) in
-    omega (arith, m, length-append (eachOf text i) (text i))
+    omega (arith, m, length-append (each_of text i) (text i))
 
-pub each_none : (text : ℕ → Text) → eachOf text 0 ≡ []
-unfolding eachOf
+pub each_none : (text : ℕ → Text) → each_of text 0 ≡ []
+unfolding each_of
 each_none text = refl
 
-pub each_next : (text : ℕ → Text) (i : ℕ) → eachOf text (i + 1) ≡ eachOf text i ++ text i
-unfolding eachOf
+pub each_next : (text : ℕ → Text) (i : ℕ) → each_of text (i + 1) ≡ each_of text i ++ text i
+unfolding each_of
 each_next text i = rw (add-one i)
 
 -- Texts of at most k bytes are n times k at most.
-pub each-most : (text : ℕ → Text) (k n : ℕ) → ((i : ℕ) → i < n → length (text i) ≤ k) → length (eachOf text n) ≤ k * n
-unfolding eachOf
+pub each-most : (text : ℕ → Text) (k n : ℕ) → ((i : ℕ) → i < n → length (text i) ≤ k) → length (each_of text n) ≤ k * n
+unfolding each_of
 each-most text k zero h = omega arith
 each-most text k (suc n) h =
     let l = each-most text k n (λ i q. h i (omega (arith, q))) in
     let m : k * suc n ≡ k * n + k = mul-suc k n in
-    omega (arith, l, m, h n (omega arith), length-append (eachOf text n) (text n))
+    omega (arith, l, m, h n (omega arith), length-append (each_of text n) (text n))
 
 -- Texts that are the same one by one are the same together.
-pub each_same : (f g : ℕ → Text) (n : ℕ) → ((i : ℕ) → i < n → f i ≡ g i) → eachOf f n ≡ eachOf g n
-unfolding eachOf
+pub each_same : (f g : ℕ → Text) (n : ℕ) → ((i : ℕ) → i < n → f i ≡ g i) → each_of f n ≡ each_of g n
+unfolding each_of
 each_same f g zero h = refl
 each_same f g (suc n) h = ap₂ (λ x y. x ++ y) (each_same f g n (λ i q. h i (omega (arith, q)))) (h n (omega arith))
 
@@ -182,20 +182,20 @@ step true n xs ys e p = rw e
 step false n xs ys e p = rw (p (ltb-false n 10 e))
 
 -- More digits than enough are no other digits.
-enough : (f g n : ℕ) → n < f → n < g → digitsWithin f n ≡ digitsWithin g n
-unfolding digitsWithin
+enough : (f g n : ℕ) → n < f → n < g → digits_within f n ≡ digits_within g n
+unfolding digits_within
 enough zero g n h k = absurd (not-suc-le-zero h)
 enough (suc f) zero n h k = absurd (not-suc-le-zero k)
 enough (suc f) (suc g) n h k =
-    step (ltb n 10) n (digitsWithin f (n / 10)) (digitsWithin g (n / 10)) refl
+    step (ltb n 10) n (digits_within f (n / 10)) (digits_within g (n / 10)) refl
     (λ (q : 10 ≤ n). enough f g (n / 10) (omega arith) (omega arith))
 
 pub digits-one : (n : ℕ) → n < 10 → digits n ≡ (48 + n) ∷ []
-unfolding digits digitsWithin
+unfolding digits digits_within
 digits-one n h = rw (lt-ltb n 10 h)
 
 pub digits_more : (n : ℕ) → 10 ≤ n → digits n ≡ digits (n / 10) ++ ((48 + n % 10) ∷ [])
-unfolding digits digitsWithin
+unfolding digits digits_within
 digits_more n h = rw (le-ltb n 10 h, enough n (suc (n / 10)) (n / 10) (omega arith) (omega arith))
 
 pub digits-one-length : (n : ℕ) → n < 10 → length (digits n) ≡ 1
@@ -229,5 +229,5 @@ digits-most-10 n h = digits-most 9 n (omega arith)
 
 -- The definition, tried.
 tried : (digits 0 ≡ 48 ∷ []) × (digits 4095 ≡ 52 ∷ 48 ∷ 57 ∷ 53 ∷ []) × (length (digits 4294967295) ≡ 10)
-unfolding digits digitsWithin
+unfolding digits digits_within
 tried = (refl, refl, refl)

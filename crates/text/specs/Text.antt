@@ -24,16 +24,16 @@ pub record Delivered (text out out' : Text) (r : ℕ) : Type 0 where
   pub left : out' ≡ cond (leb (length text) (length out)) (over out 0 text) out
 
 -- The texts of 0 to n - 1, one after the other.
-unfoldable pub eachOf : (ℕ → Text) → ℕ → Text
-eachOf text zero = []
-eachOf text (suc n) = eachOf text n ++ text n
+unfoldable pub each_of : (ℕ → Text) → ℕ → Text
+each_of text zero = []
+each_of text (suc n) = each_of text n ++ text n
 
 -- The decimal digits of n, if k are enough; byte 48 is 0. The `let` lets antt compute only the digits that there are.
-unfoldable pub digitsWithin : ℕ → ℕ → Text
-digitsWithin zero n = []
-digitsWithin (suc k) n =
-    let front = digitsWithin k (n / 10) in cond (ltb n 10) ((48 + n) ∷ []) (front ++ ((48 + n % 10) ∷ []))
+unfoldable pub digits_within : ℕ → ℕ → Text
+digits_within zero n = []
+digits_within (suc k) n =
+    let front = digits_within k (n / 10) in cond (ltb n 10) ((48 + n) ∷ []) (front ++ ((48 + n % 10) ∷ []))
 
 -- The decimal digits of n, with no leading zero, 0 as one digit: n + 1 are always enough.
 unfoldable pub digits : ℕ → Text
-digits n = digitsWithin (suc n) n
+digits n = digits_within (suc n) n

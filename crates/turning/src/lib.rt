@@ -3,7 +3,7 @@
 
 ghost use Rattle.model.specs.Records as R;
 ghost use Rattle.refinement.specs.Refinement.{lent, Full, Ready, Turns};
-ghost use Rattle.records.specs.Record.{recordOf};
+ghost use Rattle.records.specs.Record.{record_of};
 
 use cluster::{Cluster, Outcome};
 use records::Record;
@@ -18,7 +18,7 @@ pub fn turn(
     r: Record,
 ) -> Outcome
     requires { Ready row × Full (lent store.old store2.old list.old list2.old) }
-    ensures { Turns (R.step_of (recordOf r)) row
+    ensures { Turns (R.step_of (record_of r)) row
         (lent store.old store2.old list.old list2.old)
         result (lent store.new store2.new list.new list2.new) }
 {

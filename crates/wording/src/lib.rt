@@ -4,9 +4,9 @@
 ghost use Rattle.std.specs.Prelude.{true, ◌&&◌, ◌≡◌, ◌+◌, ◌-◌, ◌/◌, ◌%◌, ◌^◌, ◌<◌, ◌≤◌, eqb, length, take, drop, get_or};
 ghost use Rattle.text.specs.Text.{Wrote};
 ghost use Rattle.lines.specs.Lines.{word};
-ghost use Rattle.phrases.specs.Phrases.{reasons, isListed};
-ghost use Rattle.phrases.specs.Line.{leadText, trailText, reasonText};
-ghost use Rattle.phrases.specs.Layout.{reasonAt, pieceText};
+ghost use Rattle.phrases.specs.Phrases.{reasons, is_listed};
+ghost use Rattle.phrases.specs.Line.{lead_text, trail_text, reason_text};
+ghost use Rattle.phrases.specs.Layout.{reason_at, piece_text};
 
 // Where the words of the steps begin, for each form its lead and its trail. The last number is their end.
 #[rattlefmt::skip]
@@ -58,8 +58,8 @@ fn put_part(out: &mut [u8], at: usize, list: &[u8], a: usize, e: usize) -> usize
 
 // Writes the words at place i, two a form. Inner layer: callers see to the room, and that i is such a place.
 fn put_piece(out: &mut [u8], at: usize, i: usize) -> usize
-    requires { (i < 34) × (at + length (pieceText i) ≤ length out.old) }
-    ensures { Wrote out.old at (pieceText i) out.new result }
+    requires { (i < 34) × (at + length (piece_text i) ≤ length out.old) }
+    ensures { Wrote out.old at (piece_text i) out.new result }
 {
     let a = PIECES[i];
     let e = PIECES[i + 1];
@@ -90,24 +90,24 @@ fn put_piece(out: &mut [u8], at: usize, i: usize) -> usize
 
 // Writes what stands before the board of the form k. Inner layer: callers see to the room, and that k is a form.
 pub fn put_lead(out: &mut [u8], at: usize, k: usize) -> usize
-    requires { (k < 17) × (at + length (leadText k) ≤ length out.old) }
-    ensures { Wrote out.old at (leadText k) out.new result }
+    requires { (k < 17) × (at + length (lead_text k) ≤ length out.old) }
+    ensures { Wrote out.old at (lead_text k) out.new result }
 {
     put_piece(&mut *out, at, 2 * k)
 }
 
 // Writes what stands after it. Inner layer: callers see to the room, and that k is a form.
 pub fn put_trail(out: &mut [u8], at: usize, k: usize) -> usize
-    requires { (k < 17) × (at + length (trailText k) ≤ length out.old) }
-    ensures { Wrote out.old at (trailText k) out.new result }
+    requires { (k < 17) × (at + length (trail_text k) ≤ length out.old) }
+    ensures { Wrote out.old at (trail_text k) out.new result }
 {
     put_piece(&mut *out, at, 2 * k + 1)
 }
 
 // Writes the phrase at place i.
 fn put_phrase(out: &mut [u8], at: usize, i: usize) -> usize
-    requires { (i < length reasons) × (at + length (word (reasonAt i).phrase) ≤ length out.old) }
-    ensures { Wrote out.old at (word (reasonAt i).phrase) out.new result }
+    requires { (i < length reasons) × (at + length (word (reason_at i).phrase) ≤ length out.old) }
+    ensures { Wrote out.old at (word (reason_at i).phrase) out.new result }
 {
     let a = PHRASES[i];
     let e = PHRASES[i + 1];
@@ -186,8 +186,8 @@ fn is_for(answers: &[u8], steps: &[u32], i: usize, k: usize, a: usize) -> bool
 
 // The place of the first phrase that is. The two arrays are laid out once, not for each place (docs/DECISIONS.md).
 fn find(k: usize, a: usize) -> usize
-    requires { (k < 17) × (isListed a ≡ true) }
-    ensures { (result < length reasons) × (word (reasonAt result).phrase ≡ reasonText k a) }
+    requires { (k < 17) × (is_listed a ≡ true) }
+    ensures { (result < length reasons) × (word (reason_at result).phrase ≡ reason_text k a) }
 {
     let answers = ANSWERS;
     let steps = STEPS;
@@ -201,8 +201,8 @@ fn find(k: usize, a: usize) -> usize
 // Writes the phrase of the answer a to the step k. Inner layer: callers see to the room, to the step, and that the
 // answer is on the list.
 pub fn put_reason(out: &mut [u8], at: usize, k: usize, a: usize) -> usize
-    requires { (k < 17) × (isListed a ≡ true) × (at + length (reasonText k a) ≤ length out.old) }
-    ensures { Wrote out.old at (reasonText k a) out.new result }
+    requires { (k < 17) × (is_listed a ≡ true) × (at + length (reason_text k a) ≤ length out.old) }
+    ensures { Wrote out.old at (reason_text k a) out.new result }
 {
     let i = find(k, a);
     put_phrase(&mut *out, at, i)
@@ -210,7 +210,7 @@ pub fn put_reason(out: &mut [u8], at: usize, k: usize, a: usize) -> usize
 
 // Whether an answer is on the list.
 pub fn is_listed(a: usize) -> bool
-    ensures { result ≡ isListed a }
+    ensures { result ≡ is_listed a }
 {
     let mut i = 0;
     while i < 57 {

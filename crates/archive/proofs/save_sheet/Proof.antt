@@ -3,7 +3,7 @@ use mathlib.Core.Bool.{true}
 use mathlib.Core.Path.{◌≡◌, refl, sym, ◌∙◌}
 use borrow.Author.Rules.{rules}
 use borrow.Author.Tests.{not-true, not-false}
-use Rattle.records.specs.Bytes.{isSheet}
+use Rattle.records.specs.Bytes.{is_sheet}
 use Rattle.archive.proofs.Archiving.{no-sheet, sheet-saved}
 use Rattle.archive.proofs.save_sheet.Statement.{statement}
 use Rattle.archive.proofs.save_sheet.Tie as tie
@@ -11,7 +11,7 @@ use Rattle.archive.proofs.save_sheet.Tie as tie
 abbrev start : tie.After-is-sheet → tie.Start
 start c = c.before.before.before
 
-passed : (c : tie.Else1) → isSheet (start c.before).args.sheet.now ≡ true
+passed : (c : tie.Else1) → is_sheet (start c.before).args.sheet.now ≡ true
 passed c = sym c.before.is-sheet.ensures ∙ not-false _ c.if1.false
 
 is-sheet-requires : tie.Need-is-sheet-requires

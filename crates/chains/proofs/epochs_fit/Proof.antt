@@ -5,14 +5,14 @@ use Prim.Native.Nat.{◌≤◌}
 use native.Mathlib.Omega.{arith}
 use borrow.Author.Rules.{rules}
 use borrow.Author.Tests.{not-true, not-false}
-use Rattle.model.specs.Ranges.{isEpoch}
-use Rattle.chains.specs.Image.{epochOf, epochsFit}
-use Rattle.chains.proofs.Meeting.{upTo-step, upTo-zero}
+use Rattle.model.specs.Ranges.{is_epoch}
+use Rattle.chains.specs.Image.{epoch_of, epochs_fit}
+use Rattle.chains.proofs.Meeting.{up_to-step, up_to-zero}
 use Rattle.chains.proofs.epochs_fit.Statement.{statement}
 use Rattle.chains.proofs.epochs_fit.Tie as tie
 
 abbrev invariant-loop : tie.invariant-loop
-invariant-loop image n k₀ k = (k ≤ n) × (epochsFit n image ≡ epochsFit k image)
+invariant-loop image n k₀ k = (k ≤ n) × (epochs_fit n image ≡ epochs_fit k image)
 
 abbrev decreases-loop : tie.decreases-loop
 decreases-loop image n k₀ k = k
@@ -30,9 +30,9 @@ returns : tie.Need-returns invariant-loop decreases-loop
 returns c =
     let l = c.before.before.before.before.loop in
     let i = c.before.before.before.before.before.before.args.image.now in
-    let t = c.before.epoch.ensures ∙ ap isEpoch c.before.before.term.ensures in
-    let e : isEpoch (epochOf i l.k) ≡ false = sym t ∙ not-true _ c.if1.true in
-    sym (l.invariant.1 ∙ upTo-step l.k (λ j. isEpoch (epochOf i j)) (omega arith) ∙ rw e)
+    let t = c.before.epoch.ensures ∙ ap is_epoch c.before.before.term.ensures in
+    let e : is_epoch (epoch_of i l.k) ≡ false = sym t ∙ not-true _ c.if1.true in
+    sym (l.invariant.1 ∙ up_to-step l.k (λ j. is_epoch (epoch_of i j)) (omega arith) ∙ rw e)
 
 sub-k : tie.Need-overflow-sub-k invariant-loop decreases-loop
 sub-k c = omega arith
@@ -44,15 +44,15 @@ loop-again : tie.Need-loop-preserved invariant-loop decreases-loop
 loop-again c =
     let l = c.before.before.before.before.loop in
     let i = c.before.before.before.before.before.before.args.image.now in
-    let t = c.before.epoch.ensures ∙ ap isEpoch c.before.before.term.ensures in
-    let e : isEpoch (epochOf i l.k) ≡ true = sym t ∙ not-false _ c.if1.false in
-    (omega arith, l.invariant.1 ∙ upTo-step l.k (λ j. isEpoch (epochOf i j)) (omega arith) ∙ rw e)
+    let t = c.before.epoch.ensures ∙ ap is_epoch c.before.before.term.ensures in
+    let e : is_epoch (epoch_of i l.k) ≡ true = sym t ∙ not-false _ c.if1.false in
+    (omega arith, l.invariant.1 ∙ up_to-step l.k (λ j. is_epoch (epoch_of i j)) (omega arith) ∙ rw e)
 
 returns-2 : tie.Need-returns-2 invariant-loop decreases-loop
 returns-2 c =
     let l = c.before.loop in
     let i = c.before.before.before.args.image.now in
-    sym (l.invariant.1 ∙ upTo-zero l.k (λ j. isEpoch (epochOf i j)) (omega arith))
+    sym (l.invariant.1 ∙ up_to-zero l.k (λ j. is_epoch (epoch_of i j)) (omega arith))
 
 pub epochs-fit-spec : {M : Type 1} → statement M
 epochs-fit-spec =

@@ -7,7 +7,7 @@ use lib.ListN.{length}
 use borrow.Author.Rules.{rules}
 use Rattle.marks.specs.Marks.{marked}
 use Rattle.chains.specs.Image.{next_of}
-use Rattle.chains.specs.Chain.{chainOf}
+use Rattle.chains.specs.Chain.{chain_of}
 use Rattle.chains.proofs.Walking.{Walking, starts, ends, long, past, again, on}
 use Rattle.chains.proofs.walk.Statement.{statement}
 use Rattle.chains.proofs.walk.Tie as tie
@@ -15,7 +15,7 @@ use Rattle.chains.proofs.walk.Tie as tie
 abbrev invariant-loop : tie.invariant-loop
 invariant-loop image n first scratch₀ at₀ len₀ scratch at len =
     (length scratch ≡ length scratch₀)
-    × Walking (next_of image) n (chainOf (next_of image) first) (marked scratch₀) (marked scratch) at len
+    × Walking (next_of image) n (chain_of (next_of image) first) (marked scratch₀) (marked scratch) at len
 
 abbrev decreases-loop : tie.decreases-loop
 decreases-loop image n first scratch₀ at₀ len₀ scratch at len = 512 - len

@@ -6,7 +6,7 @@ use native.Mathlib.Omega.{arith}
 use lib.ListN.{length}
 use borrow.Author.Rules.{rules}
 use Rattle.marks.specs.Marks.{marked}
-use Rattle.chains.specs.Image.{next_of, firstsOf}
+use Rattle.chains.specs.Image.{next_of, firsts_of}
 use Rattle.chains.proofs.Crossing.{Left, sets-out, stopped, passes, over, walked-most}
 use Rattle.chains.proofs.walk_all.Statement.{statement}
 use Rattle.chains.proofs.walk_all.Tie as tie
@@ -22,7 +22,7 @@ loop-holds : tie.Need-loop-init invariant-loop decreases-loop
 loop-holds c =
     let a = c.before.before.args in
     let i = a.image.now in
-    let out = sets-out (next_of i) a.n (firstsOf i) (marked a.scratch.now) c.before.before.requires.3 in
+    let out = sets-out (next_of i) a.n (firsts_of i) (marked a.scratch.now) c.before.before.requires.3 in
     (omega arith, refl, omega arith, out)
 
 first-requires : tie.Need-first-requires invariant-loop decreases-loop

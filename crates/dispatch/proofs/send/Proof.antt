@@ -5,11 +5,11 @@ use Prim.Native.Nat.{ℕ}
 use native.Mathlib.Omega.{arith}
 use lib.Dec.{eqb, eqb→eq}
 use borrow.Author.Rules.{rules}
-use Rattle.model.specs.Steps.{append, commit, add, remove, changeLeader, refresh, join, receive, acknowledge, refreshController, readLeader, read, setNormal, hear, install}
+use Rattle.model.specs.Steps.{append, commit, add, remove, change_leader, refresh, join, receive, acknowledge, refreshController, read_leader, read, set_normal, hear, install}
 use Rattle.model.proofs.Tests.{by-test, ne-fact}
-use Rattle.records.specs.Record.{recordOf}
+use Rattle.records.specs.Record.{record_of}
 use Rattle.refinement.specs.Refinement.{Places, lent}
-use Rattle.dispatch.proofs.Sending.{malformed-leaves, sends-kept, by-board, alone-taken, alone-refused, no_step}
+use Rattle.dispatch.proofs.Sending.{malformed-leaves, sends-kept, by-board, alone-taken, alone-refused, no_step_lem}
 use Rattle.dispatch.proofs.send.Statement.{statement}
 use Rattle.dispatch.proofs.send.Tie as tie
 
@@ -189,7 +189,7 @@ returns-3 c =
     let a = (start z).args in
     let p = (start z).requires in
     rw c.before.before.before.match.keys3
-    (sends-kept (alone-taken _ (places z) _ _ changeLeader a.r.board a.r.other a.r.spare a.r.value
+    (sends-kept (alone-taken _ (places z) _ _ change_leader a.r.board a.r.other a.r.spare a.r.value
     c.before.before.bare.ensures c.before.if1.true
     (c.change.ensures a.t3 a.joined.now a.len.now p.0.short a.acked.now a.issued (places z)
     p.0.issued p.1)))
@@ -200,7 +200,7 @@ returns-4 c =
     let a = (start z).args in
     let p = (start z).requires in
     rw c.before.before.match.keys3
-    (sends-kept (alone-refused _ (places z) _ _ changeLeader a.r.board a.r.other a.r.spare a.r.value
+    (sends-kept (alone-refused _ (places z) _ _ change_leader a.r.board a.r.other a.r.spare a.r.value
     c.before.bare.ensures c.if1.false (malformed-leaves _ p.0 (places z) p.1)))
 
 same-length-5 : tie.Need-same-length-5
@@ -244,7 +244,7 @@ returns-7 c =
     let a = (start z).args in
     let p = (start z).requires in
     rw c.before.before.before.match.keys6
-    (sends-kept (alone-taken _ (places z) _ _ setNormal a.r.board a.r.other a.r.spare a.r.value
+    (sends-kept (alone-taken _ (places z) _ _ set_normal a.r.board a.r.other a.r.spare a.r.value
     c.before.before.bare2.ensures c.before.if2.true
     (c.set-normal.ensures a.t3 a.joined.now a.len.now p.0.short a.acked.now a.issued
     (places z) p.0.issued p.1)))
@@ -255,7 +255,7 @@ returns-8 c =
     let a = (start z).args in
     let p = (start z).requires in
     rw c.before.before.match.keys6
-    (sends-kept (alone-refused _ (places z) _ _ setNormal a.r.board a.r.other a.r.spare a.r.value
+    (sends-kept (alone-refused _ (places z) _ _ set_normal a.r.board a.r.other a.r.spare a.r.value
     c.before.bare2.ensures c.if2.false (malformed-leaves _ p.0 (places z) p.1)))
 
 same-length-10 : tie.Need-same-length-10
@@ -404,7 +404,7 @@ returns-16 c =
     let a = (start z).args in
     let p = (start z).requires in
     rw (eleven c.before.before.before.before.before c.before.before.if11.false)
-    (sends-kept (alone-taken _ (places z) _ _ readLeader a.r.board a.r.other a.r.spare a.r.value
+    (sends-kept (alone-taken _ (places z) _ _ read_leader a.r.board a.r.other a.r.spare a.r.value
     c.before.before.before.before.bare3.ensures c.before.before.before.if10.true
     (c.read-leader.ensures a.joined.now a.acked.now a.issued (places z) p.0.issued p.1)))
 
@@ -419,7 +419,7 @@ returns-17 c =
     (alone-refused _ (places z) _ _ refreshController a.r.board a.r.other a.r.spare a.r.value
     c.before.bare3.ensures c.if10.false (malformed-leaves _ p.0 (places z) p.1))))
     (λ t. rw (eleven c.before.before (ne-fact n 10 t))
-    (sends-kept (alone-refused _ (places z) _ _ readLeader a.r.board a.r.other a.r.spare a.r.value
+    (sends-kept (alone-refused _ (places z) _ _ read_leader a.r.board a.r.other a.r.spare a.r.value
     c.before.bare3.ensures c.if10.false (malformed-leaves _ p.0 (places z) p.1))))
 
 same-length-28 : tie.Need-same-length-28
@@ -454,7 +454,7 @@ returns-20 c =
     let z = c.before.before.before.before.before in
     let a = (start z).args in
     let p = (start z).requires in
-    rw (no_step (recordOf a.r) (number z) c.if12.false) (sends-kept (malformed-leaves _ p.0 (places z) p.1))
+    rw (no_step_lem (record_of a.r) (number z) c.if12.false) (sends-kept (malformed-leaves _ p.0 (places z) p.1))
 
 pub send-spec : {M : Type 1} → statement M
 send-spec =

@@ -7,11 +7,11 @@ use Rattle.model.specs.State.{Entry}
 use Rattle.model.proofs.Tests.{of-true}
 use Rattle.model.proofs.Range.{to-ranges}
 use Rattle.logstore.specs.Log.{pairs}
-use Rattle.cluster.specs.Layout.{registryOf, controllerOf, outlineOf}
+use Rattle.cluster.specs.Layout.{registry_of, controller_of, outline_of}
 use Rattle.text.specs.Text.{Text}
 use Rattle.text.proofs.Laws.{fits, rest, then}
-use Rattle.lines.specs.Lines.{registryLine, controlLine}
-use Rattle.ending.specs.Ending.{boardLines, receiptsLine, ending}
+use Rattle.lines.specs.Lines.{registry_line, control_line}
+use Rattle.ending.specs.Ending.{board_lines, receipts_line, ending}
 use Rattle.ending.proofs.Endings.{ending-most, words-taken}
 use borrow.Author.Rules.{rules}
 use Rattle.ending.proofs.put_ending.Statement.{statement}
@@ -21,17 +21,17 @@ abbrev all : tie.Start → List Entry
 all e = pairs e.args.list.now e.args.list2.now
 
 abbrev text0 : tie.Start → Text
-text0 e = ending (outlineOf e.args.row) (take e.args.row.issued (all e))
+text0 e = ending (outline_of e.args.row) (take e.args.row.issued (all e))
 
 -- The ending is short, as the list's values are words of 32 bits and their terms are epochs.
 most : (k : tie.After-shared-slice-known) → length (text0 k.before.before) ≤ 8704
 most k =
     let e = k.before.before in
     let n = e.args.row.issued in
-    let few = (to-ranges (outlineOf e.args.row) (of-true e.requires.0)).committed in
+    let few = (to-ranges (outline_of e.args.row) (of-true e.requires.0)).committed in
     omega (
       arith,
-      ending-most (outlineOf e.args.row) (take n (all e)) e.requires.0
+      ending-most (outline_of e.args.row) (take n (all e)) e.requires.0
           (omega (arith, few, length-take n (all e)))
           (words-taken e.args.list.now e.args.list2.now n (λ i. omega (arith, k.shared-slice-known.given i)))
           e.requires.1,
@@ -39,16 +39,16 @@ most k =
 
 -- What is still to be written after the call j.
 abbrev text3 : tie.Start → Text
-text3 e = receiptsLine (take e.args.row.issued (all e))
+text3 e = receipts_line (take e.args.row.issued (all e))
 
 abbrev text2 : tie.Start → Text
-text2 e = boardLines (outlineOf e.args.row) ++ text3 e
+text2 e = board_lines (outline_of e.args.row) ++ text3 e
 
 abbrev text1 : tie.Start → Text
-text1 e = controlLine (controllerOf e.args.row.controller) ++ text2 e
+text1 e = control_line (controller_of e.args.row.controller) ++ text2 e
 
 abbrev first : tie.Start → Text
-first e = registryLine (registryOf e.args.row.registry)
+first e = registry_line (registry_of e.args.row.registry)
 
 room0 :
     (k : tie.After-shared-slice-known)
@@ -80,14 +80,14 @@ room2 : (c : tie.After-put-control)
     → c.put-control.result + length (text2 (start2 c)) ≤ length c.put-control.new.0
 room2 c =
     let e = start2 c in
-    rest (controlLine (controllerOf e.args.row.controller)) (text2 e) c.put-control.ensures
+    rest (control_line (controller_of e.args.row.controller)) (text2 e) c.put-control.ensures
     (room1 c.before.before.before.before)
 
 room3 : (c : tie.After-put-replicas)
     → c.put-replicas.result + length (text3 (start3 c)) ≤ length c.put-replicas.new.0
 room3 c =
     let e = start3 c in
-    rest (boardLines (outlineOf e.args.row)) (text3 e) c.put-replicas.ensures
+    rest (board_lines (outline_of e.args.row)) (text3 e) c.put-replicas.ensures
     (room2 c.before.before.before.before)
 
 put-registry-requires : tie.Need-put-registry-requires
@@ -100,13 +100,13 @@ put-control-requires : tie.Need-put-control-requires
 put-control-requires c κs =
     let d = c.before.before.before in
     let e = start1 d in
-    fits _ (controlLine (controllerOf e.args.row.controller)) (text2 e) (room1 d)
+    fits _ (control_line (controller_of e.args.row.controller)) (text2 e) (room1 d)
 
 put-replicas-requires : tie.Need-put-replicas-requires
 put-replicas-requires c κs =
     let d = c.before.before.before in
     let e = start2 d in
-    fits _ (boardLines (outlineOf e.args.row)) (text3 e) (room2 d)
+    fits _ (board_lines (outline_of e.args.row)) (text3 e) (room2 d)
 
 put-receipts-requires : tie.Need-put-receipts-requires
 put-receipts-requires c κs =

@@ -10,15 +10,15 @@ use Rattle.logstore.specs.Log.{pairs}
 use Rattle.logstore.proofs.Laws.{pairs-length, pairs-at}
 use Rattle.text.specs.Text.{Text, Wrote}
 use Rattle.text.proofs.Laws.{nothing, fits, byte, rest, then, wrote-length}
-use Rattle.lines.specs.Lines.{space, receiptText}
-use Rattle.ending.specs.Ending.{receiptsText}
-use Rattle.ending.proofs.Endings.{receipts-next, receiptsLeft, receipts-room}
+use Rattle.lines.specs.Lines.{space, receipt_text}
+use Rattle.ending.specs.Ending.{receipts_text}
+use Rattle.ending.proofs.Endings.{receipts-next, receipts_left, receipts-room}
 use borrow.Author.Rules.{rules}
 use Rattle.ending.proofs.put_entries.Statement.{statement}
 use Rattle.ending.proofs.put_entries.Tie as tie
 
 abbrev invariant-loop : tie.invariant-loop
-invariant-loop out₀ at list list2 n i₀ p₀ out i p = (i ≤ n) × Wrote out₀ at (receiptsText (take i (pairs list list2))) out p
+invariant-loop out₀ at list list2 n i₀ p₀ out i p = (i ≤ n) × Wrote out₀ at (receipts_text (take i (pairs list list2))) out p
 
 abbrev decreases-loop : tie.decreases-loop
 decreases-loop out₀ at list list2 n i₀ p₀ out i p = n - i
@@ -34,7 +34,7 @@ long e = pairs-length e.args.list.now e.args.list2.now e.requires.1
 
 -- The next receipt, and what is left after it.
 abbrev next : tie.At-loop invariant-loop decreases-loop → Text
-next d = receiptText (get_or (all (start d)) d.loop.i (entry 0 0))
+next d = receipt_text (get_or (all (start d)) d.loop.i (entry 0 0))
 
 -- It is of the value and the term at its place.
 here : (d : tie.At-loop invariant-loop decreases-loop) →
@@ -43,7 +43,7 @@ here : (d : tie.At-loop invariant-loop decreases-loop) →
 here d = let e = start d in pairs-at e.args.list.now e.args.list2.now d.loop.i e.pre.1
 
 abbrev left : tie.At-loop invariant-loop decreases-loop → Text
-left d = receiptsLeft (all (start d)) (start d).args.n d.loop.i
+left d = receipts_left (all (start d)) (start d).args.n d.loop.i
 
 room : (c : tie.In-loop invariant-loop decreases-loop)
     → c.before.loop.p + length (space ++ (next c.before ++ left c.before)) ≤ length c.before.loop.out
@@ -54,7 +54,7 @@ room c =
     e.pre.2
 
 loop-holds : tie.Need-loop-init invariant-loop decreases-loop
-unfolding receiptsText
+unfolding receipts_text
 loop-holds c = (omega arith, nothing _ _)
 
 put-byte-requires : tie.Need-put-byte-requires invariant-loop decreases-loop
@@ -79,7 +79,7 @@ put-receipt-requires c κs =
     let w = c.before.before.before.before.before in
     let t = w.before.before in
     let d = t.before in
-    subst (λ x. w.put_byte.result + length (receiptText x) ≤ length w.put_byte.new.0) (here d)
+    subst (λ x. w.put_byte.result + length (receipt_text x) ≤ length w.put_byte.new.0) (here d)
     (fits _ (next d) (left d) (rest space (next d ++ left d) w.put_byte.ensures (room t)))
 
 add-i : tie.Need-overflow-add-i invariant-loop decreases-loop
@@ -96,7 +96,7 @@ loop-again c =
     let d = t.before in
     let e = start d in
     let h : d.loop.i < length (all e) = rw (long e) (omega (arith, t.loop-test.true, e.pre.0)) in
-    let one = subst (λ x. Wrote w.put_byte.new.0 w.put_byte.result (receiptText x) v.put-receipt.new.0
+    let one = subst (λ x. Wrote w.put_byte.new.0 w.put_byte.result (receipt_text x) v.put-receipt.new.0
     v.put-receipt.result) (sym (here d)) v.put-receipt.ensures in
     (omega arith, rw (receipts-next (all e) d.loop.i h) (then d.loop.invariant.1 (then w.put_byte.ensures one)))
 

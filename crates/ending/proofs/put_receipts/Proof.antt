@@ -9,7 +9,7 @@ use Rattle.logstore.proofs.Laws.{pairs-length}
 use Rattle.text.specs.Text.{Text, Wrote, digits}
 use Rattle.text.proofs.Laws.{fits, byte, rest, then}
 use Rattle.lines.specs.Lines.{word, newline}
-use Rattle.ending.specs.Ending.{receiptsText}
+use Rattle.ending.specs.Ending.{receipts_text}
 use Rattle.ending.proofs.Endings.{receipts-is}
 use borrow.Author.Rules.{rules}
 use Rattle.ending.proofs.put_receipts.Statement.{statement}
@@ -27,7 +27,7 @@ abbrev text3 : tie.Start → Text
 text3 e = newline
 
 abbrev given : tie.Start → Text
-given e = receiptsText (take e.args.n (all e))
+given e = receipts_text (take e.args.n (all e))
 
 abbrev text2 : tie.Start → Text
 text2 e = given e ++ text3 e

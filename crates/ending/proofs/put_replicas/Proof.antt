@@ -7,8 +7,8 @@ use lib.ListN.{length}
 use Rattle.cluster.specs.declared.Cluster.{Cluster}
 use Rattle.text.specs.Text.{Text, Wrote}
 use Rattle.text.proofs.Laws.{nothing, then, wrote-length}
-use Rattle.ending.specs.Ending.{boardLine, boardLines}
-use Rattle.lines.proofs.Eights.{up_to, upTo-next, upTo-eight, upTo-fits}
+use Rattle.ending.specs.Ending.{board_line, board_lines}
+use Rattle.lines.proofs.Eights.{up_to, up_to-next, up_to-eight, up_to-fits}
 use Rattle.ending.proofs.Endings.{replica, replica-is}
 use Rattle.ending.proofs.put_replicas.Statement.{statement}
 use Rattle.ending.proofs.put_replicas.Tie as tie
@@ -34,14 +34,14 @@ add-b : tie.Need-overflow-add-b invariant-loop decreases-loop
 add-b c = omega arith
 
 put-replica-requires : tie.Need-put-replica-requires invariant-loop decreases-loop
-unfolding boardLine boardLines
+unfolding board_line board_lines
 put-replica-requires c κs =
     let d = c.before.before in
     let e = start d in
     let row = e.args.row in
     let q =
     replica-is row.views row.joined row.len row.registry.view (d.loop.b + 1) (omega arith) in
-    let r = upTo-fits (line row) d.loop.b c.before.loop-test.true d.loop.invariant.1 e.pre in
+    let r = up_to-fits (line row) d.loop.b c.before.loop-test.true d.loop.invariant.1 e.pre in
     (omega arith, omega arith, subst (λ t. d.loop.p + length t ≤ length d.loop.out) q r)
 
 loop-less : tie.Need-loop-smaller invariant-loop decreases-loop
@@ -54,19 +54,19 @@ loop-again c =
     let row = (start d).args.row in
     let q =
     replica-is row.views row.joined row.len row.registry.view (d.loop.b + 1) (omega arith) in
-    (omega arith, rw (upTo-next (line row) d.loop.b, q) (then d.loop.invariant.1 w.ensures))
+    (omega arith, rw (up_to-next (line row) d.loop.b, q) (then d.loop.invariant.1 w.ensures))
 
 same_length : tie.Need-same-length invariant-loop decreases-loop
 same_length c = wrote-length c.before.loop.invariant.1
 
 returns : tie.Need-returns invariant-loop decreases-loop
-unfolding boardLine boardLines
+unfolding board_line board_lines
 returns c =
     let d = c.before in
     let e = start d in
     let q : d.loop.b ≡ 8 = omega (arith, d.loop.invariant.0, c.loop-test.false) in
     subst (λ t. Wrote e.args.out.now e.args.at t d.loop.out d.loop.p)
-    (ap (up_to (line e.args.row)) q ∙ upTo-eight (line e.args.row)) d.loop.invariant.1
+    (ap (up_to (line e.args.row)) q ∙ up_to-eight (line e.args.row)) d.loop.invariant.1
 
 pub put-replicas-spec : {M : Type 1} → statement M
 put-replicas-spec =

@@ -3,7 +3,7 @@ use mathlib.Core.Path.{sym, ◌∙◌}
 use Prim.Native.Nat.{◌/◌, ◌≤◌}
 use lib.ListN.{length}
 use borrow.Author.Tests.{leb-true, leb-false, not-true, not-false}
-use Rattle.text.specs.Text.{Text, eachOf}
+use Rattle.text.specs.Text.{Text, each_of}
 use Rattle.text.proofs.Laws.{too_long, fitting}
 use Rattle.explain.specs.Explain.{line_at}
 use borrow.Author.Rules.{rules}
@@ -15,7 +15,7 @@ start c = c.before.before.before.before
 
 -- The records' lines.
 abbrev lines : tie.Start → Text
-lines e = eachOf (line_at e.args.sheet.now e.args.answers.now) (length e.args.sheet.now / 8)
+lines e = each_of (line_at e.args.sheet.now e.args.answers.now) (length e.args.sheet.now / 8)
 
 -- There is room for them.
 room : (c : tie.Else1) → let e = start c.before in length (lines e) ≤ length e.args.out.now

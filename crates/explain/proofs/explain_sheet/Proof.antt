@@ -3,7 +3,7 @@ use mathlib.Core.Bool.{true}
 use mathlib.Core.Path.{◌≡◌, sym, ◌∙◌}
 use native.Mathlib.Omega.{arith}
 use borrow.Author.Tests.{not-true, not-false}
-use Rattle.records.specs.Bytes.{isSheet}
+use Rattle.records.specs.Bytes.{is_sheet}
 use Rattle.text.specs.Text.{Text}
 use Rattle.running.proofs.Playing.{sheet-most}
 use Rattle.explain.proofs.Explaining.{no-sheet, all_listed, delivered}
@@ -19,7 +19,7 @@ abbrev bytes : tie.Else1 → Text
 bytes c = (start c.before).args.sheet.now
 
 -- Refusal 2 let the sheet through.
-passed : (c : tie.Else1) → isSheet (bytes c) ≡ true
+passed : (c : tie.Else1) → is_sheet (bytes c) ≡ true
 passed c = sym c.before.is-sheet.ensures ∙ not-false _ c.if1.false
 
 is-sheet-requires : tie.Need-is-sheet-requires

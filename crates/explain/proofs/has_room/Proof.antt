@@ -5,7 +5,7 @@ use native.Mathlib.Omega.{arith}
 use lib.Dec.{leb}
 use lib.ListN.{length}
 use borrow.Author.Tests.{le-leb}
-use Rattle.text.specs.Text.{eachOf}
+use Rattle.text.specs.Text.{each_of}
 use Rattle.explain.specs.Explain.{line_at}
 use Rattle.explain.proofs.Explaining.{text-most}
 use borrow.Author.Rules.{rules}
@@ -23,7 +23,7 @@ returns c =
     let n = length s / 8 in
     let bytes = c.before.before.shared-slice-known.given in
     let most = text-most s ns n (λ i. omega (arith, bytes i)) e.requires.2 in
-    sym (le-leb (length (eachOf (line_at s ns) n)) e.args.room (omega (arith, most, c.if1.true)))
+    sym (le-leb (length (each_of (line_at s ns) n)) e.args.room (omega (arith, most, c.if1.true)))
 
 text-length-requires : tie.Need-text-length-requires
 text-length-requires c κs = search rules

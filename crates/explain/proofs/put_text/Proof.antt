@@ -3,7 +3,7 @@ use mathlib.Core.Path.{◌≡◌, refl, sym, ap}
 use Prim.Native.Nat.{◌-◌, ◌/◌, ◌≤◌}
 use native.Mathlib.Omega.{arith}
 use lib.ListN.{length, get_or}
-use Rattle.text.specs.Text.{Wrote, eachOf}
+use Rattle.text.specs.Text.{Wrote, each_of}
 use Rattle.text.proofs.Laws.{nothing, then, each_none, each_next, each-room, wrote_as}
 use Rattle.phrases.specs.Line.{line}
 use Rattle.explain.specs.Explain.{line_at}
@@ -12,7 +12,7 @@ use Rattle.explain.proofs.put_text.Tie as tie
 
 abbrev invariant-loop : tie.invariant-loop
 invariant-loop out₀ sheet answers n at₀ i₀ out at i =
-    (i ≤ n) × (length out ≡ length out₀) × Wrote out₀ 0 (eachOf (line_at sheet answers) i) out at
+    (i ≤ n) × (length out ≡ length out₀) × Wrote out₀ 0 (each_of (line_at sheet answers) i) out at
 
 abbrev decreases-loop : tie.decreases-loop
 decreases-loop out₀ sheet answers n at₀ i₀ out at i = n - i
@@ -77,7 +77,7 @@ returns c =
     let d = c.before in
     let a = (start d).args in
     let e : d.loop.i ≡ length a.sheet.now / 8 = omega arith in
-    wrote_as (ap (eachOf (line_at a.sheet.now a.answers.now)) e) d.loop.invariant.2
+    wrote_as (ap (each_of (line_at a.sheet.now a.answers.now)) e) d.loop.invariant.2
 
 pub put-text-spec : {M : Type 1} → statement M
 put-text-spec =

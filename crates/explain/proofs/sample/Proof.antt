@@ -1,20 +1,20 @@
 -- `explain::sample` meets its contract. Assumes nothing.
 use mathlib.Core.Path.{refl}
 use Rattle.model.specs.Runs.{run, answers}
-use Rattle.text.specs.Text.{digits, digitsWithin, over, eachOf}
-use Rattle.records.specs.Bytes.{records, recordBytes, sheetBytes}
+use Rattle.text.specs.Text.{digits, digits_within, over, each_of}
+use Rattle.records.specs.Bytes.{records, record_bytes, sheet_bytes}
 use Rattle.hex.specs.Hex.{hexes}
-use Rattle.phrases.specs.Phrases.{phraseIn}
-use Rattle.phrases.specs.Line.{stepText, rawText, headText, verdictText, line}
-use Rattle.running.specs.Running.{answersOf}
-use Rattle.explain.specs.Explain.{trialSheet, SampleHolds, RoomHolds, EmptyRefused, explained, result, left}
+use Rattle.phrases.specs.Phrases.{phrase_in}
+use Rattle.phrases.specs.Line.{step_text, raw_text, head_text, verdict_text, line}
+use Rattle.running.specs.Running.{answers_of}
+use Rattle.explain.specs.Explain.{trial_sheet, SampleHolds, RoomHolds, EmptyRefused, explained, result, left}
 use Rattle.explain.proofs.Explaining.{lengths-tell}
 use Rattle.explain.proofs.sample.Statement.{statement}
 use Rattle.explain.proofs.sample.Tie as tie
 
 returns : tie.Need-returns
-unfolding SampleHolds RoomHolds EmptyRefused result left over explained trialSheet sheetBytes answersOf eachOf line
-    headText stepText rawText hexes verdictText phraseIn records recordBytes digits digitsWithin run answers
+unfolding SampleHolds RoomHolds EmptyRefused result left over explained trial_sheet sheet_bytes answers_of each_of line
+    head_text step_text raw_text hexes verdict_text phrase_in records record_bytes digits digits_within run answers
 returns c = ((refl, refl), (refl, refl, refl, refl, refl, refl, refl), λ out. (refl, refl), lengths-tell)
 
 pub sample-spec : {M : Type 1} → statement M

@@ -3,7 +3,7 @@ use mathlib.Core.Path.{◌≡◌, sym, ap, ◌∙◌}
 use Prim.Native.Nat.{◌-◌, ◌*◌, ◌/◌, ◌≤◌}
 use native.Mathlib.Omega.{arith}
 use lib.ListN.{length, get_or, length-append}
-use Rattle.text.specs.Text.{eachOf}
+use Rattle.text.specs.Text.{each_of}
 use Rattle.text.proofs.Laws.{each_none, each_next}
 use Rattle.explain.specs.Explain.{line_at}
 use Rattle.phrases.specs.Line.{line}
@@ -12,7 +12,7 @@ use Rattle.explain.proofs.text_length.Tie as tie
 
 abbrev invariant-loop : tie.invariant-loop
 invariant-loop sheet answers n total₀ i₀ total i =
-    (i ≤ n) × (total ≤ 96 * i) × (total ≡ length (eachOf (line_at sheet answers) i))
+    (i ≤ n) × (total ≤ 96 * i) × (total ≡ length (each_of (line_at sheet answers) i))
 
 abbrev decreases-loop : tie.decreases-loop
 decreases-loop sheet answers n total₀ i₀ total i = n - i
@@ -58,7 +58,7 @@ loop-again c =
     let one : c.line-length.result ≡ length (text d.loop.i) = c.line-length.ensures.0
     ∙ ap (λ q. length (line q (get_or a.answers.now d.loop.i 0))) r.decode.ensures in
     let more = ap length (each_next text d.loop.i) in
-    let both = length-append (eachOf text d.loop.i) (text d.loop.i) in (
+    let both = length-append (each_of text d.loop.i) (text d.loop.i) in (
       omega arith,
       omega (arith, d.loop.invariant.1, c.line-length.ensures.1),
       omega (arith, d.loop.invariant.2, one, more, both),
@@ -69,7 +69,7 @@ returns c =
     let l = c.before.loop in
     let a = (start c.before).args in
     let e : l.i ≡ length a.sheet.now / 8 = omega arith in
-    l.invariant.2 ∙ ap (λ n. length (eachOf (line_at a.sheet.now a.answers.now) n)) e
+    l.invariant.2 ∙ ap (λ n. length (each_of (line_at a.sheet.now a.answers.now) n)) e
 
 pub text-length-spec : {M : Type 1} → statement M
 text-length-spec =

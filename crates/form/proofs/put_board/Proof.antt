@@ -2,7 +2,7 @@
 use mathlib.Core.Path.{sym, ap, ◌∙◌}
 use native.Mathlib.Omega.{arith}
 use lib.ListN.{length}
-use Rattle.records.specs.Record.{recordOf}
+use Rattle.records.specs.Record.{record_of}
 use Rattle.text.proofs.Laws.{nothing, wrote_as}
 use Rattle.form.proofs.Fields.{board-none, board-some}
 use borrow.Author.Rules.{rules}
@@ -15,7 +15,7 @@ boardless-requires c κs = search rules
 returns : tie.Need-returns
 returns c =
     let e = c.before.before.before in
-    wrote_as (board-none (recordOf e.args.r) (sym c.before.boardless.ensures ∙ c.if1.true)) (nothing _ _)
+    wrote_as (board-none (record_of e.args.r) (sym c.before.boardless.ensures ∙ c.if1.true)) (nothing _ _)
 
 cast-put-number : tie.Need-overflow-cast-put-number
 cast-put-number c = search rules
@@ -24,7 +24,7 @@ put-number-requires : tie.Need-put-number-requires
 put-number-requires c κs =
     let d = c.before.before in
     let e = d.before.before.before in
-    let q = board-some (recordOf e.args.r) (sym d.before.boardless.ensures ∙ d.if1.false) in
+    let q = board-some (record_of e.args.r) (sym d.before.boardless.ensures ∙ d.if1.false) in
     omega (arith, e.requires, ap length q)
 
 same_length : tie.Need-same-length
@@ -35,7 +35,7 @@ returns-2 c =
     let w = c.before.before in
     let d = w.before.before.before in
     let e = d.before.before.before in
-    wrote_as (board-some (recordOf e.args.r) (sym d.before.boardless.ensures ∙ d.if1.false))
+    wrote_as (board-some (record_of e.args.r) (sym d.before.boardless.ensures ∙ d.if1.false))
     w.put-number.ensures
 
 pub put-board-spec : {M : Type 1} → statement M

@@ -2,7 +2,7 @@
 use mathlib.Core.Path.{ap}
 use native.Mathlib.Omega.{arith}
 use lib.ListN.{length}
-use Rattle.records.specs.Record.{recordOf}
+use Rattle.records.specs.Record.{record_of}
 use Rattle.text.proofs.Laws.{nothing, wrote_as}
 use Rattle.form.proofs.Fields.{second-board, second-value, second_none}
 use borrow.Author.Rules.{rules}
@@ -16,7 +16,7 @@ put-number-requires : tie.Need-put-number-requires
 put-number-requires c κs =
     let d = c.before.before in
     let e = d.before.before.before in
-    omega (arith, e.requires, ap length (second-board (recordOf e.args.r) d.if1.true))
+    omega (arith, e.requires, ap length (second-board (record_of e.args.r) d.if1.true))
 
 same_length : tie.Need-same-length
 same_length c = search rules
@@ -26,14 +26,14 @@ returns c =
     let w = c.before.before in
     let d = w.before.before.before in
     let e = d.before.before.before in
-    wrote_as (second-board (recordOf e.args.r) d.if1.true) w.put-number.ensures
+    wrote_as (second-board (record_of e.args.r) d.if1.true) w.put-number.ensures
 
 put-number-requires-2 : tie.Need-put-number-requires-2
 put-number-requires-2 c κs =
     let d = c.before in
     let f = d.before.before in
     let e = f.before.before.before in
-    omega (arith, e.requires, ap length (second-value (recordOf e.args.r) f.if1.false d.if2.true))
+    omega (arith, e.requires, ap length (second-value (record_of e.args.r) f.if1.false d.if2.true))
 
 same-length-2 : tie.Need-same-length-2
 same-length-2 c = search rules
@@ -44,13 +44,13 @@ returns-2 c =
     let d = w.before.before in
     let f = d.before.before in
     let e = f.before.before.before in
-    wrote_as (second-value (recordOf e.args.r) f.if1.false d.if2.true) w.put-number2.ensures
+    wrote_as (second-value (record_of e.args.r) f.if1.false d.if2.true) w.put-number2.ensures
 
 returns-3 : tie.Need-returns-3
 returns-3 c =
     let f = c.before.before in
     let e = f.before.before.before in
-    wrote_as (second_none (recordOf e.args.r) f.if1.false c.if2.false) (nothing _ _)
+    wrote_as (second_none (record_of e.args.r) f.if1.false c.if2.false) (nothing _ _)
 
 pub put-second-spec : {M : Type 1} → statement M
 put-second-spec =

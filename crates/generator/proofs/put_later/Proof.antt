@@ -6,11 +6,11 @@ use native.Mathlib.Omega.{arith}
 use lib.ListN.{length}
 use Rattle.text.specs.Text.{over}
 use Rattle.text.proofs.Laws.{wrote-length}
-use Rattle.records.specs.Record.{recordOf}
-use Rattle.records.specs.Bytes.{sheetBytes}
+use Rattle.records.specs.Record.{record_of}
+use Rattle.records.specs.Bytes.{sheet_bytes}
 use Rattle.records.proofs.Encoding.{bytes-length}
 use Rattle.draws.specs.Draws.{later}
-use Rattle.draws.specs.Drawn.{drawnOf}
+use Rattle.draws.specs.Drawn.{drawn_of}
 use Rattle.generator.proofs.Later.{later-bytes, one_less, none_left}
 use Rattle.generator.proofs.put_later.Statement.{statement}
 use Rattle.generator.proofs.put_later.Tie as tie
@@ -18,7 +18,7 @@ use Rattle.generator.proofs.put_later.Tie as tie
 abbrev invariant-loop : tie.invariant-loop
 invariant-loop out₀ at s k p₀ t₀ i₀ out p t i =
     (p + 8 * i ≡ at + 8 * k) × (length out ≡ length out₀)
-    × (over out p (sheetBytes (later i t)) ≡ over out₀ at (sheetBytes (later k s)))
+    × (over out p (sheet_bytes (later i t)) ≡ over out₀ at (sheet_bytes (later k s)))
 
 abbrev decreases-loop : tie.decreases-loop
 decreases-loop out₀ at s k p₀ t₀ i₀ out p t i = i
@@ -44,9 +44,9 @@ loop-again c =
     let d = c.before.before.before.before.draw-record in
     let w = c.before.before.encode.ensures in
     let some : 1 ≤ l.i = omega arith in (
-      omega (arith, w.next, bytes-length (recordOf d.result.made)),
+      omega (arith, w.next, bytes-length (record_of d.result.made)),
       wrote-length w ∙ l.invariant.1,
-      one_less l.i l.t (drawnOf d.result) some d.ensures w ∙ l.invariant.2,
+      one_less l.i l.t (drawn_of d.result) some d.ensures w ∙ l.invariant.2,
     )
 
 same_length : tie.Need-same-length invariant-loop decreases-loop

@@ -1,10 +1,10 @@
 -- `generator::seed_sheet` meets its contract. Assumes nothing.
 use native.Mathlib.Omega.{arith}
 use borrow.Author.Rules.{rules}
-use Rattle.records.specs.Record.{recordOf}
+use Rattle.records.specs.Record.{record_of}
 use Rattle.records.proofs.Encoding.{bytes-length}
 use Rattle.text.proofs.Laws.{wrote-length}
-use Rattle.draws.specs.Drawn.{drawnOf}
+use Rattle.draws.specs.Drawn.{drawn_of}
 use Rattle.generator.proofs.Sheets.{all-written, none, too_many, short, written}
 use Rattle.generator.proofs.seed_sheet.Statement.{statement}
 use Rattle.generator.proofs.seed_sheet.Tie as tie
@@ -47,7 +47,7 @@ put-later-requires c κs =
       arith,
       w.next,
       wrote-length w,
-      bytes-length (recordOf e.before.before.draw-opening.result.made),
+      bytes-length (record_of e.before.before.draw-opening.result.made),
       t.if3.left,
       t.before.before.if1.left,
     )
@@ -62,7 +62,7 @@ returns-4 c =
     let a = (start t).args in
     let low = t.before.before.if1.left in
     written a.seed a.count a.sheet.now low t.before.if2.left t.if3.left
-    (all-written a.seed a.count (drawnOf e.before.before.draw-opening.result) low
+    (all-written a.seed a.count (drawn_of e.before.before.draw-opening.result) low
     e.before.before.draw-opening.ensures e.encode.ensures c.before.before.put-later.ensures)
 
 pub seed-sheet-spec : {M : Type 1} → statement M

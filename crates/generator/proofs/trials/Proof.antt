@@ -3,9 +3,9 @@ use mathlib.Core.Path.{◌≡◌, refl, sym}
 use native.Mathlib.Omega.{arith}
 use lib.ListN.{length}
 use Rattle.text.specs.Text.{over}
-use Rattle.records.specs.Bytes.{recordBytes, sheetBytes}
-use Rattle.draws.specs.Draws.{advance, draw, drawRecord, later, seedRecords}
-use Rattle.generator.specs.Seeded.{seedSheet, result, left}
+use Rattle.records.specs.Bytes.{record_bytes, sheet_bytes}
+use Rattle.draws.specs.Draws.{advance, draw, draw_record, later, seed_records}
+use Rattle.generator.specs.Seeded.{seed_sheet, result, left}
 use Rattle.generator.specs.Trials.{DrawsHold, StatesHold, BoardsHold, RecordsHold, CountsHold, LongestHolds, SlicesHold}
 use Rattle.generator.proofs.Sheets.{none, too_many, short, passed}
 use Rattle.generator.proofs.trials.Statement.{statement}
@@ -23,7 +23,7 @@ boards : BoardsHold
 boards = (refl, refl, refl, refl)
 
 records : RecordsHold
-unfolding draw advance drawRecord later seedRecords
+unfolding draw advance draw_record later seed_records
 records = (refl, refl, refl, refl, refl, refl)
 
 counts : CountsHold
@@ -42,7 +42,7 @@ longest s out = (whole, one-short)
     one-short e = let r = short s 4095 out (omega arith) (omega arith) (omega (arith, e)) in (sym r.0, sym r.1)
 
 slices : SlicesHold
-unfolding draw advance seedRecords recordBytes sheetBytes seedSheet result left over later
+unfolding draw advance seed_records record_bytes sheet_bytes seed_sheet result left over later
 slices = (refl, refl, refl, refl, refl, refl)
 
 returns : tie.Need-returns

@@ -4,7 +4,7 @@ use mathlib.Core.Path.{◌≡◌, refl, sym, ◌∙◌}
 use native.Mathlib.Omega.{arith}
 use lib.ListN.{length-map}
 use borrow.Author.Tests.{not-true, not-false}
-use Rattle.records.specs.Bytes.{isSheet}
+use Rattle.records.specs.Bytes.{is_sheet}
 use Rattle.refinement.specs.Refinement.{Shape}
 use Rattle.guiding.proofs.Guides.{no-sheet, sheet-short, ran-fit, sheet-given, few-given}
 use borrow.Author.Rules.{rules}
@@ -12,7 +12,7 @@ use Rattle.guiding.proofs.plan_sheet.Statement.{statement}
 use Rattle.guiding.proofs.plan_sheet.Tie as tie
 
 -- Refusal 2 let the sheet through.
-passed : (c : tie.Else1) → isSheet c.before.before.before.before.args.sheet.now ≡ true
+passed : (c : tie.Else1) → is_sheet c.before.before.before.before.args.sheet.now ≡ true
 passed c = sym c.before.is-sheet.ensures ∙ not-false _ c.if1.false
 
 -- The lengths that the row's type fixes.

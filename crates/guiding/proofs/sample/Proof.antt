@@ -4,17 +4,17 @@ use Rattle.model.specs.Runs.{run}
 use Rattle.members.specs.Mask.{bits}
 use Rattle.records.specs.Bytes.{records}
 use Rattle.head.specs.Head.{row_at}
-use Rattle.chains.specs.Chain.{chain, chainsOf}
-use Rattle.chains.specs.Image.{firstsFrom}
+use Rattle.chains.specs.Chain.{chain, chains_of}
+use Rattle.chains.specs.Image.{firsts_from}
 use Rattle.loading.specs.Read.{laid}
-use Rattle.image.specs.Image.{row_in, placesIn}
-use Rattle.recovery.specs.Plan.{times, turns, put, putUnless, need, informsController, hears, choosingPart, informs, receives, follows, readsLeader, waitingPart, draft, plan}
-use Rattle.guiding.specs.Guiding.{sheetState, sheetPlan, sheetResult, sheetLeft, imageState, imagePlan, SampleHolds}
+use Rattle.image.specs.Image.{row_in, places_in}
+use Rattle.recovery.specs.Plan.{times, turns, put, put_unless, need, informs_controller, hears, choosing_part, informs, receives, follows, reads_leader, waiting_part, draft, plan}
+use Rattle.guiding.specs.Guiding.{sheet_state, sheet_plan, sheet_result, sheet_left, image_state, image_plan, SampleHolds}
 use Rattle.guiding.proofs.sample.Statement.{statement}
 use Rattle.guiding.proofs.sample.Tie as tie
 
 sample-holds : SampleHolds
-unfolding SampleHolds sheetState sheetPlan sheetResult sheetLeft imageState imagePlan records run times turns put putUnless need informsController hears choosingPart informs receives follows readsLeader waitingPart draft plan row_in placesIn row_at bits chain chainsOf firstsFrom laid
+unfolding SampleHolds sheet_state sheet_plan sheet_result sheet_left image_state image_plan records run times turns put put_unless need informs_controller hears choosing_part informs receives follows reads_leader waiting_part draft plan row_in places_in row_at bits chain chains_of firsts_from laid
 sample-holds = (refl, refl, λ out. (refl, refl))
 
 returns : tie.Need-returns

@@ -3,7 +3,7 @@ use mathlib.Core.List.{[], ◌∷◌}
 use mathlib.Core.Path.{sym, ap, ◌∙◌}
 use Prim.Native.Nat.{◌+◌}
 use native.Mathlib.Nat.{mul-one}
-use Rattle.fields.specs.Fields.{twoAt}
+use Rattle.fields.specs.Fields.{two_at}
 use borrow.Author.Rules.{rules}
 use Rattle.head.proofs.column.Statement.{statement}
 use Rattle.head.proofs.column.Tie as tie
@@ -81,7 +81,7 @@ returns : tie.Need-returns
 returns c =
     let c₁ = c.before.before.before.before.before.before.before in
     let a = c₁.before.before.args in
-    let e = ap (λ n. twoAt a.image.now (a.from + n)) (sym (mul-one a.step)) in
+    let e = ap (λ n. two_at a.image.now (a.from + n)) (sym (mul-one a.step)) in
     λ i. (c₁.two_at.ensures ∙ e) i
     ∷ c.before.before.before.before.before.before.two-at2.ensures i
     ∷ c.before.before.before.before.before.two-at3.ensures i

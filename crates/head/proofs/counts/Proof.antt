@@ -5,18 +5,18 @@ use Prim.Native.Nat.{ℕ, ◌+◌, ◌-◌, ◌*◌, ◌/◌, ◌%◌, ◌<◌, 
 use native.Mathlib.Nat.{not-suc-le-zero}
 use native.Mathlib.Omega.{arith}
 use lib.ListN.{length, get_or, length-set}
-use Rattle.fields.specs.Fields.{twoAt}
+use Rattle.fields.specs.Fields.{two_at}
 use Rattle.head.proofs.Filled.{filled_more, filled-all}
 use Rattle.head.proofs.counts.Statement.{statement}
 use Rattle.head.proofs.counts.Tie as tie
 
 -- The count at a place of the array.
-abbrev countAt : List ℕ → ℕ → ℕ
-countAt image k = twoAt image (56 + 26 * (k / 8) + 2 * (k % 8))
+abbrev count_at : List ℕ → ℕ → ℕ
+count_at image k = two_at image (56 + 26 * (k / 8) + 2 * (k % 8))
 
 abbrev invariant-loop : tie.invariant-loop
 invariant-loop image acked₀ i₀ acked i =
-    (i ≤ 64) × (length acked ≡ 64) × ((k : ℕ) → k < i → get_or acked k 0 ≡ countAt image k)
+    (i ≤ 64) × (length acked ≡ 64) × ((k : ℕ) → k < i → get_or acked k 0 ≡ count_at image k)
 
 abbrev decreases-loop : tie.decreases-loop
 decreases-loop image acked₀ i₀ acked i = 64 - i
@@ -56,14 +56,14 @@ loop-again c =
     let l = c.before.before.loop in (
       omega arith,
       length-set l.acked l.i c.two_at.result ∙ l.invariant.1,
-      filled_more (countAt c.before.before.before.before.args.image.now) l.acked l.i c.two_at.result
+      filled_more (count_at c.before.before.before.before.args.image.now) l.acked l.i c.two_at.result
           (omega arith) l.invariant.2 c.two_at.ensures,
     )
 
 returns : tie.Need-returns invariant-loop decreases-loop
 returns c =
     let l = c.before.loop in
-    filled-all (countAt c.before.before.before.args.image.now) l.acked 64 l.invariant.1
+    filled-all (count_at c.before.before.before.args.image.now) l.acked 64 l.invariant.1
     (λ k h. l.invariant.2 k (omega arith))
 
 pub counts-spec : {M : Type 1} → statement M

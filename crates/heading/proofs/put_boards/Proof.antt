@@ -2,16 +2,16 @@
 -- p. Assumes nothing.
 use Prim.Native.Nat.{ℕ, ◌-◌, ◌≤◌}
 use native.Mathlib.Omega.{arith}
-use Rattle.cluster.specs.Layout.{outlineOf}
-use Rattle.text.specs.Text.{Text, Wrote, eachOf}
+use Rattle.cluster.specs.Layout.{outline_of}
+use Rattle.text.specs.Text.{Text, Wrote, each_of}
 use Rattle.text.proofs.Laws.{nothing, wrote-length}
-use Rattle.head.specs.Head.{boardBytes}
+use Rattle.head.specs.Head.{board_bytes}
 use Rattle.heading.proofs.Eights.{up_to, eight-room, eight-more, eight-all}
 use Rattle.heading.proofs.put_boards.Statement.{statement}
 use Rattle.heading.proofs.put_boards.Tie as tie
 
 abbrev invariant-loop : tie.invariant-loop
-invariant-loop out₀ at row firsts p₀ i₀ out p i = (i ≤ 8) × Wrote out₀ at (up_to (boardBytes (outlineOf row) firsts) i) out p
+invariant-loop out₀ at row firsts p₀ i₀ out p i = (i ≤ 8) × Wrote out₀ at (up_to (board_bytes (outline_of row) firsts) i) out p
 
 abbrev decreases-loop : tie.decreases-loop
 decreases-loop out₀ at row firsts p₀ i₀ out p i = 8 - i
@@ -20,10 +20,10 @@ abbrev start : tie.At-loop invariant-loop decreases-loop → tie.Start invariant
 start c = c.before.before
 
 abbrev texts : tie.At-loop invariant-loop decreases-loop → ℕ → Text
-texts c = let a = (start c).args in boardBytes (outlineOf a.row) a.firsts
+texts c = let a = (start c).args in board_bytes (outline_of a.row) a.firsts
 
 loop-holds : tie.Need-loop-init invariant-loop decreases-loop
-unfolding eachOf
+unfolding each_of
 loop-holds c = (omega arith, nothing _ _)
 
 put-board-requires : tie.Need-put-board-requires invariant-loop decreases-loop

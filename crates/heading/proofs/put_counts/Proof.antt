@@ -5,22 +5,22 @@ use mathlib.Core.Path.{◌≡◌, ap, ◌∙◌}
 use Prim.Native.Nat.{ℕ, suc, ◌+◌, ◌-◌, ◌*◌, ◌<◌, ◌≤◌}
 use native.Mathlib.Omega.{arith}
 use lib.ListN.{get_or}
-use Rattle.cluster.specs.Layout.{atPair}
-use Rattle.cluster.proofs.Ranging.{at_pair}
+use Rattle.cluster.specs.Layout.{at_pair}
+use Rattle.cluster.proofs.Ranging.{at_pair_lem}
 use Rattle.fields.specs.Fields.{two}
-use Rattle.text.specs.Text.{Text, Wrote, eachOf}
+use Rattle.text.specs.Text.{Text, Wrote, each_of}
 use Rattle.text.proofs.Laws.{nothing, wrote-length}
 use Rattle.heading.proofs.Eights.{up_to, eight-room, eight-more, eight-all}
 use Rattle.heading.proofs.put_counts.Statement.{statement}
 use Rattle.heading.proofs.put_counts.Tie as tie
 
 abbrev count : List ℕ → ℕ → ℕ → Text
-count acked i b = two (atPair acked (suc i) b)
+count acked i b = two (at_pair acked (suc i) b)
 
-pair-at : (acked : List ℕ) (i k : ℕ) → i < 8 → k < 8 → atPair acked (suc i) (suc k) ≡ get_or acked (8 * i + k) 0
+pair-at : (acked : List ℕ) (i k : ℕ) → i < 8 → k < 8 → at_pair acked (suc i) (suc k) ≡ get_or acked (8 * i + k) 0
 pair-at acked i k h l =
     let e : 8 * (suc i - 1) + (suc k - 1) ≡ 8 * i + k = omega arith in
-    at_pair acked (suc i) (suc k) (omega arith) (omega arith) (omega arith) (omega arith) ∙ ap (λ n. get_or acked n 0) e
+    at_pair_lem acked (suc i) (suc k) (omega arith) (omega arith) (omega arith) (omega arith) ∙ ap (λ n. get_or acked n 0) e
 
 abbrev invariant-loop : tie.invariant-loop
 invariant-loop out₀ at i acked p₀ k₀ out p k = (k ≤ 8) × Wrote out₀ at (up_to (count acked i) k) out p
@@ -35,7 +35,7 @@ abbrev texts : tie.At-loop invariant-loop decreases-loop → ℕ → Text
 texts c = let a = (start c).args in count a.t3 a.i
 
 loop-holds : tie.Need-loop-init invariant-loop decreases-loop
-unfolding eachOf
+unfolding each_of
 loop-holds c = (omega arith, nothing _ _)
 
 mul-put-two : tie.Need-overflow-mul-put-two invariant-loop decreases-loop

@@ -2,7 +2,7 @@
 use mathlib.Core.Path.{ap}
 use Rattle.cluster.specs.Layout.{view_of}
 use Rattle.text.proofs.Laws.{then, wrote_as}
-use Rattle.head.specs.Head.{viewBytes, headBytes}
+use Rattle.head.specs.Head.{view_bytes, head_bytes}
 use borrow.Author.Rules.{rules}
 use Rattle.heading.proofs.put_head.Statement.{statement}
 use Rattle.heading.proofs.put_head.Tie as tie
@@ -35,7 +35,7 @@ same_length : tie.Need-same-length
 same_length c = search rules
 
 returns : tie.Need-returns
-unfolding headBytes
+unfolding head_bytes
 returns c =
     let f = c.before.before in
     let e = f.before.before.before.before in
@@ -44,8 +44,8 @@ returns c =
     let a = b.before.before.before.before in
     let m = a.before.before in
     let row = m.before.before.before.before.before.args.row in
-    let g = ap (viewBytes (view_of row.registry.view)) m.before.status-number.ensures in
-    let k = ap (viewBytes (view_of row.controller.view)) m.number.ensures in
+    let g = ap (view_bytes (view_of row.registry.view)) m.before.status-number.ensures in
+    let k = ap (view_bytes (view_of row.controller.view)) m.number.ensures in
     then (wrote_as g a.put_view.ensures) (then (wrote_as k b.put-view2.ensures)
     (then d.put-heards.ensures (then e.put-boards.ensures f.put_two.ensures)))
 

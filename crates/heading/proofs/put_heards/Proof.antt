@@ -5,15 +5,15 @@ use Prim.Native.Nat.{ℕ, ◌-◌, ◌≤◌}
 use native.Mathlib.Omega.{arith}
 use Rattle.cluster.specs.Layout.{at}
 use Rattle.fields.specs.Fields.{two}
-use Rattle.text.specs.Text.{Text, Wrote, eachOf}
+use Rattle.text.specs.Text.{Text, Wrote, each_of}
 use Rattle.text.proofs.Laws.{nothing, wrote-length}
-use Rattle.head.specs.Head.{heardNumber}
+use Rattle.head.specs.Head.{heard_number}
 use Rattle.heading.proofs.Eights.{up_to, eight-room, eight-more, eight-all}
 use Rattle.heading.proofs.put_heards.Statement.{statement}
 use Rattle.heading.proofs.put_heards.Tie as tie
 
 abbrev told : List ℕ → List ℕ → ℕ → Text
-told heard joined b = two (heardNumber (at 0 heard b)) ++ two (at 0 joined b)
+told heard joined b = two (heard_number (at 0 heard b)) ++ two (at 0 joined b)
 
 abbrev invariant-loop : tie.invariant-loop
 invariant-loop out₀ at heard joined p₀ i₀ out p i = (i ≤ 8) × Wrote out₀ at (up_to (told heard joined) i) out p
@@ -28,7 +28,7 @@ abbrev texts : tie.At-loop invariant-loop decreases-loop → ℕ → Text
 texts c = let k = (start c).args.k in told k.heard k.joined
 
 loop-holds : tie.Need-loop-init invariant-loop decreases-loop
-unfolding eachOf
+unfolding each_of
 loop-holds c = (omega arith, nothing _ _)
 
 mul-put-heard : tie.Need-overflow-mul-put-heard invariant-loop decreases-loop

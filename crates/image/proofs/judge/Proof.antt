@@ -4,13 +4,13 @@ use mathlib.Core.Path.{◌≡◌, sym, ◌∙◌}
 use native.Mathlib.Omega.{arith}
 use borrow.Author.Rules.{rules}
 use borrow.Author.Tests.{not-true, not-false}
-use Rattle.image.specs.Image.{lengthFits}
+use Rattle.image.specs.Image.{length_fits}
 use Rattle.image.proofs.Fitting.{long-enough}
 use Rattle.image.proofs.judge.Statement.{statement}
 use Rattle.image.proofs.judge.Tie as tie
 
 -- Past error 17 the length fits.
-fits : (c : tie.Else1) → lengthFits c.before.before.before.args.image.now ≡ true
+fits : (c : tie.Else1) → length_fits c.before.before.before.args.image.now ≡ true
 fits c = sym c.before.length-fits.ensures ∙ not-false _ c.if1.false
 
 length-fits-requires : tie.Need-length-fits-requires

@@ -6,8 +6,8 @@ use lib.ListN.{length}
 use borrow.Author.Rules.{rules}
 use borrow.Author.Tests.{not-true, not-false}
 use Rattle.refinement.specs.Refinement.{Places, lent}
-use Rattle.shown.specs.Shown.{lengthsFit}
-use Rattle.image.specs.Keeping.{lentEnough}
+use Rattle.shown.specs.Shown.{lengths_fit}
+use Rattle.image.specs.Keeping.{lent_enough}
 use Rattle.image.proofs.Reading.{bad-lengths, bad-scratch, bad-image, verdict-of, judged-both}
 use Rattle.image.proofs.load.Statement.{statement}
 use Rattle.image.proofs.load.Tie as tie
@@ -19,11 +19,11 @@ abbrev start : tie.After-lengths → tie.Start
 start c = c.before.before.before.before.before.before.before.before.before.before.before
 
 -- Past refusal 1, and past 3.
-lengths-fit : (d : tie.Else1) → lengthsFit (places (start d.before)) ≡ true
+lengths-fit : (d : tie.Else1) → lengths_fit (places (start d.before)) ≡ true
 lengths-fit d = sym d.before.lengths.ensures ∙ not-false _ d.if1.false
 
 lent-enough : (d : tie.Else2)
-    → let s = start d.before.before.before in lentEnough (places s) s.args.scratch.now ≡ true
+    → let s = start d.before.before.before in lent_enough (places s) s.args.scratch.now ≡ true
 lent-enough d = rw (lengths-fit d.before.before, sym d.before.enough.ensures ∙ not-false _ d.if2.false)
 
 lengths-requires : tie.Need-lengths-requires

@@ -7,10 +7,10 @@ use lib.ListN.{length, replicate}
 use borrow.Author.Rules.{rules}
 use borrow.Author.Tests.{not-true, not-false}
 use Rattle.model.specs.Ranges.{in_range}
-use Rattle.cluster.specs.Layout.{outlineOf}
-use Rattle.head.specs.Head.{row_at, codesFit}
-use Rattle.chains.specs.Image.{epochsFit}
-use Rattle.image.specs.Image.{recordsIn, numbersFit}
+use Rattle.cluster.specs.Layout.{outline_of}
+use Rattle.head.specs.Head.{row_at, codes_fit}
+use Rattle.chains.specs.Image.{epochs_fit}
+use Rattle.image.specs.Image.{records_in, numbers_fit}
 use Rattle.image.proofs.Fitting.{records-are}
 use Rattle.image.proofs.numbers_fit.Statement.{statement}
 use Rattle.image.proofs.numbers_fit.Tie as tie
@@ -19,7 +19,7 @@ codes-fit-requires : tie.Need-codes-fit-requires
 codes-fit-requires c κs = search rules
 
 returns : tie.Need-returns
-unfolding numbersFit
+unfolding numbers_fit
 returns c = sym (rw (sym c.before.codes-fit.ensures ∙ not-true _ c.if1.true))
 
 row-requires : tie.Need-row-requires
@@ -28,15 +28,15 @@ row-requires c κs = search rules
 in-range-requires : tie.Need-in-range-requires
 in-range-requires c κs = search rules
 
-coded : (c : tie.Else1) → codesFit c.before.before.before.args.image.now ≡ true
+coded : (c : tie.Else1) → codes_fit c.before.before.before.args.image.now ≡ true
 coded c = sym c.before.codes-fit.ensures ∙ not-false _ c.if1.false
 
 returns-2 : tie.Need-returns-2
-unfolding numbersFit
+unfolding numbers_fit
 returns-2 c =
     let d = c.before.before.before in
-    let e : in_range (outlineOf (row_at d.before.before.before.args.image.now (replicate 8 0) 0)) ≡ false =
-    sym (c.before.in-range.ensures ∙ ap (λ r. in_range (outlineOf r)) c.before.before.row.ensures)
+    let e : in_range (outline_of (row_at d.before.before.before.args.image.now (replicate 8 0) 0)) ≡ false =
+    sym (c.before.in-range.ensures ∙ ap (λ r. in_range (outline_of r)) c.before.before.row.ensures)
     ∙ not-true _ c.if2.true in
     sym (rw (coded d, e))
 
@@ -44,16 +44,16 @@ epochs-fit-requires : tie.Need-epochs-fit-requires
 epochs-fit-requires c κs = search rules
 
 returns-3 : tie.Need-returns-3
-unfolding numbersFit
+unfolding numbers_fit
 returns-3 c =
     let x = c.before in
     let d = x.before.before.before in
     let s = d.before.before.before in
     let image = s.args.image.now in
-    let e : in_range (outlineOf (row_at image (replicate 8 0) 0)) ≡ true =
-    sym (x.before.in-range.ensures ∙ ap (λ r. in_range (outlineOf r)) x.before.before.row.ensures)
+    let e : in_range (outline_of (row_at image (replicate 8 0) 0)) ≡ true =
+    sym (x.before.in-range.ensures ∙ ap (λ r. in_range (outline_of r)) x.before.before.row.ensures)
     ∙ not-false _ x.if2.false in
-    c.epochs-fit.ensures ∙ ap (λ n. epochsFit n image) (sym (records-are image s.args.n s.requires))
+    c.epochs-fit.ensures ∙ ap (λ n. epochs_fit n image) (sym (records-are image s.args.n s.requires))
     ∙ sym (rw (coded d, e))
 
 pub numbers-fit-spec : {M : Type 1} → statement M

@@ -7,11 +7,11 @@ use lib.ListN.{length}
 use borrow.Author.Rules.{rules}
 use Rattle.text.specs.Text.{over}
 use Rattle.text.proofs.Laws.{over-length}
-use Rattle.cluster.specs.Layout.{outlineOf}
+use Rattle.cluster.specs.Layout.{outline_of}
 use Rattle.refinement.specs.Refinement.{Places, Full, Ready, lent}
 use Rattle.shown.proofs.Valid.{ready, valid-full, valid-range}
-use Rattle.head.specs.Head.{headBytes}
-use Rattle.saving.specs.Saved.{nineLists, sumBy}
+use Rattle.head.specs.Head.{head_bytes}
+use Rattle.saving.specs.Saved.{nine_lists, sum_by}
 use Rattle.saving.proofs.Lengths.{sum-most}
 use Rattle.image.proofs.Writing.{too_short, stored}
 use Rattle.image.proofs.put_image.Statement.{statement}
@@ -84,7 +84,7 @@ put-chains-requires c κs =
     let f = full s in
     let r = fit s in
     let l = ap length h.put-head.ensures.text
-    ∙ over-length a.out.now 0 (headBytes (outlineOf a.row) h.before.before.firsts.result) in (
+    ∙ over-length a.out.now 0 (head_bytes (outline_of a.row) h.before.before.firsts.result) in (
       f.store,
       f.store2,
       r.short.eight,
@@ -99,7 +99,7 @@ same_length : tie.Need-same-length
 same_length c = search rules
 
 returns-2 : tie.Need-returns-2
-unfolding nineLists
+unfolding nine_lists
 returns-2 c =
     let e = c.before.before in
     let h = e.before.before.before.before.before in
@@ -110,7 +110,7 @@ returns-2 c =
     stored a.row (places s) s.pre.1 s.pre.0 a.out.now (258 + 8 * d.total.result)
     (ap (λ n. 258 + 8 * n) d.total.ensures) g.before.if1.false _ _
     (h.put-head.ensures.text
-    ∙ ap (λ f. over a.out.now 0 (headBytes (outlineOf a.row) f)) g.firsts.ensures)
+    ∙ ap (λ f. over a.out.now 0 (head_bytes (outline_of a.row) f)) g.firsts.ensures)
     e.put-chains.ensures
 
 pub put-image-spec : {M : Type 1} → statement M

@@ -6,13 +6,13 @@ use Prim.Native.Nat.{◌≤◌, ◌-◌}
 use native.Mathlib.Omega.{arith}
 use lib.ListN.{length}
 use borrow.Author.Rules.{rules}
-use Rattle.model.specs.Ranges.{every, isEpoch}
+use Rattle.model.specs.Ranges.{every, is_epoch}
 use Rattle.kept.proofs.Terms.{from, from_more, from_all}
 use Rattle.kept.proofs.epochs.Statement.{statement}
 use Rattle.kept.proofs.epochs.Tie as tie
 
 abbrev invariant-loop : tie.invariant-loop
-invariant-loop part ok₀ i₀ ok i = (i ≤ length part) × (every (map isEpoch part) ≡ (ok && from part i))
+invariant-loop part ok₀ i₀ ok i = (i ≤ length part) × (every (map is_epoch part) ≡ (ok && from part i))
 
 abbrev decreases-loop : tie.decreases-loop
 decreases-loop part ok₀ i₀ ok i = length part - i

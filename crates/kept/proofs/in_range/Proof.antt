@@ -7,7 +7,7 @@ use Prim.Native.Nat.{◌-◌}
 use native.Mathlib.Omega.{arith}
 use lib.ListN.{take}
 use borrow.Author.Rules.{rules}
-use Rattle.model.specs.Ranges.{every, isEpoch}
+use Rattle.model.specs.Ranges.{every, is_epoch}
 use Rattle.refinement.specs.Refinement.{lent}
 use Rattle.kept.proofs.Terms.{kept-tests}
 use Rattle.kept.proofs.in_range.Statement.{statement}
@@ -39,8 +39,8 @@ returns c store list full =
     let a = c.before.before.before.before.before.before.before.before.args in
     let row = a.row in
     let e : row.issued - 0 ≡ row.issued = omega arith in
-    let given : c.before.before.epochs.result ≡ every (map isEpoch (take row.issued a.list2.now)) =
-    c.before.before.epochs.ensures ∙ ap (λ n. every (map isEpoch (take n a.list2.now))) e in
+    let given : c.before.before.epochs.result ≡ every (map is_epoch (take row.issued a.list2.now)) =
+    c.before.before.epochs.ensures ∙ ap (λ n. every (map is_epoch (take n a.list2.now))) e in
     c.both.ensures ∙ (λ i. given i && c.before.logs.ensures i)
     ∙ sym (kept-tests row (lent store a.store2.now list a.list2.now) full)
 

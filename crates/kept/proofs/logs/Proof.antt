@@ -4,8 +4,8 @@ use mathlib.Core.Path.{◌≡◌, subst}
 use Prim.Native.Nat.{◌≤◌}
 use native.Mathlib.Omega.{arith}
 use borrow.Author.Rules.{rules}
-use Rattle.model.specs.Ranges.{every, isEpoch}
-use Rattle.logstore.specs.Log.{logOf}
+use Rattle.model.specs.Ranges.{every, is_epoch}
+use Rattle.logstore.specs.Log.{log_of}
 use Rattle.cluster.specs.Layout.{at}
 use Rattle.cluster.proofs.Laws.{at-index}
 use Rattle.cluster.proofs.Ranging.{rest, rest-none, rest_more, rest_all}
@@ -15,7 +15,7 @@ use Rattle.kept.proofs.logs.Tie as tie
 
 abbrev invariant-loop : tie.invariant-loop
 invariant-loop terms len ok₀ b₀ ok b =
-    (b ≤ 8) × (ok ≡ rest (λ x. every (map isEpoch (logOf terms x (at 0 len x)))) b)
+    (b ≤ 8) × (ok ≡ rest (λ x. every (map is_epoch (log_of terms x (at 0 len x)))) b)
 
 abbrev decreases-loop : tie.decreases-loop
 decreases-loop terms len ok₀ b₀ ok b = b

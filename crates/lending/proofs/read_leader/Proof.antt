@@ -30,7 +30,7 @@ returns c p v =
     let l =
     subst (λ x. ReadsLeader row.controller x t.reply t.controller) told c.before.read-leader.ensures in
     linked row p c.put-back.result t c.put-back.ensures.0
-    (Link.readLeader shape (tells-leader row p shape v b k.0 k.1 k.2) l)
+    (Link.read_leader shape (tells-leader row p shape v b k.0 k.1 k.2) l)
 
 pub read-leader-spec : {M : Type 1} → statement M
 read-leader-spec = tie.close (tie.spec seat-requires report-requires read-leader-requires put-back-requires returns)

@@ -4,7 +4,7 @@ use Prim.Native.Nat.{◌+◌, ◌≤◌}
 use lib.ListN.{length}
 use Rattle.members.specs.Mask.{bits}
 use Rattle.text.specs.Text.{Text, digits}
-use Rattle.lines.specs.Lines.{space, newline, fourthField, answerLine}
+use Rattle.lines.specs.Lines.{space, newline, fourth_field, answer_line}
 use Rattle.text.proofs.Laws.{fits, fits_both, byte, rest, rest_both, then, then-both, wrote-length}
 use Rattle.lines.proofs.put_answer.Statement.{statement}
 use Rattle.lines.proofs.put_answer.Tie as tie
@@ -14,7 +14,7 @@ abbrev text4 : tie.Start → Text
 text4 e = newline
 
 abbrev fourth : tie.Start → Text
-fourth e = fourthField e.args.step e.args.answer (bits e.args.q)
+fourth e = fourth_field e.args.step e.args.answer (bits e.args.q)
 
 abbrev text3 : tie.Start → Text
 text3 e = fourth e ++ text4 e
@@ -39,12 +39,12 @@ abbrev start4 : tie.After-put-fourth → tie.Start
 start4 c = start3 c.before.before.before.before
 
 put-field-requires : tie.Need-put-field-requires
-unfolding answerLine
+unfolding answer_line
 put-field-requires c κs = let e = c.before.before in fits_both _ (digits e.args.k) space (text1 e) e.requires
 
 -- The room that is left after the call j, then the need of the next.
 room1 : (c : tie.After-put-field) → c.put-field.result + length (text1 (start1 c)) ≤ length c.put-field.new.0
-unfolding answerLine
+unfolding answer_line
 room1 c =
     let e = start1 c in
     rest_both (digits e.args.k) space (text1 e) c.put-field.ensures e.pre
@@ -87,7 +87,7 @@ put-byte-requires : tie.Need-put-byte-requires
 put-byte-requires c κs = byte _ (room4 c.before.before.before)
 
 returns : tie.Need-returns
-unfolding answerLine
+unfolding answer_line
 returns c =
     let p4 = c.before.before.before.before.before.before in
     let p3 = p4.before.before.before.before in

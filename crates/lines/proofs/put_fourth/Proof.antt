@@ -9,7 +9,7 @@ use borrow.Author.Tests.{not-true, not-false}
 use Rattle.members.specs.Mask.{bits}
 use Rattle.text.specs.Text.{Text}
 use Rattle.text.proofs.Laws.{nothing, fits, byte, rest, then, wrote_as}
-use Rattle.lines.specs.Lines.{space, membersText, hasFourth, fourthField}
+use Rattle.lines.specs.Lines.{space, members_text, has_fourth, fourth_field}
 use Rattle.lines.proofs.Lengths.{fourth-none, fourth-some}
 use Rattle.lines.proofs.put_fourth.Statement.{statement}
 use Rattle.lines.proofs.put_fourth.Tie as tie
@@ -28,25 +28,25 @@ abbrev start : tie.Else1 → tie.Start
 start c = c.before.before.before
 
 field : (c : tie.Else1) → let a = (start c).args in
-    fourthField a.step a.answer (bits a.q) ≡ space ++ membersText (bits a.q)
+    fourth_field a.step a.answer (bits a.q) ≡ space ++ members_text (bits a.q)
 field c =
     let a = (start c).args in
     fourth-some a.step a.answer (bits a.q) (sym c.before.has-fourth.ensures ∙ not-false _ c.if1.false)
 
 room : (c : tie.Else1) → let a = (start c).args in
-    a.at + length (space ++ membersText (bits a.q)) ≤ length a.out.now
+    a.at + length (space ++ members_text (bits a.q)) ≤ length a.out.now
 room c = let a = (start c).args in subst (λ t. a.at + length t ≤ length a.out.now) (field c) (start c).requires
 
 put-byte-requires : tie.Need-put-byte-requires
 put-byte-requires c κs =
     let d = c.before in
-    byte _ (fits _ space (membersText (bits (start d).args.q)) (room d))
+    byte _ (fits _ space (members_text (bits (start d).args.q)) (room d))
 
 put-members-requires : tie.Need-put-members-requires
 put-members-requires c κs =
     let w = c.before.before.before in
     let d = w.before.before in
-    rest space (membersText (bits (start d).args.q)) w.put_byte.ensures (room d)
+    rest space (members_text (bits (start d).args.q)) w.put_byte.ensures (room d)
 
 same_length : tie.Need-same-length
 same_length c = search rules

@@ -6,13 +6,13 @@ use native.Mathlib.Omega.{arith}
 use Rattle.members.specs.Mask.{bits}
 use Rattle.text.specs.Text.{Text, Wrote}
 use Rattle.text.proofs.Laws.{nothing, then, wrote-length}
-use Rattle.lines.specs.Lines.{memberText, membersText}
-use Rattle.lines.proofs.Eights.{up_to, upTo-next, upTo-eight, upTo-fits}
+use Rattle.lines.specs.Lines.{member_text, members_text}
+use Rattle.lines.proofs.Eights.{up_to, up_to-next, up_to-eight, up_to-fits}
 use Rattle.lines.proofs.put_members.Statement.{statement}
 use Rattle.lines.proofs.put_members.Tie as tie
 
 abbrev invariant-loop : tie.invariant-loop
-invariant-loop out₀ at m p₀ b₀ out p b = (b ≤ 8) × Wrote out₀ at (up_to (memberText (bits m)) b) out p
+invariant-loop out₀ at m p₀ b₀ out p b = (b ≤ 8) × Wrote out₀ at (up_to (member_text (bits m)) b) out p
 
 abbrev decreases-loop : tie.decreases-loop
 decreases-loop out₀ at m p₀ b₀ out p b = 8 - b
@@ -21,7 +21,7 @@ abbrev start : tie.At-loop invariant-loop decreases-loop → tie.Start invariant
 start c = c.before.before
 
 abbrev text : tie.Start invariant-loop decreases-loop → ℕ → Text
-text e = memberText (bits e.args.m)
+text e = member_text (bits e.args.m)
 
 loop-holds : tie.Need-loop-init invariant-loop decreases-loop
 unfolding up_to
@@ -31,11 +31,11 @@ add-b : tie.Need-overflow-add-b invariant-loop decreases-loop
 add-b c = omega arith
 
 put-member-requires : tie.Need-put-member-requires invariant-loop decreases-loop
-unfolding membersText
+unfolding members_text
 put-member-requires c κs =
     let d = c.before.before in
     let e = start d in
-    (omega arith, omega arith, upTo-fits (text e) d.loop.b c.before.loop-test.true d.loop.invariant.1 e.pre)
+    (omega arith, omega arith, up_to-fits (text e) d.loop.b c.before.loop-test.true d.loop.invariant.1 e.pre)
 
 loop-less : tie.Need-loop-smaller invariant-loop decreases-loop
 loop-less c = omega arith
@@ -44,19 +44,19 @@ loop-again : tie.Need-loop-preserved invariant-loop decreases-loop
 loop-again c =
     let w = c.before.before.put-member in
     let d = c.before.before.before.before.before in
-    (omega arith, rw (upTo-next (text (start d)) d.loop.b) (then d.loop.invariant.1 w.ensures))
+    (omega arith, rw (up_to-next (text (start d)) d.loop.b) (then d.loop.invariant.1 w.ensures))
 
 same_length : tie.Need-same-length invariant-loop decreases-loop
 same_length c = wrote-length c.before.loop.invariant.1
 
 returns : tie.Need-returns invariant-loop decreases-loop
-unfolding membersText
+unfolding members_text
 returns c =
     let d = c.before in
     let e = start d in
     let q : d.loop.b ≡ 8 = omega (arith, d.loop.invariant.0, c.loop-test.false) in
     subst (λ t. Wrote e.args.out.now e.args.at t d.loop.out d.loop.p)
-    (ap (up_to (text e)) q ∙ upTo-eight (text e)) d.loop.invariant.1
+    (ap (up_to (text e)) q ∙ up_to-eight (text e)) d.loop.invariant.1
 
 pub put-members-spec : {M : Type 1} → statement M
 put-members-spec =

@@ -3,8 +3,8 @@
 use Prim.Native.Nat.{◌-◌, ◌<◌, ◌≤◌}
 use native.Mathlib.Omega.{arith}
 use borrow.Author.Rules.{rules}
-use Rattle.chains.specs.Chain.{chainOf}
-use Rattle.chains.specs.Image.{next_of, value_of, epochOf}
+use Rattle.chains.specs.Chain.{chain_of}
+use Rattle.chains.specs.Image.{next_of, value_of, epoch_of}
 use Rattle.loading.proofs.Copying.{Copying, Storing, begins, stores-all, copied, place, inside, more, stored, stored-all}
 use Rattle.loading.proofs.copy.Statement.{statement}
 use Rattle.loading.proofs.copy.Tie as tie
@@ -12,9 +12,9 @@ use Rattle.loading.proofs.copy.Tie as tie
 abbrev invariant-loop : tie.invariant-loop
 invariant-loop image n first part₀ part2₀ at₀ len₀ part part2 at len =
     let next = next_of image in
-    let ks = chainOf next first in
+    let ks = chain_of next first in
     Copying next n ks at len
-    × Storing next (value_of image) ks part₀ part at len × Storing next (epochOf image) ks part2₀ part2 at len
+    × Storing next (value_of image) ks part₀ part at len × Storing next (epoch_of image) ks part2₀ part2 at len
 
 abbrev decreases-loop : tie.decreases-loop
 decreases-loop image n first part₀ part2₀ at₀ len₀ part part2 at len = 512 - len

@@ -4,8 +4,8 @@ use Prim.Native.Nat.{◌*◌, ◌≤◌}
 use lib.ListN.{length}
 use lib.Seq.{sets}
 use borrow.Author.Rules.{rules}
-use Rattle.chains.specs.Image.{next_of, first_of, value_of, epochOf, values_of, epochsOf}
-use Rattle.chains.specs.Chain.{chainOf}
+use Rattle.chains.specs.Image.{next_of, first_of, value_of, epoch_of, values_of, epochs_of}
+use Rattle.chains.specs.Chain.{chain_of}
 use Rattle.loading.specs.Read.{Sound}
 use Rattle.loading.proofs.Parts.{places-there, part-copied}
 use Rattle.loading.proofs.copy_board.Statement.{statement}
@@ -49,7 +49,7 @@ copy-requires c κs =
     let s = c.before.before.before.before.before.before in
     let next = next_of s.args.image.now in (
       search rules,
-      subst (λ k. Sound s.args.n (chainOf next k)) (sym c.before.before.first.ensures) s.requires.2,
+      subst (λ k. Sound s.args.n (chain_of next k)) (sym c.before.before.first.ensures) s.requires.2,
       search (rules, places-there s.args.store.now),
       search (rules, places-there s.args.store2.now),
     )
@@ -68,17 +68,17 @@ returns c =
     let next = next_of i in
     let start = c.before.before.before.before.before.before.before.first in
     let e : start.result ≡ first_of i a.b = start.ensures in
-    let ks = chainOf next start.result in
-    let k : length ks ≤ 512 = (subst (λ k. Sound a.n (chainOf next k)) (sym e) s.requires.2).short in
+    let ks = chain_of next start.result in
+    let k : length ks ≤ 512 = (subst (λ k. Sound a.n (chain_of next k)) (sym e) s.requires.2).short in
     let w = c.before.before.before.before.copy.ensures in
     record {
-      count = w.count ∙ ap (λ k. length (chainOf next k)) e;
+      count = w.count ∙ ap (λ k. length (chain_of next k)) e;
       values =
           part-copied a.store.now a.b s.requires.1 s.requires.3 _ (value_of i) ks k w.values
-          ∙ ap (λ k. sets a.store.now (512 * a.b) (values_of i (chainOf next k))) e;
+          ∙ ap (λ k. sets a.store.now (512 * a.b) (values_of i (chain_of next k))) e;
       epochs =
-          part-copied a.store2.now a.b s.requires.1 s.requires.4 _ (epochOf i) ks k w.epochs
-          ∙ ap (λ k. sets a.store2.now (512 * a.b) (epochsOf i (chainOf next k))) e;
+          part-copied a.store2.now a.b s.requires.1 s.requires.4 _ (epoch_of i) ks k w.epochs
+          ∙ ap (λ k. sets a.store2.now (512 * a.b) (epochs_of i (chain_of next k))) e;
     }
 
 pub copy-board-spec : {M : Type 1} → statement M

@@ -5,14 +5,14 @@ use Prim.Native.Nat.{◌-◌, ◌<◌, ◌≤◌}
 use native.Mathlib.Omega.{arith}
 use borrow.Author.Rules.{rules}
 use Rattle.loading.specs.Read.{Sound}
-use Rattle.chains.specs.Image.{list_of, values_of, epochsOf}
+use Rattle.chains.specs.Image.{list_of, values_of, epochs_of}
 use Rattle.loading.proofs.Boards.{sound-at, Laying, lays_all, lays-on, laid-all, Counting, counts_all, counts-on, counted-all}
 use Rattle.loading.proofs.copy_boards.Statement.{statement}
 use Rattle.loading.proofs.copy_boards.Tie as tie
 
 abbrev invariant-loop : tie.invariant-loop
 invariant-loop image n store₀ store2₀ len₀ b₀ store store2 len b =
-    (b ≤ 8) × Laying (values_of image) image store₀ store b × Laying (epochsOf image) image store2₀ store2 b
+    (b ≤ 8) × Laying (values_of image) image store₀ store b × Laying (epochs_of image) image store2₀ store2 b
     × Counting image len₀ len b
 
 abbrev decreases-loop : tie.decreases-loop
@@ -33,7 +33,7 @@ loop-holds c =
     let l = c.before.before.before.before.requires.4 in (
       omega arith,
       lays_all (values_of i) i a.store.now,
-      lays_all (epochsOf i) i a.store2.now,
+      lays_all (epochs_of i) i a.store2.now,
       counts_all i a.len.now l,
     )
 
@@ -66,7 +66,7 @@ loop-again c =
     let h : l.b < 8 = omega arith in (
       omega arith,
       lays-on (values_of i) i _ _ l.b h l.invariant.1 _ w.values,
-      lays-on (epochsOf i) i _ _ l.b h l.invariant.2 _ w.epochs,
+      lays-on (epochs_of i) i _ _ l.b h l.invariant.2 _ w.epochs,
       counts-on i _ _ l.b h l.invariant.3 _ w.count,
     )
 
@@ -86,7 +86,7 @@ returns c =
     let e : l.b ≡ 8 = omega arith in
     record {
       values = laid-all (values_of i) i _ _ l.b e l.invariant.1;
-      epochs = laid-all (epochsOf i) i _ _ l.b e l.invariant.2;
+      epochs = laid-all (epochs_of i) i _ _ l.b e l.invariant.2;
       lens = counted-all i _ _ l.b e c.before.before.before.before.before.before.requires.4 l.invariant.3;
     }
 

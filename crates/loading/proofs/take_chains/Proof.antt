@@ -5,7 +5,7 @@ use native.Mathlib.Omega.{arith}
 use borrow.Author.Rules.{rules}
 use borrow.Author.Tests.{not-true, not-false}
 use Rattle.chains.specs.Image.{next_of, holds}
-use Rattle.chains.specs.Chain.{chainOf}
+use Rattle.chains.specs.Chain.{chain_of}
 use Rattle.loading.specs.Read.{Sound}
 use Rattle.loading.proofs.Boards.{sound-at, left, took}
 use Rattle.loading.proofs.take_chains.Statement.{statement}
@@ -45,7 +45,7 @@ copy-requires c κs =
     let ok = sym w.well-linked.ensures.0 ∙ not-false _ t.if1.false in
     let first = sym c.before.before.first.ensures in (
       s.requires.0,
-      subst (λ k. Sound s.args.n (chainOf (next_of i) k)) first (sound-at s.args.n i 8 (omega arith) ok),
+      subst (λ k. Sound s.args.n (chain_of (next_of i) k)) first (sound-at s.args.n i 8 (omega arith) ok),
       omega (arith, s.requires.5),
       omega (arith, s.requires.6),
     )

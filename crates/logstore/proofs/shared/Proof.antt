@@ -8,10 +8,10 @@ use native.Mathlib.Omega.{arith}
 use lib.ListN.{length, get_or}
 use borrow.Author.Tests.{not-true, not-false}
 use borrow.Author.Rules.{rules}
-use Rattle.model.specs.State.{Entry, entry, sameEntry}
+use Rattle.model.specs.State.{Entry, entry, same_entry}
 use Rattle.model.specs.Steps.{shared}
-use Rattle.logstore.specs.Log.{pairs, place, logOf}
-use Rattle.logstore.proofs.Laws.{pairs-length, log-length, log-entry, sharedFrom, shared-first, shared_second, shared-next}
+use Rattle.logstore.specs.Log.{pairs, place, log_of}
+use Rattle.logstore.proofs.Laws.{pairs-length, log-length, log-entry, shared_from, shared-first, shared_second, shared-next}
 use Rattle.logstore.proofs.shared.Statement.{statement}
 use Rattle.logstore.proofs.shared.Tie as tie
 
@@ -23,29 +23,29 @@ module _ (vs ts : List ℕ) (a m b n i : ℕ)
     s = pairs vs ts
 
     abbrev more : ℕ → ℕ
-    more = sharedFrom sameEntry (logOf s a m) (logOf s b n)
+    more = shared_from same_entry (log_of s a m) (log_of s b n)
 
     full : length s ≡ 4096
     full = pairs-length vs ts (pre.0 ∙ sym pre.1) ∙ pre.0
 
-    long : length (logOf s a m) ≡ m
+    long : length (log_of s a m) ≡ m
     long = log-length s full a pre.2 pre.3 m pre.4
 
-    long-2 : length (logOf s b n) ≡ n
+    long-2 : length (log_of s b n) ≡ n
     long-2 = log-length s full b pre.5 pre.6 n pre.7
 
     ends : m ≤ i → more i ≡ 0
-    ends h = shared-first sameEntry (logOf s a m) (logOf s b n) i (rw long h)
+    ends h = shared-first same_entry (log_of s a m) (log_of s b n) i (rw long h)
 
     ends-2 : n ≤ i → more i ≡ 0
-    ends-2 h = shared_second sameEntry (logOf s a m) (logOf s b n) i (rw long-2 h)
+    ends-2 h = shared_second same_entry (log_of s a m) (log_of s b n) i (rw long-2 h)
 
     -- One more where the entries at i are the same, none where they differ.
     module _ (h : i < m) (k : i < n) {t : Bool}
-        (e : t ≡ sameEntry (get_or s (place a i) (entry 0 0)) (get_or s (place b i) (entry 0 0))) where
+        (e : t ≡ same_entry (get_or s (place a i) (entry 0 0)) (get_or s (place b i) (entry 0 0))) where
       by-same : more i ≡ cond t (suc (more (i + 1))) 0
       by-same =
-          shared-next sameEntry (entry 0 0) (logOf s a m) (logOf s b n) i (rw long h) (rw long-2 k)
+          shared-next same_entry (entry 0 0) (log_of s a m) (log_of s b n) i (rw long h) (rw long-2 k)
           ∙ rw (log-entry (entry 0 0) s a m i h, log-entry (entry 0 0) s b n i k, e)
 
       goes_on : t ≡ true → more i ≡ suc (more (i + 1))
@@ -56,9 +56,9 @@ module _ (vs ts : List ℕ) (a m b n i : ℕ)
 
 abbrev invariant-loop : tie.invariant-loop
 invariant-loop store terms a m b n i₀ i =
-    let xs = logOf (pairs store terms) a m in
-    let ys = logOf (pairs store terms) b n in
-    (i ≤ m) × (length (shared sameEntry xs ys) ≡ i + sharedFrom sameEntry xs ys i)
+    let xs = log_of (pairs store terms) a m in
+    let ys = log_of (pairs store terms) b n in
+    (i ≤ m) × (length (shared same_entry xs ys) ≡ i + shared_from same_entry xs ys i)
 
 abbrev decreases-loop : tie.decreases-loop
 decreases-loop store terms a m b n i₀ i = m - i

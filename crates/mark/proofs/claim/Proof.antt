@@ -13,8 +13,8 @@ returns c = λ o real sts b.
     let i = (run-keeps entries (opened-inv o real) sts).inv in
     record {
       current = current i b;
-      byNews = by-news i b;
-      byJoining = by-joining entries i b;
+      by_news = by-news i b;
+      by_joining = by-joining entries i b;
       outside = outside entries b (opened-inv o real) sts;
     }
 

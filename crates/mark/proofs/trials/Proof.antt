@@ -1,12 +1,12 @@
 -- `mark::trials` meets its contract, by computation. Assumes nothing.
 use Rattle.model.specs.Runs.{run, answers}
-use Rattle.model.specs.Trials.{holds, allHold}
+use Rattle.model.specs.Trials.{holds, all_hold}
 use Rattle.mark.specs.Trials.{MarkTrialsHold}
 use Rattle.mark.proofs.trials.Statement.{statement}
 use Rattle.mark.proofs.trials.Tie as tie
 
 returns : tie.Need-returns
-unfolding MarkTrialsHold allHold holds run answers
+unfolding MarkTrialsHold all_hold holds run answers
 returns c = tt
 
 pub trials-spec : {M : Type 1} → statement M

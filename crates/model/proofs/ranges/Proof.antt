@@ -2,7 +2,7 @@
 use Rattle.model.proofs.ranges.Statement.{statement}
 use Rattle.model.proofs.ranges.Tie as tie
 use Rattle.model.specs.State.{entries, outline}
-use Rattle.model.specs.Ranges.{in_range, keptInRange, RunsInRange}
+use Rattle.model.specs.Ranges.{in_range, kept_in_range, RunsInRange}
 use Rattle.model.specs.Claim.{after}
 use Rattle.model.proofs.Tests.{join-and}
 use Rattle.model.proofs.Bounds.{in-range}
@@ -11,7 +11,7 @@ use Rattle.model.proofs.Made.{kept_in, terms-run}
 returns : tie.Need-returns
 unfolding RunsInRange
 returns c = λ o real sts.
-    join-and (in_range (outline (after entries o sts))) (keptInRange (after entries o sts))
+    join-and (in_range (outline (after entries o sts))) (kept_in_range (after entries o sts))
     (in-range entries o real sts) (kept_in (terms-run o real sts))
 
 pub ranges-spec : {M : Type 1} → statement M

@@ -5,16 +5,16 @@ use Prim.Native.Nat.{◌+◌, ◌-◌, ◌*◌, ◌<◌, ◌≤◌}
 use native.Mathlib.Omega.{arith}
 use lib.ListN.{length, get_or, replicate}
 use Rattle.model.specs.Records.{of}
-use Rattle.text.specs.Text.{Wrote, eachOf}
+use Rattle.text.specs.Text.{Wrote, each_of}
 use Rattle.text.proofs.Laws.{nothing, then, wrote_as, wrote-length, each_none, each_next}
-use Rattle.records.specs.Bytes.{sheetBytes}
-use Rattle.orders.proofs.Laws.{orderBytes, orders_bytes, order-room}
+use Rattle.records.specs.Bytes.{sheet_bytes}
+use Rattle.orders.proofs.Laws.{order_bytes, orders_bytes, order-room}
 use Rattle.orders.proofs.put_orders.Statement.{statement}
 use Rattle.orders.proofs.put_orders.Tie as tie
 
 abbrev invariant-loop : tie.invariant-loop
 invariant-loop out₀ o k p₀ i₀ out p i =
-    (i ≤ k) × (length out ≡ length out₀) × Wrote out₀ 0 (eachOf (orderBytes o) i) out p
+    (i ≤ k) × (length out ≡ length out₀) × Wrote out₀ 0 (each_of (order_bytes o) i) out p
 
 abbrev decreases-loop : tie.decreases-loop
 decreases-loop out₀ o k p₀ i₀ out p i = k - i
@@ -61,10 +61,10 @@ loop-again c =
     let o = a.o.now in
     let n = c.before.before.before.before.before.before.two_at.ensures in
     let r = of (get_or o (4 * l.i) 0) (get_or o (4 * l.i + 1) 0) in
-    let w = wrote_as (ap (λ m. sheetBytes (replicate m r)) n) c.before.before.put_same.ensures in (
+    let w = wrote_as (ap (λ m. sheet_bytes (replicate m r)) n) c.before.before.put_same.ensures in (
       omega arith,
       wrote-length w ∙ l.invariant.1,
-      wrote_as (sym (each_next (orderBytes o) l.i)) (then l.invariant.2 w),
+      wrote_as (sym (each_next (order_bytes o) l.i)) (then l.invariant.2 w),
     )
 
 same_length : tie.Need-same-length invariant-loop decreases-loop

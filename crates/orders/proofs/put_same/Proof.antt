@@ -7,7 +7,7 @@ use lib.ListN.{length, replicate}
 use Rattle.model.specs.Records.{of}
 use Rattle.text.specs.Text.{over}
 use Rattle.text.proofs.Laws.{wrote-length}
-use Rattle.records.specs.Bytes.{sheetBytes}
+use Rattle.records.specs.Bytes.{sheet_bytes}
 use Rattle.records.proofs.Encoding.{bytes-length}
 use Rattle.orders.proofs.Laws.{same_bytes, one_less, none_left}
 use Rattle.orders.proofs.put_same.Statement.{statement}
@@ -16,7 +16,7 @@ use Rattle.orders.proofs.put_same.Tie as tie
 abbrev invariant-loop : tie.invariant-loop
 invariant-loop out₀ at step board n r p₀ i₀ out p i =
     (p + 8 * i ≡ at + 8 * n) × (length out ≡ length out₀)
-    × (over out p (sheetBytes (replicate i (of step board))) ≡ over out₀ at (sheetBytes (replicate n (of step board))))
+    × (over out p (sheet_bytes (replicate i (of step board))) ≡ over out₀ at (sheet_bytes (replicate n (of step board))))
 
 abbrev decreases-loop : tie.decreases-loop
 decreases-loop out₀ at step board n r p₀ i₀ out p i = i

@@ -7,13 +7,13 @@ use borrow.Author.Rules.{rules}
 use Rattle.recovery.specs.Plan.{first_of}
 use Rattle.members.specs.Mask.{bits, under}
 use Rattle.members.proofs.Laws.{under_none, gathered}
-use Rattle.ranking.proofs.Laws.{under_all, countBelow, count_none, count-le, byte_le, count-more, first-at, first_out}
+use Rattle.ranking.proofs.Laws.{under_all, count_below, count_none, count-le, byte_le, count-more, first-at, first_out}
 use Rattle.ranking.proofs.first.Statement.{statement}
 use Rattle.ranking.proofs.first.Tie as tie
 
 abbrev invariant-loop : tie.invariant-loop
 invariant-loop m n q₀ met₀ left₀ q met left =
-    (left ≤ 8) × (met ≡ countBelow (9 - left) (bits m)) × (bits q ≡ under (9 - left) (first_of n (bits m)))
+    (left ≤ 8) × (met ≡ count_below (9 - left) (bits m)) × (bits q ≡ under (9 - left) (first_of n (bits m)))
 
 abbrev decreases-loop : tie.decreases-loop
 decreases-loop m n q₀ met₀ left₀ q met left = left

@@ -1,7 +1,7 @@
 -- `records::bytes` meets its contract. Assumes nothing.
 use mathlib.Core.Path.{refl}
 use borrow.Author.Rules.{rules}
-use Rattle.records.specs.Bytes.{recordBytes}
+use Rattle.records.specs.Bytes.{record_bytes}
 use Rattle.records.proofs.bytes.Statement.{statement}
 use Rattle.records.proofs.bytes.Tie as tie
 
@@ -18,7 +18,7 @@ cast-t13 : tie.Need-overflow-cast-t13
 cast-t13 c = search rules
 
 returns : tie.Need-returns
-unfolding recordBytes
+unfolding record_bytes
 returns c = refl
 
 pub bytes-spec : {M : Type 1} → statement M

@@ -1,7 +1,7 @@
 -- `records::is_sheet` meets its contract. Assumes nothing.
 use mathlib.Core.Path.{sym, ap, ◌∙◌}
 use borrow.Author.Tests.{not-true, not-false}
-use Rattle.records.specs.Bytes.{isOpening}
+use Rattle.records.specs.Bytes.{is_opening}
 use Rattle.records.proofs.Decoding.{room}
 use borrow.Author.Rules.{rules}
 use Rattle.records.proofs.is_sheet.Statement.{statement}
@@ -27,7 +27,7 @@ opens-requires c κs = search rules
 returns-2 : tie.Need-returns-2
 returns-2 c =
     let w = sym c.before.before.before.whole.ensures ∙ not-false _ c.before.before.if1.false in
-    c.opens.ensures ∙ ap isOpening c.before.decode.ensures ∙ rw w
+    c.opens.ensures ∙ ap is_opening c.before.decode.ensures ∙ rw w
 
 pub is-sheet-spec : {M : Type 1} → statement M
 is-sheet-spec =

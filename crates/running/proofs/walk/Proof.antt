@@ -92,7 +92,7 @@ add-sets : tie.Need-overflow-add-sets invariant-loop decreases-loop
 add-sets c = omega (arith, small (turn (sent c)))
 
 slice-write-sets : tie.Need-slice-write-sets invariant-loop decreases-loop
-slice-write-sets c = let t = turn (sent c) in omega (arith, small t, t.before.loop.inv.2.setRoom)
+slice-write-sets c = let t = turn (sent c) in omega (arith, small t, t.before.loop.inv.2.set_room)
 
 mul-views : tie.Need-overflow-mul-views invariant-loop decreases-loop
 mul-views c = search rules
@@ -126,7 +126,7 @@ loop-again c =
       },
       ran-more e.args.sheet.now e.pre.0 l.k (row d) (places d) l.answers l.sets h _
           (decoded x).decode.ensures x.send.ensures.leaves (omega (arith, small t, h.room))
-          (omega (arith, small t, h.setRoom)),
+          (omega (arith, small t, h.set_room)),
     )
 
 same_length : tie.Need-same-length invariant-loop decreases-loop

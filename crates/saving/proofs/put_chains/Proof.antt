@@ -7,16 +7,16 @@ use native.Mathlib.Omega.{arith}
 use lib.ListN.{length, take, get_or}
 use lib.Seq.{length-take-le}
 use borrow.Author.Rules.{rules}
-use Rattle.saving.specs.Saved.{nineLists, sumBy}
+use Rattle.saving.specs.Saved.{nine_lists, sum_by}
 use Rattle.saving.proofs.Lengths.{Sized, nine-sized, sum-most}
-use Rattle.saving.proofs.Putting.{Listing, leftFrom, all_left, log-room, logs-on, receipts-room, logs-end}
+use Rattle.saving.proofs.Putting.{Listing, left_from, all_left, log-room, logs-on, receipts-room, logs-end}
 use Rattle.saving.proofs.put_chains.Statement.{statement}
 use Rattle.saving.proofs.put_chains.Tie as tie
 
 abbrev invariant-loop : tie.invariant-loop
 invariant-loop out₀ store store2 len list list2 count k₀ i₀ out k i =
-    (i ≤ 8) × Sized (nineLists store store2 len list list2 count) len count
-    × Listing (nineLists store store2 len list list2 count) out₀ out k (leftFrom store store2 len list list2 count i)
+    (i ≤ 8) × Sized (nine_lists store store2 len list list2 count) len count
+    × Listing (nine_lists store store2 len list list2 count) out₀ out k (left_from store store2 len list list2 count i)
 
 abbrev decreases-loop : tie.decreases-loop
 decreases-loop out₀ store store2 len list list2 count k₀ i₀ out k i = 8 - i
@@ -25,8 +25,8 @@ decreases-loop out₀ store store2 len list list2 count k₀ i₀ out k i = 8 - 
 here : (c : tie.In-loop invariant-loop decreases-loop)
     → let s = c.before.before.before.before.before.before.before.before in
     let n = get_or s.args.len.now c.before.loop.i 0 in
-    (n ≤ 512) × (c.before.loop.k + n ≤ sumBy (s.args.len.now ++ (s.args.count ∷ [])) + 1)
-    × (sumBy (s.args.len.now ++ (s.args.count ∷ [])) ≤ 4608)
+    (n ≤ 512) × (c.before.loop.k + n ≤ sum_by (s.args.len.now ++ (s.args.count ∷ [])) + 1)
+    × (sum_by (s.args.len.now ++ (s.args.count ∷ [])) ≤ 4608)
 here c =
     let s = c.before.before.before.before.before.before.before.before in
     let a = s.args in

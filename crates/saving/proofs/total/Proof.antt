@@ -7,27 +7,27 @@ use native.Mathlib.Omega.{arith}
 use lib.ListN.{length, get_or, drop, drop_of_length-le}
 use lib.Seq.{drop-cons}
 use borrow.Author.Rules.{rules}
-use Rattle.saving.specs.Saved.{sumBy}
+use Rattle.saving.specs.Saved.{sum_by}
 use Rattle.saving.proofs.total.Statement.{statement}
 use Rattle.saving.proofs.total.Tie as tie
 
 -- The last of some numbers may as well be added first.
-last-first : (ns : List ℕ) (n : ℕ) → sumBy (ns ++ (n ∷ [])) ≡ n + sumBy ns
-unfolding sumBy
+last-first : (ns : List ℕ) (n : ℕ) → sum_by (ns ++ (n ∷ [])) ≡ n + sum_by ns
+unfolding sum_by
 last-first [] n = refl
 last-first (m ∷ ns) n = omega (arith, last-first ns n)
 
-next : (ns : List ℕ) (i : ℕ) → i < length ns → sumBy (drop i ns) ≡ get_or ns i 0 + sumBy (drop (i + 1) ns)
-unfolding sumBy
+next : (ns : List ℕ) (i : ℕ) → i < length ns → sum_by (drop i ns) ≡ get_or ns i 0 + sum_by (drop (i + 1) ns)
+unfolding sum_by
 next ns i h = rw (add-one i, drop-cons ns i 0 h)
 
-none : (ns : List ℕ) (i : ℕ) → length ns ≤ i → sumBy (drop i ns) ≡ 0
-unfolding sumBy
+none : (ns : List ℕ) (i : ℕ) → length ns ≤ i → sum_by (drop i ns) ≡ 0
+unfolding sum_by
 none ns i h = rw (drop_of_length-le ns h)
 
 abbrev invariant-loop : tie.invariant-loop
 invariant-loop len count sum₀ i₀ sum i =
-    (i ≤ 8) × (sum ≤ 512 * (i + 1)) × (sumBy (len ++ (count ∷ [])) ≡ sum + sumBy (drop i len))
+    (i ≤ 8) × (sum ≤ 512 * (i + 1)) × (sum_by (len ++ (count ∷ [])) ≡ sum + sum_by (drop i len))
 
 abbrev decreases-loop : tie.decreases-loop
 decreases-loop len count sum₀ i₀ sum i = 8 - i

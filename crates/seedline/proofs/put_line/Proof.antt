@@ -6,7 +6,7 @@ use lib.ListN.{length}
 use Rattle.text.specs.Text.{digits}
 use Rattle.text.proofs.Laws.{fits, fits_both, byte, rest, rest_both, then, then-both, wrote-length}
 use Rattle.lines.specs.Lines.{space, newline}
-use Rattle.seedline.specs.Line.{seedLine}
+use Rattle.seedline.specs.Line.{seed_line}
 use Rattle.seedline.proofs.put_line.Statement.{statement}
 use Rattle.seedline.proofs.put_line.Tie as tie
 
@@ -21,7 +21,7 @@ abbrev number : tie.After-put-byte → tie.After-put-number
 number c = c.before.before.before.before
 
 put-field-requires : tie.Need-put-field-requires
-unfolding seedLine
+unfolding seed_line
 put-field-requires c κs =
     let e = c.before.before in
     fits_both 0 (digits e.args.seed) space (digits e.args.count ++ newline) (omega (arith, e.requires))
@@ -29,7 +29,7 @@ put-field-requires c κs =
 -- The room after the seed and its space.
 room : (c : tie.After-put-field)
     → c.put-field.result + length (digits (start c).args.count ++ newline) ≤ length c.put-field.new.0
-unfolding seedLine
+unfolding seed_line
 room c =
     let e = start c in
     rest_both (digits e.args.seed) space (digits e.args.count ++ newline) c.put-field.ensures
@@ -46,7 +46,7 @@ put-byte-requires c κs =
     byte _ (rest (digits (start f).args.count) newline n.put-number.ensures (room f))
 
 returns : tie.Need-returns
-unfolding seedLine
+unfolding seed_line
 returns c =
     let b = c.before.before in
     let n = number b in

@@ -9,9 +9,9 @@ use borrow.Author.Rules.{rules}
 use borrow.Author.Tests.{not-true, not-false}
 use Rattle.model.proofs.Tests.{of-true}
 use Rattle.text.proofs.Laws.{read_back, wrote-length}
-use Rattle.reading.specs.Reading.{digitsAt}
+use Rattle.reading.specs.Reading.{digits_at}
 use Rattle.generator.proofs.Sheets.{is-count, count-range}
-use Rattle.seedline.specs.Line.{seedLine, Asks}
+use Rattle.seedline.specs.Line.{seed_line, Asks}
 use Rattle.seedline.proofs.Line.{line-most, line-short, seed-within, seed-back, count-back, line-back}
 use Rattle.seedline.proofs.read.Statement.{statement}
 use Rattle.seedline.proofs.read.Tie as tie
@@ -40,7 +40,7 @@ number-at-requires : tie.Need-number-at-requires
 number-at-requires c κs = search rules
 
 -- Where the seed ends.
-end_of : (c : tie.After-number-at) → c.number_at.result.end ≡ length (digitsAt (start c).args.input.now 0)
+end_of : (c : tie.After-number-at) → c.number_at.result.end ≡ length (digits_at (start c).args.input.now 0)
 end_of c = omega (arith, c.number_at.ensures.1)
 
 returns-2 : tie.Need-returns-2
@@ -61,7 +61,7 @@ module _ (c : tie.After-number-at2) {m n : ℕ} (a : Asks (start (first c)).args
   count-is = count-back a _ _ (end_of (first c)) c.number-at2.ensures.0
 
   line-is :
-      (start (first c)).args.input.now ≡ seedLine (first c).number_at.result.value c.number-at2.result.value
+      (start (first c)).args.input.now ≡ seed_line (first c).number_at.result.value c.number-at2.result.value
   line-is = line-back a _ _ seed-is count-is
 
 returns-3 : tie.Need-returns-3
@@ -84,7 +84,7 @@ cast-put-line-2 c = search rules
 
 -- The line of what was read has room aside.
 most : (c : tie.Else5) → let r = second c in
-    length (seedLine (first r).number_at.result.value r.number-at2.result.value) ≤ 16
+    length (seed_line (first r).number_at.result.value r.number-at2.result.value) ≤ 16
 most c =
     let r = second c in
     line-most (first r).number_at.result.value r.number-at2.result.value
@@ -111,7 +111,7 @@ same-requires c κs = search rules
 -- What stands aside is the line of what was read.
 aside : (c : tie.After-put-line) → let r = second (tested c) in
     take c.put-line.result c.put-line.new.0
-    ≡ seedLine (first r).number_at.result.value r.number-at2.result.value
+    ≡ seed_line (first r).number_at.result.value r.number-at2.result.value
 aside c = read_back c.put-line.ensures (short c)
 
 returns-6 : tie.Need-returns-6

@@ -7,7 +7,7 @@ use native.Mathlib.Omega.{arith}
 use lib.ListN.{length, length-take}
 use lib.Seq.{length-take-le}
 use borrow.Author.Tests.{not-true, not-false}
-use Rattle.records.specs.Bytes.{isSheet}
+use Rattle.records.specs.Bytes.{is_sheet}
 use Rattle.text.specs.Text.{Text}
 use Rattle.text.proofs.Laws.{wrote-length, read_back}
 use Rattle.running.proofs.Playing.{sheet-most, ran-fits, ran-terms, ran-issued, ran-most}
@@ -30,7 +30,7 @@ abbrev bytes : tie.Else2 → Text
 bytes c = (start c.before.before.before).args.sheet.now
 
 -- Refusal 2 let the sheet through.
-passed : (c : tie.Else2) → isSheet (bytes c) ≡ true
+passed : (c : tie.Else2) → is_sheet (bytes c) ≡ true
 passed c = sym c.before.is-sheet.ensures ∙ not-false _ c.if2.false
 
 deliver-requires : tie.Need-deliver-requires
@@ -128,7 +128,7 @@ deliver-requires-2 c κs =
     let most = sheet-most s (passed d) in (
       most,
       omega (arith, most, h.room),
-      omega (arith, most, h.setRoom),
+      omega (arith, most, h.set_room),
       omega (arith, w.put-ending.ensures.1, length-take w.put-ending.result w.put-ending.new.0),
       λ i q. omega (arith, ran-most s (passed d) (length s / 8 - 1) _ _ _ _ h i (omega (arith, q))),
     )

@@ -3,20 +3,20 @@ use mathlib.Core.Path.{refl}
 use Rattle.sheet.proofs.sample.Statement.{statement}
 use Rattle.sheet.proofs.sample.Tie as tie
 use Rattle.model.proofs.Table.{trials-hold}
-use Rattle.model.specs.Runs.{run, answers, setsBehind, given}
-use Rattle.text.specs.Text.{digits, digitsWithin, over}
+use Rattle.model.specs.Runs.{run, answers, sets_behind, given}
+use Rattle.text.specs.Text.{digits, digits_within, over}
 use Rattle.sheet.proofs.Listings.{refused-holds, still-refused, lengths-tell}
-use Rattle.records.specs.Bytes.{records, sheetBytes}
-use Rattle.lines.specs.Lines.{answerLine, fourthField, registryLine, controlLine, viewText, membersText, receiptText}
-use Rattle.listing.specs.Listing.{answerLines}
-use Rattle.ending.specs.Ending.{boardLine, boardLines, receiptsLine, receiptsText, ending}
-use Rattle.sheet.specs.Sheet.{SampleHolds, setsSheet, SetsHold, RoomHolds, UnopenedHolds, result, left, listing, listingOf}
+use Rattle.records.specs.Bytes.{records, sheet_bytes}
+use Rattle.lines.specs.Lines.{answer_line, fourth_field, registry_line, control_line, view_text, members_text, receipt_text}
+use Rattle.listing.specs.Listing.{answer_lines}
+use Rattle.ending.specs.Ending.{board_line, board_lines, receipts_line, receipts_text, ending}
+use Rattle.sheet.specs.Sheet.{SampleHolds, sets_sheet, SetsHold, RoomHolds, UnopenedHolds, result, left, listing, listing_of}
 
 returns : tie.Need-returns
-unfolding SampleHolds SetsHold setsSheet sheetBytes RoomHolds UnopenedHolds result left over listing listingOf
-    records answerLine answerLines
-    registryLine controlLine boardLine boardLines receiptsLine receiptsText receiptText ending viewText membersText
-    fourthField digits digitsWithin run answers setsBehind given
+unfolding SampleHolds SetsHold sets_sheet sheet_bytes RoomHolds UnopenedHolds result left over listing listing_of
+    records answer_line answer_lines
+    registry_line control_line board_line board_lines receipts_line receipts_text receipt_text ending view_text members_text
+    fourth_field digits digits_within run answers sets_behind given
 returns c = (
   (refl, refl, refl),
   (refl, refl),

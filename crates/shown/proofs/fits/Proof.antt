@@ -5,7 +5,7 @@ use lib.ListN.{length-map}
 use borrow.Author.Tests.{not-true, not-false}
 use borrow.Author.Rules.{rules}
 use Rattle.model.specs.Ranges.{in_range}
-use Rattle.cluster.specs.Layout.{outlineOf}
+use Rattle.cluster.specs.Layout.{outline_of}
 use Rattle.refinement.specs.Refinement.{Places, lent, Full, Shape}
 use Rattle.shown.proofs.Valid.{ready, fits-full, bad-lengths, bad-range, all-tests}
 use Rattle.shown.proofs.fits.Statement.{statement}
@@ -35,7 +35,7 @@ full c =
     let s = start c.before in
     fits-full s.args.row (places s) (sym c.before.lengths.ensures ∙ not-false _ c.if1.false)
 
-ranged : (c : tie.Else2) → in_range (outlineOf (start c.before.before.before).args.row) ≡ true
+ranged : (c : tie.Else2) → in_range (outline_of (start c.before.before.before).args.row) ≡ true
 ranged c = sym c.before.in-range.ensures ∙ not-false _ c.if2.false
 
 lengths-requires : tie.Need-lengths-requires

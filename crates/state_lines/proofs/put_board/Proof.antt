@@ -4,7 +4,7 @@ use Prim.Native.Nat.{◌+◌, ◌≤◌}
 use lib.ListN.{length}
 use Rattle.cluster.specs.Layout.{view_of}
 use Rattle.text.specs.Text.{Text, digits}
-use Rattle.lines.specs.Lines.{word, space, newline, viewText, lateWord, boardText}
+use Rattle.lines.specs.Lines.{word, space, newline, view_text, late_word, board_text}
 use Rattle.text.proofs.Laws.{fits, fits_both, rest, rest_both, then, then-both, wrote-length}
 use borrow.Author.Rules.{rules}
 use Rattle.state_lines.proofs.put_board.Statement.{statement}
@@ -12,7 +12,7 @@ use Rattle.state_lines.proofs.put_board.Tie as tie
 
 -- What is still to be written after the call j.
 abbrev text5 : tie.Start → Text
-text5 e = lateWord e.args.late ++ newline
+text5 e = late_word e.args.late ++ newline
 
 abbrev text4 : tie.Start → Text
 text4 e = digits e.args.len ++ (space ++ text5 e)
@@ -21,7 +21,7 @@ abbrev text3 : tie.Start → Text
 text3 e = digits e.args.joined ++ (space ++ text4 e)
 
 abbrev text2 : tie.Start → Text
-text2 e = viewText (view_of e.args.v) ++ (space ++ text3 e)
+text2 e = view_text (view_of e.args.v) ++ (space ++ text3 e)
 
 abbrev text1 : tie.Start → Text
 text1 e = digits e.args.b ++ (space ++ text2 e)
@@ -46,12 +46,12 @@ slice-aggregate-put-bytes : tie.Need-slice-aggregate-put-bytes
 slice-aggregate-put-bytes c = search rules
 
 put-bytes-requires : tie.Need-put-bytes-requires
-unfolding boardText
+unfolding board_text
 put-bytes-requires c κs = let e = c.before.before.before in fits _ (word "board ") (text1 e) e.requires
 
 -- The room that is left after the call j, then the need of the next.
 room1 : (c : tie.After-put-bytes) → c.put-bytes.result + length (text1 (start1 c)) ≤ length c.put-bytes.new.0
-unfolding boardText
+unfolding board_text
 room1 c =
     let e = start1 c in
     rest (word "board ") (text1 e) c.put-bytes.ensures e.pre
@@ -71,12 +71,12 @@ put-view-requires : tie.Need-put-view-requires
 put-view-requires c κs =
     let d = c.before.before.before in
     let e = start2 d in
-    fits_both _ (viewText (view_of e.args.v)) space (text3 e) (room2 d)
+    fits_both _ (view_text (view_of e.args.v)) space (text3 e) (room2 d)
 
 room3 : (c : tie.After-put-view) → c.put_view.result + length (text3 (start3 c)) ≤ length c.put_view.new.0
 room3 c =
     let e = start3 c in
-    rest_both (viewText (view_of e.args.v)) space (text3 e) c.put_view.ensures
+    rest_both (view_text (view_of e.args.v)) space (text3 e) c.put_view.ensures
     (room2 c.before.before.before.before)
 
 put-field-requires-2 : tie.Need-put-field-requires-2
@@ -107,7 +107,7 @@ put-late-requires : tie.Need-put-late-requires
 put-late-requires c κs = room5 c.before.before.before
 
 returns : tie.Need-returns
-unfolding boardText
+unfolding board_text
 returns c =
     let p4 = c.before.before.before.before.before.before in
     let p3 = p4.before.before.before.before in
@@ -117,7 +117,7 @@ returns c =
     let e = start1 p0 in
     then p0.put-bytes.ensures
     (then-both (digits e.args.b) space p1.put-field.ensures
-    (then-both (viewText (view_of e.args.v)) space p2.put_view.ensures
+    (then-both (view_text (view_of e.args.v)) space p2.put_view.ensures
     (then-both (digits e.args.joined) space p3.put-field2.ensures
     (then-both (digits e.args.len) space p4.put-field3.ensures c.before.before.put-late.ensures))))
 

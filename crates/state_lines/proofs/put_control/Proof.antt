@@ -1,8 +1,8 @@
 -- `state_lines::put_control` meets its contract. Assumes nothing.
 use mathlib.Core.List.{◌++◌}
-use Rattle.cluster.specs.Layout.{stageOf, view_of}
+use Rattle.cluster.specs.Layout.{stage_of, view_of}
 use Rattle.text.specs.Text.{Text}
-use Rattle.lines.specs.Lines.{word, space, newline, viewText, stageWord, controlLine}
+use Rattle.lines.specs.Lines.{word, space, newline, view_text, stage_word, control_line}
 use Rattle.text.proofs.Laws.{fits, wrote-length}
 use Rattle.lines.proofs.Wording.{view-fits, end_fits, line_wrote}
 use borrow.Author.Rules.{rules}
@@ -17,29 +17,29 @@ abbrev head : Text
 head = word "control "
 
 abbrev view : tie.Start → Text
-view e = viewText (view_of e.args.k.view)
+view e = view_text (view_of e.args.k.view)
 
 abbrev last : tie.Start → Text
-last e = stageWord (stageOf e.args.k.stage) ++ newline
+last e = stage_word (stage_of e.args.k.stage) ++ newline
 
 slice-aggregate-put-bytes : tie.Need-slice-aggregate-put-bytes
 slice-aggregate-put-bytes c = search rules
 
 put-bytes-requires : tie.Need-put-bytes-requires
-unfolding controlLine
+unfolding control_line
 put-bytes-requires c κs =
     let e = c.before.before.before.before in
     fits _ head (view e ++ (space ++ last e)) e.requires
 
 put-view-requires : tie.Need-put-view-requires
-unfolding controlLine
+unfolding control_line
 put-view-requires c κs =
     let a = c.before.before.before in
     let e = start a in
     view-fits head (view e) (last e) a.put-bytes.ensures e.pre
 
 put-stage-requires : tie.Need-put-stage-requires
-unfolding controlLine
+unfolding control_line
 put-stage-requires c κs =
     let b = c.before.before.before in
     let a = b.before.before.before.before in
@@ -47,7 +47,7 @@ put-stage-requires c κs =
     end_fits head (view e) (last e) a.put-bytes.ensures b.put_view.ensures e.pre
 
 returns : tie.Need-returns
-unfolding controlLine
+unfolding control_line
 returns c =
     let b = c.before.before.before.before.before.before in
     let a = b.before.before.before.before in

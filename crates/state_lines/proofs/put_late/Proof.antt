@@ -2,14 +2,14 @@
 use mathlib.Core.Bool.{Bool}
 use mathlib.Core.List.{◌++◌}
 use Rattle.text.specs.Text.{Text}
-use Rattle.lines.specs.Lines.{newline, lateWord}
+use Rattle.lines.specs.Lines.{newline, late_word}
 use Rattle.lines.proofs.Wording.{case-fits, case-wrote}
 use borrow.Author.Rules.{rules}
 use Rattle.state_lines.proofs.put_late.Statement.{statement}
 use Rattle.state_lines.proofs.put_late.Tie as tie
 
 abbrev text : Bool → Text
-text late = lateWord late ++ newline
+text late = late_word late ++ newline
 
 slice-aggregate-put-bytes : tie.Need-slice-aggregate-put-bytes
 slice-aggregate-put-bytes c = search rules

@@ -4,14 +4,14 @@ use Prim.Native.Nat.{◌+◌, ◌≤◌}
 use lib.ListN.{length}
 use Rattle.members.specs.Mask.{bits}
 use Rattle.text.specs.Text.{Text, digits}
-use Rattle.lines.specs.Lines.{space, membersText, viewText}
+use Rattle.lines.specs.Lines.{space, members_text, view_text}
 use Rattle.text.proofs.Laws.{fits_both, rest_both, then-both, wrote-length}
 use Rattle.state_lines.proofs.put_parts.Statement.{statement}
 use Rattle.state_lines.proofs.put_parts.Tie as tie
 
 -- What is still to be written after the call j.
 abbrev text3 : tie.Start → Text
-text3 e = membersText (bits e.args.m)
+text3 e = members_text (bits e.args.m)
 
 abbrev text2 : tie.Start → Text
 text2 e = digits e.args.leader ++ (space ++ text3 e)
@@ -30,12 +30,12 @@ abbrev start3 : tie.After-put-field3 → tie.Start
 start3 c = start2 c.before.before.before.before
 
 put-field-requires : tie.Need-put-field-requires
-unfolding viewText
+unfolding view_text
 put-field-requires c κs = let e = c.before.before in fits_both _ (digits e.args.epoch) space (text1 e) e.requires
 
 -- The room that is left after the call j, then the need of the next.
 room1 : (c : tie.After-put-field) → c.put-field.result + length (text1 (start1 c)) ≤ length c.put-field.new.0
-unfolding viewText
+unfolding view_text
 room1 c =
     let e = start1 c in
     rest_both (digits e.args.epoch) space (text1 e) c.put-field.ensures e.pre
@@ -68,7 +68,7 @@ put-members-requires : tie.Need-put-members-requires
 put-members-requires c κs = room3 c.before.before.before
 
 returns : tie.Need-returns
-unfolding viewText
+unfolding view_text
 returns c =
     let p3 = c.before.before.before.before.before.before in
     let p2 = p3.before.before.before.before in

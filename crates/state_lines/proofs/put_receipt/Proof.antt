@@ -3,7 +3,7 @@ use mathlib.Core.List.{◌++◌}
 use Prim.Native.Nat.{◌+◌, ◌≤◌}
 use lib.ListN.{length}
 use Rattle.text.specs.Text.{Text, digits}
-use Rattle.lines.specs.Lines.{word, receiptText}
+use Rattle.lines.specs.Lines.{word, receipt_text}
 use Rattle.text.proofs.Laws.{fits, byte, rest, then, wrote-length}
 use Rattle.state_lines.proofs.put_receipt.Statement.{statement}
 use Rattle.state_lines.proofs.put_receipt.Tie as tie
@@ -23,12 +23,12 @@ abbrev start2 : tie.After-put-byte → tie.Start
 start2 c = start1 c.before.before.before.before
 
 put-number-requires : tie.Need-put-number-requires
-unfolding receiptText
+unfolding receipt_text
 put-number-requires c κs = let e = c.before.before in fits _ (digits e.args.value) (text1 e) e.requires
 
 -- The room that is left after the call j, then the need of the next.
 room1 : (c : tie.After-put-number) → c.put-number.result + length (text1 (start1 c)) ≤ length c.put-number.new.0
-unfolding receiptText
+unfolding receipt_text
 room1 c =
     let e = start1 c in
     rest (digits e.args.value) (text1 e) c.put-number.ensures e.pre
@@ -44,7 +44,7 @@ put-number-requires-2 c κs =
     rest (word "@") (text2 (start2 d)) d.put_byte.ensures (room1 d.before.before.before.before)
 
 returns : tie.Need-returns
-unfolding receiptText
+unfolding receipt_text
 returns c =
     let p2 = c.before.before.before.before.before.before in
     let p1 = p2.before.before.before.before in

@@ -1,8 +1,8 @@
 -- `state_lines::put_registry` meets its contract. Assumes nothing.
 use mathlib.Core.List.{◌++◌}
-use Rattle.cluster.specs.Layout.{statusOf, view_of}
+use Rattle.cluster.specs.Layout.{status_of, view_of}
 use Rattle.text.specs.Text.{Text}
-use Rattle.lines.specs.Lines.{word, space, newline, viewText, statusWord, registryLine}
+use Rattle.lines.specs.Lines.{word, space, newline, view_text, status_word, registry_line}
 use Rattle.text.proofs.Laws.{fits, wrote-length}
 use Rattle.lines.proofs.Wording.{view-fits, end_fits, line_wrote}
 use borrow.Author.Rules.{rules}
@@ -17,29 +17,29 @@ abbrev head : Text
 head = word "registry "
 
 abbrev view : tie.Start → Text
-view e = viewText (view_of e.args.r.view)
+view e = view_text (view_of e.args.r.view)
 
 abbrev last : tie.Start → Text
-last e = statusWord (statusOf e.args.r.status) ++ newline
+last e = status_word (status_of e.args.r.status) ++ newline
 
 slice-aggregate-put-bytes : tie.Need-slice-aggregate-put-bytes
 slice-aggregate-put-bytes c = search rules
 
 put-bytes-requires : tie.Need-put-bytes-requires
-unfolding registryLine
+unfolding registry_line
 put-bytes-requires c κs =
     let e = c.before.before.before.before in
     fits _ head (view e ++ (space ++ last e)) e.requires
 
 put-view-requires : tie.Need-put-view-requires
-unfolding registryLine
+unfolding registry_line
 put-view-requires c κs =
     let a = c.before.before.before in
     let e = start a in
     view-fits head (view e) (last e) a.put-bytes.ensures e.pre
 
 put-status-requires : tie.Need-put-status-requires
-unfolding registryLine
+unfolding registry_line
 put-status-requires c κs =
     let b = c.before.before.before in
     let a = b.before.before.before.before in
@@ -47,7 +47,7 @@ put-status-requires c κs =
     end_fits head (view e) (last e) a.put-bytes.ensures b.put_view.ensures e.pre
 
 returns : tie.Need-returns
-unfolding registryLine
+unfolding registry_line
 returns c =
     let b = c.before.before.before.before.before.before in
     let a = b.before.before.before.before in

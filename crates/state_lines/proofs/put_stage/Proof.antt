@@ -1,16 +1,16 @@
 -- `state_lines::put_stage` meets its contract. Assumes nothing.
 use mathlib.Core.List.{◌++◌}
-use Rattle.cluster.specs.Layout.{stageOf}
+use Rattle.cluster.specs.Layout.{stage_of}
 use Rattle.cluster.specs.declared.Stage.{Stage}
 use Rattle.text.specs.Text.{Text}
-use Rattle.lines.specs.Lines.{newline, stageWord}
+use Rattle.lines.specs.Lines.{newline, stage_word}
 use Rattle.lines.proofs.Wording.{case-fits, case-wrote}
 use borrow.Author.Rules.{rules}
 use Rattle.state_lines.proofs.put_stage.Statement.{statement}
 use Rattle.state_lines.proofs.put_stage.Tie as tie
 
 abbrev text : Stage → Text
-text g = stageWord (stageOf g) ++ newline
+text g = stage_word (stage_of g) ++ newline
 
 enum_told : tie.Need-enum-told
 enum_told c = search rules

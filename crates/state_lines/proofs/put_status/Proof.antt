@@ -1,16 +1,16 @@
 -- `state_lines::put_status` meets its contract. Assumes nothing.
 use mathlib.Core.List.{◌++◌}
-use Rattle.cluster.specs.Layout.{statusOf}
+use Rattle.cluster.specs.Layout.{status_of}
 use Rattle.cluster.specs.declared.Status.{Status}
 use Rattle.text.specs.Text.{Text}
-use Rattle.lines.specs.Lines.{newline, statusWord}
+use Rattle.lines.specs.Lines.{newline, status_word}
 use Rattle.lines.proofs.Wording.{case-fits, case-wrote}
 use borrow.Author.Rules.{rules}
 use Rattle.state_lines.proofs.put_status.Statement.{statement}
 use Rattle.state_lines.proofs.put_status.Tie as tie
 
 abbrev text : Status → Text
-text g = statusWord (statusOf g) ++ newline
+text g = status_word (status_of g) ++ newline
 
 enum_told : tie.Need-enum-told
 enum_told c = search rules

@@ -1,18 +1,18 @@
 -- `state_lines::put_view` meets its contract. Assumes nothing.
 use Rattle.cluster.specs.Layout.{view_of}
 use Rattle.text.proofs.Laws.{fits, byte, rest, then}
-use Rattle.lines.specs.Lines.{space, viewText}
+use Rattle.lines.specs.Lines.{space, view_text}
 use borrow.Author.Rules.{rules}
 use Rattle.state_lines.proofs.put_view.Statement.{statement}
 use Rattle.state_lines.proofs.put_view.Tie as tie
 
 put-parts-requires : tie.Need-put-parts-requires
-put-parts-requires c κs = let e = c.before.before in fits _ (viewText (view_of e.args.v)) space e.requires
+put-parts-requires c κs = let e = c.before.before in fits _ (view_text (view_of e.args.v)) space e.requires
 
 put-byte-requires : tie.Need-put-byte-requires
 put-byte-requires c κs =
     let e = c.before.before.before.before.before.before in
-    byte _ (rest (viewText (view_of e.args.v)) space c.before.before.before.put-parts.ensures e.requires)
+    byte _ (rest (view_text (view_of e.args.v)) space c.before.before.before.put-parts.ensures e.requires)
 
 same_length : tie.Need-same-length
 same_length c = search rules

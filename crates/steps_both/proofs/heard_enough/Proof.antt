@@ -6,12 +6,12 @@ use borrow.Author.Rules.{rules}
 use Rattle.members.specs.Mask.{bits, under}
 use Rattle.members.proofs.Laws.{under_none, gathered}
 use Rattle.cluster.proofs.Laws.{at-index}
-use Rattle.steps_both.specs.Heard.{longEnough}
+use Rattle.steps_both.specs.Heard.{long_enough}
 use Rattle.steps_both.proofs.heard_enough.Statement.{statement}
 use Rattle.steps_both.proofs.heard_enough.Tie as tie
 
 abbrev invariant-loop : tie.invariant-loop
-invariant-loop low heard q₀ b₀ q b = (1 ≤ b) × (b ≤ 9) × (bits q ≡ under b (longEnough heard low))
+invariant-loop low heard q₀ b₀ q b = (1 ≤ b) × (b ≤ 9) × (bits q ≡ under b (long_enough heard low))
 
 abbrev decreases-loop : tie.decreases-loop
 decreases-loop low heard q₀ b₀ q b = 9 - b
@@ -44,11 +44,11 @@ loop-less : tie.Need-loop-smaller invariant-loop decreases-loop
 loop-less c = search rules
 
 loop-again : tie.Need-loop-preserved invariant-loop decreases-loop
-unfolding longEnough
+unfolding long_enough
 loop-again c =
     let l = c.before.before.before.loop in
     let a = c.before.before.before.before.args in
-    let p = longEnough a.t1 a.low in (
+    let p = long_enough a.t1 a.low in (
       search rules,
       search rules,
       gathered p l.b l.q _ _ l.invariant.0 (search rules) l.invariant.2 c.put.ensures

@@ -4,15 +4,15 @@ use mathlib.Core.Path.{refl, sym}
 use Prim.Native.Nat.{◌-◌}
 use lib.ListN.{get_or}
 use Rattle.model.specs.Prelude.{Check}
-use Rattle.model.specs.Members.{isReplica}
+use Rattle.model.specs.Members.{is_replica}
 use Rattle.model.specs.Steps.{install}
 use Rattle.model.proofs.Tests.{is_true}
 use Rattle.cluster.specs.declared.Status.TheVariants.{Waiting}
 use Rattle.cluster.specs.declared.Stage.TheVariants.{Leader}
 use Rattle.cluster.proofs.Steps.{settles}
-use Rattle.steps_both.specs.Checks.{installChecks}
+use Rattle.steps_both.specs.Checks.{install_checks}
 use Rattle.steps_both.proofs.Answers.{install-answer, install-set}
-use Rattle.steps_both.proofs.Afters.{installedView, both-after}
+use Rattle.steps_both.proofs.Afters.{installed_view, both-after}
 use borrow.Author.Rules.{rules}
 use Rattle.steps_both.proofs.install.Statement.{statement}
 use Rattle.steps_both.proofs.install.Tie as tie
@@ -32,7 +32,7 @@ abbrev made : tie.After-may-install → List Check
 made c =
     let a = (entry c).args in
     let k = (own c).seat.result in
-    installChecks a.r a.c.view a.c.stage (get_or a.c.heard (k - 1) 0) c.before.both.result k a.b
+    install_checks a.r a.c.view a.c.stage (get_or a.c.heard (k - 1) 0) c.before.both.result k a.b
 
 seat-requires : tie.Need-seat-requires
 seat-requires c κs = search rules
@@ -86,9 +86,9 @@ returns-2 c =
     (install-answer a.r a.c a.b _ _ _ seat (those d).ranked-not-above.ensures d.before.both.ensures) _
     d.may-install.ensures (sym c.before.if1.false) (λ h. absurd (h refl))
     (λ _ h s. install-set a.r a.c a.b _ _ _ seat (those d).ranked-not-above.ensures
-    d.before.both.ensures (is_true (isReplica a.b) (h 1)))
+    d.before.both.ensures (is_true (is_replica a.b) (h 1)))
     (λ h. absurd (h refl))
-    (λ _ h s. both-after a.r a.c _ c.raised.ensures (installedView a.b) Waiting Leader (h 7))
+    (λ _ h s. both-after a.r a.c _ c.raised.ensures (installed_view a.b) Waiting Leader (h 7))
 
 pub install-spec : {M : Type 1} → statement M
 install-spec =

@@ -6,12 +6,12 @@ use borrow.Author.Rules.{rules}
 use Rattle.members.specs.Mask.{bits, under}
 use Rattle.members.proofs.Laws.{under_none, gathered}
 use Rattle.cluster.proofs.Laws.{at-index}
-use Rattle.steps_both.specs.Heard.{notAbove}
+use Rattle.steps_both.specs.Heard.{not_above}
 use Rattle.steps_both.proofs.ranked_not_above.Statement.{statement}
 use Rattle.steps_both.proofs.ranked_not_above.Tie as tie
 
 abbrev invariant-loop : tie.invariant-loop
-invariant-loop l k heard joined q₀ b₀ q b = (1 ≤ b) × (b ≤ 9) × (bits q ≡ under b (notAbove heard joined l k))
+invariant-loop l k heard joined q₀ b₀ q b = (1 ≤ b) × (b ≤ 9) × (bits q ≡ under b (not_above heard joined l k))
 
 abbrev decreases-loop : tie.decreases-loop
 decreases-loop l k heard joined q₀ b₀ q b = 9 - b
@@ -50,13 +50,13 @@ loop-less : tie.Need-loop-smaller invariant-loop decreases-loop
 loop-less c = search rules
 
 loop-again : tie.Need-loop-preserved invariant-loop decreases-loop
-unfolding notAbove
+unfolding not_above
 loop-again c =
     let l = c.before.before.before.loop in
     let a = c.before.before.before.before.args in
     let heard = at-index 0 a.t1 l.b l.invariant.0 in
     let joined = at-index 0 a.t2 l.b l.invariant.0 in
-    let p = notAbove a.t1 a.t2 a.l a.k in (
+    let p = not_above a.t1 a.t2 a.l a.k in (
       search rules,
       search rules,
       gathered p l.b l.q _ _ l.invariant.0 (search rules) l.invariant.2 c.put.ensures

@@ -1,6 +1,6 @@
 -- `steps_central::change` meets its contract. Assumes nothing.
 use mathlib.Core.Path.{refl}
-use Rattle.model.specs.Steps.{changeLeader}
+use Rattle.model.specs.Steps.{change_leader}
 use Rattle.steps_central.proofs.Governing.{rules-govern}
 use borrow.Author.Rules.{rules}
 use Rattle.steps_central.proofs.change.Statement.{statement}
@@ -12,7 +12,7 @@ change-requires c κs = search rules
 returns : tie.Need-returns
 returns c =
     let a = c.before.before.args in
-    λ views joined len s. rules-govern changeLeader a.g a.c views joined len s
+    λ views joined len s. rules-govern change_leader a.g a.c views joined len s
     (record { state = λ _. refl; places = refl }) (λ _. refl) _ c.before.change.ensures
 
 pub change-spec : {M : Type 1} → statement M

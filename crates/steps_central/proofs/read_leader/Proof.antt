@@ -1,6 +1,6 @@
 -- `steps_central::read_leader` meets its contract. Assumes nothing.
 use mathlib.Core.Path.{refl}
-use Rattle.model.specs.Steps.{readLeader}
+use Rattle.model.specs.Steps.{read_leader}
 use Rattle.refinement.proofs.Turning.{short-at}
 use Rattle.steps_central.proofs.Governing.{tells-govern, seated}
 use borrow.Author.Rules.{rules}
@@ -38,7 +38,7 @@ returns c =
     let a = c.before.before.before.before.before.before.before.args in
     let p = c.before.before.before.before.before.before.before.requires in
     let k = c.before.before.before.before.seat.ensures in
-    λ joined. tells-govern readLeader a.g a.c a.t3 joined a.len.now p.1
+    λ joined. tells-govern read_leader a.g a.c a.t3 joined a.len.now p.1
     (record { state = λ _. refl; places = refl }) (λ _. refl) _ c.before.read-leader.ensures
     (λ acked issued q full t.
     let f = seated a.len.now p.1 _ k.0 a.g a.c a.t3 joined acked issued a.c.view.leader k.2

@@ -1,6 +1,6 @@
 -- `steps_central::set_normal` meets its contract. Assumes nothing.
 use mathlib.Core.Path.{refl}
-use Rattle.model.specs.Steps.{setNormal}
+use Rattle.model.specs.Steps.{set_normal}
 use Rattle.steps_central.proofs.Governing.{settles-govern}
 use borrow.Author.Rules.{rules}
 use Rattle.steps_central.proofs.set_normal.Statement.{statement}
@@ -12,7 +12,7 @@ set-normal-requires c κs = search rules
 returns : tie.Need-returns
 returns c =
     let a = c.before.args in
-    λ views joined len s. settles-govern setNormal a.g a.c views joined len s
+    λ views joined len s. settles-govern set_normal a.g a.c views joined len s
     (record { state = λ _. refl; places = refl }) _ c.set-normal.ensures
 
 pub set-normal-spec : {M : Type 1} → statement M

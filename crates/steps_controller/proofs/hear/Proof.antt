@@ -6,7 +6,7 @@ use lib.ListN.{get_or}
 use Rattle.model.specs.Prelude.{Check}
 use Rattle.model.specs.Steps.{hear}
 use Rattle.cluster.proofs.Steps.{tells}
-use Rattle.steps_controller.specs.Checks.{hearChecks}
+use Rattle.steps_controller.specs.Checks.{hear_checks}
 use Rattle.steps_controller.specs.Known.{HearKnown}
 use Rattle.steps_controller.proofs.Answers.{hear-answer}
 use Rattle.steps_controller.proofs.Afters.{hear-after}
@@ -26,7 +26,7 @@ abbrev made : tie.After-may-hear → List Check
 made c =
     let a = (entry c).args in
     let k = (own c).seat.result in
-    hearChecks a.t1.view a.t1.stage (get_or a.t1.heard (k - 1) 0) a.e a.n k a.b
+    hear_checks a.t1.view a.t1.stage (get_or a.t1.heard (k - 1) 0) a.e a.n k a.b
 
 seat-requires : tie.Need-seat-requires
 seat-requires c κs = search rules

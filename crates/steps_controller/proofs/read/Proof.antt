@@ -6,7 +6,7 @@ use lib.ListN.{get_or}
 use Rattle.model.specs.Prelude.{Check}
 use Rattle.model.specs.Steps.{read}
 use Rattle.cluster.proofs.Steps.{tells}
-use Rattle.steps_controller.specs.Checks.{readChecks}
+use Rattle.steps_controller.specs.Checks.{read_checks}
 use Rattle.steps_controller.specs.Known.{ReadKnown}
 use Rattle.steps_controller.proofs.Answers.{read_answer}
 use Rattle.steps_controller.proofs.Afters.{read-after}
@@ -26,7 +26,7 @@ abbrev made : tie.After-may-read → List Check
 made c =
     let a = (entry c).args in
     let k = (own c).seat.result in
-    readChecks a.t1.view a.t1.stage (get_or a.t1.heard (k - 1) 0) a.j a.n k a.b
+    read_checks a.t1.view a.t1.stage (get_or a.t1.heard (k - 1) 0) a.j a.n k a.b
 
 seat-requires : tie.Need-seat-requires
 seat-requires c κs = search rules

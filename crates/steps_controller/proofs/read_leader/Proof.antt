@@ -1,8 +1,8 @@
 -- `steps_controller::read_leader` meets its contract. Assumes nothing.
 use mathlib.Core.Path.{refl, sym}
-use Rattle.model.specs.Steps.{readLeader}
+use Rattle.model.specs.Steps.{read_leader}
 use Rattle.cluster.proofs.Steps.{tells}
-use Rattle.steps_controller.specs.Checks.{readLeaderChecks}
+use Rattle.steps_controller.specs.Checks.{read_leader_checks}
 use Rattle.steps_controller.specs.Known.{LeaderKnown}
 use Rattle.steps_controller.proofs.Answers.{read-leader-answer}
 use Rattle.steps_controller.proofs.Afters.{read-leader-after}
@@ -27,7 +27,7 @@ returns : tie.Need-returns
 returns c =
     let d = c.before in
     let a = (entry d).args in
-    tells readLeader (readLeaderChecks a.c.view a.c.stage a.e) tt (LeaderKnown a.c a.e a.n) a.c
+    tells read_leader (read_leader_checks a.c.view a.c.stage a.e) tt (LeaderKnown a.c a.e a.n) a.c
     (read-leader-answer a.c a.e a.n) _
     d.may-read-leader.ensures refl (λ _. refl) (λ z. absurd (c.if1.true z))
 
@@ -38,7 +38,7 @@ returns-2 : tie.Need-returns-2
 returns-2 c =
     let d = c.before.before in
     let a = (entry d).args in
-    tells readLeader (readLeaderChecks a.c.view a.c.stage a.e) tt (LeaderKnown a.c a.e a.n) a.c
+    tells read_leader (read_leader_checks a.c.view a.c.stage a.e) tt (LeaderKnown a.c a.e a.n) a.c
     (read-leader-answer a.c a.e a.n) _
     d.may-read-leader.ensures (sym c.before.if1.false) (λ h. absurd (h refl))
     (λ _. read-leader-after a.c c.heard.result _ a.n a.e (entry d).requires.0

@@ -2,7 +2,7 @@
 use mathlib.Core.Path.{refl, sym}
 use Rattle.model.specs.Steps.{refreshController}
 use Rattle.cluster.proofs.Steps.{tells}
-use Rattle.steps_controller.specs.Checks.{refreshControllerChecks}
+use Rattle.steps_controller.specs.Checks.{refresh_controller_checks}
 use Rattle.steps_controller.specs.Known.{RegistryKnown}
 use Rattle.steps_controller.proofs.Answers.{refresh-controller-answer}
 use Rattle.steps_controller.proofs.Afters.{refresh-controller-after}
@@ -21,7 +21,7 @@ returns : tie.Need-returns
 returns c =
     let d = c.before in
     let a = (entry d).args in
-    tells refreshController (refreshControllerChecks a.c.view a.r.view) tt (RegistryKnown a.r) a.c
+    tells refreshController (refresh_controller_checks a.c.view a.r.view) tt (RegistryKnown a.r) a.c
     (refresh-controller-answer a.c a.r) _
     d.may-refresh-controller.ensures refl (λ _. refl) (λ z. absurd (c.if1.true z))
 
@@ -32,7 +32,7 @@ returns-2 : tie.Need-returns-2
 returns-2 c =
     let d = c.before.before in
     let a = (entry d).args in
-    tells refreshController (refreshControllerChecks a.c.view a.r.view) tt (RegistryKnown a.r) a.c
+    tells refreshController (refresh_controller_checks a.c.view a.r.view) tt (RegistryKnown a.r) a.c
     (refresh-controller-answer a.c a.r) _
     d.may-refresh-controller.ensures (sym c.before.if1.false) (λ h. absurd (h refl))
     (λ _ _. refresh-controller-after a.c a.r c.stage.result c.stage.ensures)

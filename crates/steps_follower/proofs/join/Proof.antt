@@ -8,7 +8,7 @@ use Rattle.model.specs.Steps.{join, answer_of}
 use Rattle.cluster.specs.declared.Registry.{Registry}
 use Rattle.cluster.specs.declared.Controller.{Controller}
 use Rattle.cluster.specs.declared.Cluster.{Cluster}
-use Rattle.cluster.specs.Layout.{outlineOf}
+use Rattle.cluster.specs.Layout.{outline_of}
 use Rattle.refinement.specs.Refinement.{row_of}
 use Rattle.refinement.proofs.Turning.{bits_none, logged-full, turns-refused, turns-accepted, short-at, len_short}
 use Rattle.steps_follower.proofs.Answers.{join-answer}
@@ -32,7 +32,7 @@ row c g k acked issued =
 
 -- the checks
 answers : (c : tie.After-may-join) (g : Registry) (k : Controller) (acked : List ℕ) (issued : ℕ) → c.may-join.result
-    ≡ answer_of (outlineOf (row c g k acked issued)) (join (entry c).args.b)
+    ≡ answer_of (outline_of (row c g k acked issued)) (join (entry c).args.b)
 answers c g k acked issued =
     c.may-join.ensures ∙ join-answer (row c g k acked issued) (entry c).args.b _ (own c).seat.ensures.2 _
     c.before.before.before.before.view.ensures _ (other c).seat2.ensures.2 (entry c).requires.0 _

@@ -10,7 +10,7 @@ use Rattle.model.proofs.Answer.{zero-accepted}
 use Rattle.cluster.specs.declared.Registry.{Registry}
 use Rattle.cluster.specs.declared.Controller.{Controller}
 use Rattle.cluster.specs.declared.Cluster.{Cluster}
-use Rattle.cluster.specs.Layout.{outlineOf}
+use Rattle.cluster.specs.Layout.{outline_of}
 use Rattle.refinement.specs.Refinement.{lent, row_of}
 use Rattle.refinement.proofs.Turning.{bits_none, turns-refused, turns-accepted, short-at, fits_next, len_short}
 use Rattle.steps_follower.proofs.Answers.{receive-room, receive-answer}
@@ -38,7 +38,7 @@ row c g k acked issued =
 
 -- the checks, and what their 0 says
 answers : (c : tie.After-may-receive) (g : Registry) (k : Controller) (acked : List ℕ) (issued : ℕ)
-    → c.may-receive.result ≡ answer_of (outlineOf (row c g k acked issued)) (receive (entry c).args.b)
+    → c.may-receive.result ≡ answer_of (outline_of (row c g k acked issued)) (receive (entry c).args.b)
 answers c g k acked issued =
     c.may-receive.ensures ∙ receive-answer (row c g k acked issued) (entry c).args.b _ (own c).seat.ensures.2 _
     c.before.before.before.before.before.before.view.ensures _ (other c).seat2.ensures.2 (entry c).requires.0
@@ -151,7 +151,7 @@ returns-2 c g k acked issued list list2 few full =
     let s = c.before.before.before.before.receive-entry.ensures in
     let w = (λ i. lent (s.0 i) (s.1 i) list list2)
     ∙ receive-places r q a.b _ h.2 _ d.before.before.before.before.before.before.view.ensures _
-    (other d).seat2.ensures.2 p.0 (zero-accepted (outlineOf r) (receive a.b) (sym e ∙ z)) in
+    (other d).seat2.ensures.2 p.0 (zero-accepted (outline_of r) (receive a.b) (sym e ∙ z)) in
     turns-accepted r p.2 few q full _ _ _ _ _ e z bits_none (receive-after r p.2 q full a.b _ h.2 _ w)
     (len_short a.len.now p.2 _ _ h.0 h.1 (omega (arith, room d z))) few w
 

@@ -9,7 +9,7 @@ use Rattle.cluster.specs.declared.Status.{Status}
 use Rattle.cluster.specs.declared.Controller.{Controller}
 use Rattle.cluster.specs.declared.View.{View}
 use Rattle.cluster.specs.declared.Cluster.{Cluster}
-use Rattle.cluster.specs.Layout.{no_view, outlineOf}
+use Rattle.cluster.specs.Layout.{no_view, outline_of}
 use Rattle.refinement.specs.Refinement.{row_of, Leaves}
 use Rattle.refinement.proofs.Turning.{bits_none, turns-refused, turns-accepted, set-idle}
 use Rattle.steps_follower.proofs.Answers.{refresh-answer}
@@ -31,7 +31,7 @@ row c s k vs issued =
 
 -- the checks
 answers : (c : tie.After-may-refresh) (s : Status) (k : Controller) (issued : ℕ) → c.may-refresh.result
-    ≡ answer_of (outlineOf (row c s k (entry c).args.views issued)) (refresh (entry c).args.b)
+    ≡ answer_of (outline_of (row c s k (entry c).args.views issued)) (refresh (entry c).args.b)
 answers c s k issued =
     c.may-refresh.ensures ∙ refresh-answer (row c s k (entry c).args.views issued) (entry c).args.b _
     (own c).seat.ensures.2 _ c.before.view.ensures

@@ -7,7 +7,7 @@ use Rattle.model.specs.Steps.{acknowledge, answer_of}
 use Rattle.cluster.specs.declared.Registry.{Registry}
 use Rattle.cluster.specs.declared.Controller.{Controller}
 use Rattle.cluster.specs.declared.Cluster.{Cluster}
-use Rattle.cluster.specs.Layout.{outlineOf}
+use Rattle.cluster.specs.Layout.{outline_of}
 use Rattle.refinement.specs.Refinement.{row_of}
 use Rattle.refinement.proofs.Turning.{bits_none, turns-refused, turns-accepted}
 use Rattle.steps_leader.proofs.Answers.{acknowledge-answer}
@@ -32,7 +32,7 @@ row c g k issued =
 
 -- the checks
 answers : (c : tie.After-may-acknowledge) (g : Registry) (k : Controller) (issued : ℕ) → c.may-acknowledge.result
-    ≡ answer_of (outlineOf (row c g k issued)) (acknowledge (entry c).args.a (entry c).args.b)
+    ≡ answer_of (outline_of (row c g k issued)) (acknowledge (entry c).args.a (entry c).args.b)
 answers c g k issued = c.may-acknowledge.ensures
     ∙ acknowledge-answer (row c g k issued) (entry c).args.a (entry c).args.b _ _ (one c).seat.ensures.2
     (other c).seat2.ensures.2

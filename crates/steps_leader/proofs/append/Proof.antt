@@ -10,7 +10,7 @@ use Rattle.model.proofs.Answer.{zero-accepted}
 use Rattle.cluster.specs.declared.Registry.{Registry}
 use Rattle.cluster.specs.declared.Controller.{Controller}
 use Rattle.cluster.specs.declared.Cluster.{Cluster}
-use Rattle.cluster.specs.Layout.{outlineOf}
+use Rattle.cluster.specs.Layout.{outline_of}
 use Rattle.refinement.specs.Refinement.{lent, row_of}
 use Rattle.refinement.proofs.Turning.{bits_none, turns-refused, turns-accepted, fits_next, len_short}
 use Rattle.steps_leader.proofs.Answers.{append-room, append-answer}
@@ -35,7 +35,7 @@ row c g k joined issued =
 
 -- the checks, and what their 0 says
 answers : (c : tie.After-may-append) (g : Registry) (k : Controller) (joined : List ℕ) (issued : ℕ)
-    → c.may-append.result ≡ answer_of (outlineOf (row c g k joined issued))
+    → c.may-append.result ≡ answer_of (outline_of (row c g k joined issued))
     (append (entry c).args.b (entry c).args.value)
 answers c g k joined issued =
     c.may-append.ensures ∙ append-answer (row c g k joined issued) (entry c).args.b _ (own c).seat.ensures.2
@@ -119,7 +119,7 @@ returns-2 c g k joined issued list list2 few full =
     let s = c.before.before.before.before.append-entry.ensures in
     let w = (λ i. lent (s.0 i) (s.1 i) list list2)
     ∙ append_places r q a.b a.value _ h.2 d.before.before.view.ensures
-    (zero-accepted (outlineOf r) (append a.b a.value) (sym e ∙ z)) in
+    (zero-accepted (outline_of r) (append a.b a.value) (sym e ∙ z)) in
     turns-accepted r p.1 few q full _ _ _ _ _ e z bits_none
     (append-after r p.1 q full a.b a.value _ h.2 p.0 _ w)
     (len_short a.len.now p.1 _ _ h.0 h.1 (omega (arith, room d z))) few w

@@ -10,7 +10,7 @@ use Rattle.model.proofs.Answer.{zero-accepted}
 use Rattle.cluster.specs.declared.Registry.{Registry}
 use Rattle.cluster.specs.declared.Controller.{Controller}
 use Rattle.cluster.specs.declared.Cluster.{Cluster}
-use Rattle.cluster.specs.Layout.{outlineOf}
+use Rattle.cluster.specs.Layout.{outline_of}
 use Rattle.refinement.specs.Refinement.{lent, row_of}
 use Rattle.refinement.proofs.Turning.{turns-refused, turns-accepted, short-at}
 use Rattle.steps_receipt.proofs.Answers.{commit-room, commit-answer, commit-set}
@@ -32,7 +32,7 @@ row c g k joined =
 
 -- the checks, and what their 0 says
 answers : (c : tie.After-may-commit) (g : Registry) (k : Controller) (joined : List ℕ) → c.may-commit.result
-    ≡ answer_of (outlineOf (row c g k joined)) (commit (entry c).args.b)
+    ≡ answer_of (outline_of (row c g k joined)) (commit (entry c).args.b)
 answers c g k joined =
     c.may-commit.ensures ∙ commit-answer (row c g k joined) (entry c).args.b _ (own c).seat.ensures.2 _ _
     c.before.before.before.before.view.ensures c.before.before.counted.ensures c.before.both.ensures
@@ -117,12 +117,12 @@ returns-2 c g k joined =
     let l = m.commit.ensures.0 ∙ ap (set a.list.now a.issued) v.value.ensures in
     let t = m.commit.ensures.1 ∙ ap (set a.list2.now a.issued) m.before.before.before.term.ensures in
     let w = (λ i. lent a.store.now a.store2.now (l i) (t i))
-    ∙ commit-places r q a.b _ (own d).seat.ensures.2 (zero-accepted (outlineOf r) (commit a.b) (sym e ∙ z)) in
+    ∙ commit-places r q a.b _ (own d).seat.ensures.2 (zero-accepted (outline_of r) (commit a.b) (sym e ∙ z)) in
     let n = room d z in
     turns-accepted r p.2 p.0 q p.3 _ _ _ _ _ e z
     (commit-set r a.b _ (own d).seat.ensures.2 _ _ d.before.before.before.before.view.ensures
     d.before.before.counted.ensures d.before.both.ensures
-    (zero-accepted (outlineOf r) (commit a.b) (sym e ∙ z)))
+    (zero-accepted (outline_of r) (commit a.b) (sym e ∙ z)))
     (commit-after r q p.3 a.b _ w n) p.2 (omega (arith, n)) w
 
 pub commit-spec : {M : Type 1} → statement M

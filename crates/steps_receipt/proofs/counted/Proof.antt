@@ -6,16 +6,16 @@ use lib.Dec.{ltb}
 use lib.ListN.{get_or}
 use borrow.Author.Rules.{rules}
 use Rattle.model.specs.Prelude.{upd}
-use Rattle.model.specs.Steps.{countedAbove}
+use Rattle.model.specs.Steps.{counted_above}
 use Rattle.members.specs.Mask.{bits, under}
 use Rattle.members.proofs.Laws.{under_none}
-use Rattle.cluster.specs.Layout.{atPair}
+use Rattle.cluster.specs.Layout.{at_pair}
 use Rattle.refinement.proofs.Turning.{counted-more}
 use Rattle.steps_receipt.proofs.counted.Statement.{statement}
 use Rattle.steps_receipt.proofs.counted.Tie as tie
 
 abbrev invariant-loop : tie.invariant-loop
-invariant-loop acked b n q₀ x₀ q x = (1 ≤ x) × (x ≤ 9) × (bits q ≡ under x (countedAbove (atPair acked b) n))
+invariant-loop acked b n q₀ x₀ q x = (1 ≤ x) × (x ≤ 9) × (bits q ≡ under x (counted_above (at_pair acked b) n))
 
 abbrev decreases-loop : tie.decreases-loop
 decreases-loop acked b n q₀ x₀ q x = 9 - x

@@ -2,7 +2,7 @@
 use mathlib.Core.Path.{refl, sym}
 use Rattle.model.specs.Steps.{add}
 use Rattle.cluster.proofs.Steps.{rules}
-use Rattle.steps_registry.specs.Checks.{addChecks}
+use Rattle.steps_registry.specs.Checks.{add_checks}
 use Rattle.steps_registry.proofs.Answers.{add-answer}
 use Rattle.steps_registry.proofs.Afters.{add-after}
 use borrow.Author.Rules.{rules}
@@ -27,7 +27,7 @@ returns c =
     let d = c.before in
     let a = (entry d).args in
     let seat = (own d).seat.ensures.2 in
-    rules (add a.b) (addChecks a.r _ a.b) tt a.r (add-answer a.r a.b _ seat) _
+    rules (add a.b) (add_checks a.r _ a.b) tt a.r (add-answer a.r a.b _ seat) _
     d.may_add.ensures refl (λ _. refl) (λ z. absurd (c.if1.taken z))
 
 raised-requires : tie.Need-raised-requires
@@ -41,7 +41,7 @@ returns-2 c =
     let d = c.before.before.before in
     let a = (entry d).args in
     let seat = (own d).seat.ensures.2 in
-    rules (add a.b) (addChecks a.r _ a.b) tt a.r (add-answer a.r a.b _ seat) _
+    rules (add a.b) (add_checks a.r _ a.b) tt a.r (add-answer a.r a.b _ seat) _
     d.may_add.ensures (sym c.before.before.if1.left) (λ h. absurd (h refl))
     (λ _ h s. add-after a.r _ c.before.raised.ensures a.b _ _ seat c.insert.ensures h)
 

@@ -1,8 +1,8 @@
 -- `steps_registry::change` meets its contract. Assumes nothing.
 use mathlib.Core.Path.{refl, sym}
-use Rattle.model.specs.Steps.{changeLeader}
+use Rattle.model.specs.Steps.{change_leader}
 use Rattle.cluster.proofs.Steps.{rules}
-use Rattle.steps_registry.specs.Checks.{changeChecks}
+use Rattle.steps_registry.specs.Checks.{change_checks}
 use Rattle.steps_registry.proofs.Answers.{change-answer}
 use Rattle.steps_registry.proofs.Afters.{change-after}
 use borrow.Author.Rules.{rules}
@@ -19,7 +19,7 @@ may-change-requires c κs = search rules
 returns : tie.Need-returns
 returns c =
     let r = (entry c.before).args.r in
-    rules changeLeader (changeChecks r) tt r (change-answer r) _
+    rules change_leader (change_checks r) tt r (change-answer r) _
     c.before.may-change.ensures refl (λ _. refl) (λ z. absurd (c.if1.taken z))
 
 raised-requires : tie.Need-raised-requires
@@ -35,7 +35,7 @@ returns-2 : tie.Need-returns-2
 returns-2 c =
     let d = c.before.before.before.before in
     let r = (entry d).args.r in
-    rules changeLeader (changeChecks r) tt r (change-answer r) _
+    rules change_leader (change_checks r) tt r (change-answer r) _
     d.may-change.ensures (sym c.before.before.before.if1.left) (λ h. absurd (h refl))
     (λ _. change-after r _ c.before.before.raised.ensures _ c.succession.result
     c.before.without.ensures c.succession.ensures)

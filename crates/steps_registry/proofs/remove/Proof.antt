@@ -2,7 +2,7 @@
 use mathlib.Core.Path.{refl, sym}
 use Rattle.model.specs.Steps.{remove}
 use Rattle.cluster.proofs.Steps.{rules}
-use Rattle.steps_registry.specs.Checks.{removeChecks}
+use Rattle.steps_registry.specs.Checks.{remove_checks}
 use Rattle.steps_registry.proofs.Answers.{remove-answer}
 use Rattle.steps_registry.proofs.Afters.{remove-after}
 use borrow.Author.Rules.{rules}
@@ -27,7 +27,7 @@ returns c =
     let d = c.before in
     let a = (entry d).args in
     let seat = (own d).seat.ensures.2 in
-    rules (remove a.b) (removeChecks a.r _ a.b) tt a.r (remove-answer a.r a.b _ seat) _
+    rules (remove a.b) (remove_checks a.r _ a.b) tt a.r (remove-answer a.r a.b _ seat) _
     d.may-remove.ensures refl (λ _. refl) (λ z. absurd (c.if1.taken z))
 
 raised-requires : tie.Need-raised-requires
@@ -47,7 +47,7 @@ returns-2 c =
     let d = c.before.before.before.before.before in
     let a = (entry d).args in
     let seat = (own d).seat.ensures.2 in
-    rules (remove a.b) (removeChecks a.r _ a.b) tt a.r (remove-answer a.r a.b _ seat) _
+    rules (remove a.b) (remove_checks a.r _ a.b) tt a.r (remove-answer a.r a.b _ seat) _
     d.may-remove.ensures (sym c.before.before.before.before.if1.left) (λ h. absurd (h refl))
     (λ _ h s. remove-after a.r _ c.before.before.before.raised.ensures a.b _ _ seat _
     c.status-left.result c.before.before.remove.ensures

@@ -3,14 +3,14 @@ use native.Mathlib.Omega.{arith}
 use lib.ListN.{length}
 use Rattle.phrases.specs.Line.{line}
 use Prim.Native.Nat.{◌≤◌}
-use Rattle.records.specs.Record.{recordOf}
+use Rattle.records.specs.Record.{record_of}
 use Rattle.phrases.proofs.Lengths.{line-most}
 use borrow.Author.Rules.{rules}
 use Rattle.telling.proofs.line_length.Statement.{statement}
 use Rattle.telling.proofs.line_length.Tie as tie
 
-short : (e : tie.Start) → length (line (recordOf e.args.r) e.args.a) ≤ 96
-short e = line-most (recordOf e.args.r) e.args.a (omega arith) e.requires
+short : (e : tie.Start) → length (line (record_of e.args.r) e.args.a) ≤ 96
+short e = line-most (record_of e.args.r) e.args.a (omega arith) e.requires
 
 slice-aggregate-put-line : tie.Need-slice-aggregate-put-line
 slice-aggregate-put-line c = search rules

@@ -2,7 +2,7 @@
 use mathlib.Core.Path.{sym, ◌∙◌}
 use native.Mathlib.Omega.{arith}
 use borrow.Author.Rules.{rules}
-use Rattle.records.specs.Record.{recordOf}
+use Rattle.records.specs.Record.{record_of}
 use Rattle.phrases.proofs.Forming.{formed, place-formed, place-raw}
 use Rattle.telling.proofs.place.Statement.{statement}
 use Rattle.telling.proofs.place.Tie as tie
@@ -14,13 +14,13 @@ returns : tie.Need-returns
 returns c =
     let e = c.before.before in
     let f = sym e.requires ∙ c.before.if1.true in
-    let l = (formed (recordOf e.args.r) f).step in
-    (place-formed (recordOf e.args.r) f, omega arith)
+    let l = (formed (record_of e.args.r) f).step in
+    (place-formed (record_of e.args.r) f, omega arith)
 
 returns-2 : tie.Need-returns-2
 returns-2 c =
     let e = c.before in
-    (place-raw (recordOf e.args.r) (sym e.requires ∙ c.if1.false), omega arith)
+    (place-raw (record_of e.args.r) (sym e.requires ∙ c.if1.false), omega arith)
 
 pub place-spec : {M : Type 1} → statement M
 place-spec = tie.close (tie.spec cast-result returns returns-2)

@@ -2,7 +2,7 @@
 use mathlib.Core.Path.{sym, ap, ◌∙◌}
 use native.Mathlib.Omega.{arith}
 use lib.ListN.{length}
-use Rattle.records.specs.Record.{recordOf}
+use Rattle.records.specs.Record.{record_of}
 use Rattle.text.proofs.Laws.{wrote_as}
 use Rattle.phrases.proofs.Forming.{formed, head-formed, head-raw}
 use borrow.Author.Rules.{rules}
@@ -14,8 +14,8 @@ put-step-requires c κs =
     let d = c.before in
     let e = d.before.before in
     let t = sym e.requires.0 ∙ d.if1.true in
-    let l = (formed (recordOf e.args.r) t).step in
-    (omega arith, omega (arith, e.requires.1, ap length (head-formed (recordOf e.args.r) t)))
+    let l = (formed (record_of e.args.r) t).step in
+    (omega arith, omega (arith, e.requires.1, ap length (head-formed (record_of e.args.r) t)))
 
 same_length : tie.Need-same-length
 same_length c = search rules
@@ -25,13 +25,13 @@ returns c =
     let w = c.before.before in
     let d = w.before.before in
     let e = d.before.before in
-    wrote_as (head-formed (recordOf e.args.r) (sym e.requires.0 ∙ d.if1.true)) w.put_step.ensures
+    wrote_as (head-formed (record_of e.args.r) (sym e.requires.0 ∙ d.if1.true)) w.put_step.ensures
 
 put-raw-requires : tie.Need-put-raw-requires
 put-raw-requires c κs =
     let d = c.before in
     let e = d.before.before in
-    omega (arith, e.requires.1, ap length (head-raw (recordOf e.args.r) (sym e.requires.0 ∙ d.if1.false)))
+    omega (arith, e.requires.1, ap length (head-raw (record_of e.args.r) (sym e.requires.0 ∙ d.if1.false)))
 
 same-length-2 : tie.Need-same-length-2
 same-length-2 c = search rules
@@ -41,7 +41,7 @@ returns-2 c =
     let w = c.before.before in
     let d = w.before.before in
     let e = d.before.before in
-    wrote_as (head-raw (recordOf e.args.r) (sym e.requires.0 ∙ d.if1.false)) w.put-raw.ensures
+    wrote_as (head-raw (record_of e.args.r) (sym e.requires.0 ∙ d.if1.false)) w.put-raw.ensures
 
 pub put-head-spec : {M : Type 1} → statement M
 put-head-spec =

@@ -4,18 +4,18 @@ use mathlib.Core.List.{◌++◌}
 use lib.ListN.{length}
 use native.Mathlib.Omega.{arith}
 use mathlib.Core.Path.{◌≡◌, ap}
-use Rattle.records.specs.Record.{recordOf}
+use Rattle.records.specs.Record.{record_of}
 use Rattle.text.specs.Text.{Text, Wrote}
 use Rattle.text.proofs.Laws.{fits, rest, then, byte, wrote_as}
 use Rattle.lines.specs.Lines.{word, newline}
-use Rattle.phrases.specs.Line.{headText, verdictText, place, line}
+use Rattle.phrases.specs.Line.{head_text, verdict_text, place, line}
 use borrow.Author.Rules.{rules}
 use Rattle.telling.proofs.put_line.Statement.{statement}
 use Rattle.telling.proofs.put_line.Tie as tie
 
 -- What is still to be written after the call j.
 abbrev text2 : tie.Start → Text
-text2 e = verdictText (place (recordOf e.args.r)) e.args.a ++ newline
+text2 e = verdict_text (place (record_of e.args.r)) e.args.a ++ newline
 
 abbrev text1 : tie.Start → Text
 text1 e = word ": " ++ text2 e
@@ -31,24 +31,24 @@ abbrev start3 : tie.After-put-verdict → tie.Start
 start3 c = start2 c.before.before.before.before
 
 -- The step by whose phrases the answer is told.
-placed : (c : tie.After-place) → (c.place.result ≡ place (recordOf c.before.before.before.args.r)) ×
+placed : (c : tie.After-place) → (c.place.result ≡ place (record_of c.before.before.before.args.r)) ×
     (c.place.result < 17)
 placed c = c.place.ensures
 
 told : (c : tie.After-put-verdict)
     → let e = start3 c in
     Wrote c.before.before.before.before.put-bytes.new.0 c.before.before.before.before.put-bytes.result
-    (verdictText (place (recordOf e.args.r)) e.args.a) c.put-verdict.new.0 c.put-verdict.result
+    (verdict_text (place (record_of e.args.r)) e.args.a) c.put-verdict.new.0 c.put-verdict.result
 told c =
     let p = placed c.before.before.before.before.before.before.before.before.before.before.before in
-    wrote_as (ap (λ k. verdictText k (start3 c).args.a) p.0) c.put-verdict.ensures
+    wrote_as (ap (λ k. verdict_text k (start3 c).args.a) p.0) c.put-verdict.ensures
 
 -- The room that is left after it.
 room1 : (c : tie.After-put-head) → c.put-head.result + length (text1 (start1 c)) ≤ length c.put-head.new.0
 unfolding line
 room1 c =
     let e = start1 c in
-    rest (headText (recordOf e.args.r)) (text1 e) c.put-head.ensures e.pre.1
+    rest (head_text (record_of e.args.r)) (text1 e) c.put-head.ensures e.pre.1
 
 room2 : (c : tie.After-put-bytes) → c.put-bytes.result + length (text2 (start2 c)) ≤ length c.put-bytes.new.0
 room2 c =
@@ -59,7 +59,7 @@ room3 : (c : tie.After-put-verdict) → c.put-verdict.result + 1 ≤ length c.pu
 room3 c =
     let d = c.before.before.before.before in
     let e = start3 c in
-    rest (verdictText (place (recordOf e.args.r)) e.args.a) newline (told c) (room2 d)
+    rest (verdict_text (place (record_of e.args.r)) e.args.a) newline (told c) (room2 d)
 
 is-well-formed-requires : tie.Need-is-well-formed-requires
 is-well-formed-requires c κs = search rules
@@ -72,7 +72,7 @@ unfolding line
 put-head-requires c κs =
     let w = c.before.before in
     let e = w.before.before in
-    (w.is-well-formed.ensures, fits e.args.at (headText (recordOf e.args.r)) (text1 e) e.requires.1)
+    (w.is-well-formed.ensures, fits e.args.at (head_text (record_of e.args.r)) (text1 e) e.requires.1)
 
 slice-aggregate-put-bytes : tie.Need-slice-aggregate-put-bytes
 slice-aggregate-put-bytes c = search rules
@@ -91,9 +91,9 @@ put-verdict-requires c κs =
       e.pre.0,
       omega (
         arith,
-        fits _ (verdictText (place (recordOf e.args.r)) e.args.a) newline
+        fits _ (verdict_text (place (record_of e.args.r)) e.args.a) newline
             (room2 d),
-        ap (λ k. length (verdictText k e.args.a)) p.0,
+        ap (λ k. length (verdict_text k e.args.a)) p.0,
       ),
     )
 

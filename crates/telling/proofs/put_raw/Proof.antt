@@ -2,12 +2,12 @@
 use mathlib.Core.Path.{ap}
 use native.Mathlib.Omega.{arith}
 use lib.ListN.{length}
-use Rattle.records.specs.Record.{recordOf}
-use Rattle.records.specs.Bytes.{recordBytes}
+use Rattle.records.specs.Record.{record_of}
+use Rattle.records.specs.Bytes.{record_bytes}
 use Rattle.text.proofs.Laws.{fits, rest, then, wrote_as}
 use Rattle.hex.specs.Hex.{hexes}
-use Rattle.phrases.specs.Phrases.{noStep}
-use Rattle.phrases.specs.Line.{leadText, rawText}
+use Rattle.phrases.specs.Phrases.{no_step}
+use Rattle.phrases.specs.Line.{lead_text, raw_text}
 use borrow.Author.Rules.{rules}
 use Rattle.telling.proofs.put_raw.Statement.{statement}
 use Rattle.telling.proofs.put_raw.Tie as tie
@@ -16,16 +16,16 @@ bytes-requires : tie.Need-bytes-requires
 bytes-requires c κs = search rules
 
 put-lead-requires : tie.Need-put-lead-requires
-unfolding rawText
+unfolding raw_text
 put-lead-requires c κs =
     let e = c.before.before.before in
-    (omega arith, fits _ (leadText noStep) (hexes (recordBytes (recordOf e.args.r))) e.requires)
+    (omega arith, fits _ (lead_text no_step) (hexes (record_bytes (record_of e.args.r))) e.requires)
 
 slice-aggregate-put-hexes : tie.Need-slice-aggregate-put-hexes
 slice-aggregate-put-hexes c = search rules
 
 put-hexes-requires : tie.Need-put-hexes-requires
-unfolding rawText
+unfolding raw_text
 put-hexes-requires c κs =
     let w = c.before.before.before.before in
     let b = w.before.before in
@@ -34,14 +34,14 @@ put-hexes-requires c κs =
     omega (
       arith,
       q,
-      rest (leadText noStep) (hexes (recordBytes (recordOf e.args.r))) w.put-lead.ensures e.requires,
+      rest (lead_text no_step) (hexes (record_bytes (record_of e.args.r))) w.put-lead.ensures e.requires,
     )
 
 same_length : tie.Need-same-length
 same_length c = search rules
 
 returns : tie.Need-returns
-unfolding rawText
+unfolding raw_text
 returns c =
     let v = c.before.before in
     let w = v.before.before.before.before.before in

@@ -2,23 +2,23 @@
 use Prim.Native.Nat.{◌+◌, ◌≤◌}
 use mathlib.Core.List.{◌++◌}
 use lib.ListN.{length}
-use Rattle.records.specs.Record.{recordOf}
+use Rattle.records.specs.Record.{record_of}
 use Rattle.text.specs.Text.{Text}
 use Rattle.text.proofs.Laws.{fits, rest, then}
-use Rattle.phrases.specs.Line.{leadText, boardPart, trailText, secondPart, stepText}
+use Rattle.phrases.specs.Line.{lead_text, board_part, trail_text, second_part, step_text}
 use borrow.Author.Rules.{rules}
 use Rattle.telling.proofs.put_step.Statement.{statement}
 use Rattle.telling.proofs.put_step.Tie as tie
 
 -- What is still to be written after the call j.
 abbrev text3 : tie.Start → Text
-text3 e = secondPart (recordOf e.args.r)
+text3 e = second_part (record_of e.args.r)
 
 abbrev text2 : tie.Start → Text
-text2 e = trailText e.args.r.step ++ text3 e
+text2 e = trail_text e.args.r.step ++ text3 e
 
 abbrev text1 : tie.Start → Text
-text1 e = boardPart (recordOf e.args.r) ++ text2 e
+text1 e = board_part (record_of e.args.r) ++ text2 e
 
 -- What was given at the start, from after the call j.
 abbrev start1 : tie.After-put-lead → tie.Start
@@ -32,41 +32,41 @@ start3 c = start2 c.before.before.before.before
 
 -- The room that is left after it.
 room1 : (c : tie.After-put-lead) → c.put-lead.result + length (text1 (start1 c)) ≤ length c.put-lead.new.0
-unfolding stepText
+unfolding step_text
 room1 c =
     let e = start1 c in
-    rest (leadText e.args.r.step) (text1 e) c.put-lead.ensures e.pre.1
+    rest (lead_text e.args.r.step) (text1 e) c.put-lead.ensures e.pre.1
 
 room2 : (c : tie.After-put-board) → c.put-board.result + length (text2 (start2 c)) ≤ length c.put-board.new.0
 room2 c =
     let d = c.before.before.before.before in
-    rest (boardPart (recordOf (start2 c).args.r)) (text2 (start2 c)) c.put-board.ensures (room1 d)
+    rest (board_part (record_of (start2 c).args.r)) (text2 (start2 c)) c.put-board.ensures (room1 d)
 
 room3 : (c : tie.After-put-trail) → c.put-trail.result + length (text3 (start3 c)) ≤ length c.put-trail.new.0
 room3 c =
     let d = c.before.before.before.before in
-    rest (trailText (start3 c).args.r.step) (text3 (start3 c)) c.put-trail.ensures (room2 d)
+    rest (trail_text (start3 c).args.r.step) (text3 (start3 c)) c.put-trail.ensures (room2 d)
 
 cast-k : tie.Need-overflow-cast-k
 cast-k c = search rules
 
 put-lead-requires : tie.Need-put-lead-requires
-unfolding stepText
+unfolding step_text
 put-lead-requires c κs =
     let e = c.before.before.before in
-    (e.requires.0, fits e.args.at (leadText e.args.r.step) (text1 e) e.requires.1)
+    (e.requires.0, fits e.args.at (lead_text e.args.r.step) (text1 e) e.requires.1)
 
 put-board-requires : tie.Need-put-board-requires
 put-board-requires c κs =
     let d = c.before.before.before in
     let e = start1 d in
-    fits _ (boardPart (recordOf e.args.r)) (text2 e) (room1 d)
+    fits _ (board_part (record_of e.args.r)) (text2 e) (room1 d)
 
 put-trail-requires : tie.Need-put-trail-requires
 put-trail-requires c κs =
     let d = c.before.before.before in
     let e = start2 d in
-    (e.pre.0, fits _ (trailText e.args.r.step) (text3 e) (room2 d))
+    (e.pre.0, fits _ (trail_text e.args.r.step) (text3 e) (room2 d))
 
 put-second-requires : tie.Need-put-second-requires
 put-second-requires c κs = room3 c.before.before.before
@@ -75,7 +75,7 @@ same_length : tie.Need-same-length
 same_length c = search rules
 
 returns : tie.Need-returns
-unfolding stepText
+unfolding step_text
 returns c =
     let w4 = c.before.before in
     let w3 = w4.before.before.before.before in

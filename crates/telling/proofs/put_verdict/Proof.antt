@@ -4,7 +4,7 @@ use native.Mathlib.Omega.{arith}
 use lib.ListN.{length, length-append}
 use Rattle.lines.specs.Lines.{word}
 use Rattle.text.proofs.Laws.{then, wrote_as}
-use Rattle.phrases.specs.Line.{reasonText}
+use Rattle.phrases.specs.Line.{reason_text}
 use Rattle.phrases.proofs.Forming.{verdict-accepted, verdict-refused}
 use borrow.Author.Rules.{rules}
 use Rattle.telling.proofs.put_verdict.Statement.{statement}
@@ -45,7 +45,7 @@ put-bytes-requires c κs =
       arith,
       e.requires.2,
       ap length (verdict-refused e.args.k e.args.a d.if1.false),
-      length-append (word "refused, ") (reasonText e.args.k e.args.a),
+      length-append (word "refused, ") (reason_text e.args.k e.args.a),
     )
 
 put-reason-requires-2 : tie.Need-put-reason-requires-2
@@ -61,7 +61,7 @@ put-reason-requires-2 c κs =
         w.put-bytes.ensures.next,
         w.put-bytes.auto,
         ap length (verdict-refused e.args.k e.args.a d.if1.false),
-        length-append (word "refused, ") (reasonText e.args.k e.args.a),
+        length-append (word "refused, ") (reason_text e.args.k e.args.a),
       ),
     )
 

@@ -8,9 +8,9 @@ use lib.Dec.{T, eqb}
 use lib.ListN.{length, drop}
 use borrow.Author.Tests.{not-true, not-false}
 use Rattle.lines.specs.Lines.{word}
-use Rattle.phrases.specs.Phrases.{reasons, isFor, phraseIn}
-use Rattle.phrases.specs.Layout.{reasonAt}
-use Rattle.phrases.proofs.Listed.{isThere, there}
+use Rattle.phrases.specs.Phrases.{reasons, is_for, phrase_in}
+use Rattle.phrases.specs.Layout.{reason_at}
+use Rattle.phrases.proofs.Listed.{is_there, there}
 use Rattle.wording.proofs.Places.{place-within, found, further, answer_at, step-at}
 use borrow.Author.Rules.{rules}
 use Rattle.wording.proofs.find.Statement.{statement}
@@ -18,7 +18,7 @@ use Rattle.wording.proofs.find.Tie as tie
 
 abbrev invariant-loop : tie.invariant-loop
 invariant-loop k a answers steps i₀ i =
-    (phraseIn (drop i reasons) k a ≡ phraseIn reasons k a) × T (isThere (drop i reasons) k a)
+    (phrase_in (drop i reasons) k a ≡ phrase_in reasons k a) × T (is_there (drop i reasons) k a)
 
 abbrev decreases-loop : tie.decreases-loop
 decreases-loop k a answers steps i₀ i = length reasons - i
@@ -30,7 +30,7 @@ within c = place-within c.before.args.k c.before.args.a reasons c.loop.i c.loop.
 -- What is tested there.
 tested : (c : tie.After-is-for invariant-loop decreases-loop)
     → let d = c.before.before.before in
-    c.is-for.result ≡ isFor d.before.args.k d.before.args.a (reasonAt d.loop.i)
+    c.is-for.result ≡ is_for d.before.args.k d.before.args.a (reason_at d.loop.i)
 tested c =
     let d = c.before.before.before in
     let e = d.before in

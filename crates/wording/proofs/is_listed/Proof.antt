@@ -3,13 +3,13 @@ use mathlib.Core.Path.{◌≡◌, refl, sym, ◌∙◌}
 use Prim.Native.Nat.{◌-◌, ◌≤◌}
 use native.Mathlib.Omega.{arith}
 use lib.ListN.{length, drop}
-use Rattle.phrases.specs.Phrases.{reasons, isListedIn}
+use Rattle.phrases.specs.Phrases.{reasons, is_listed_in}
 use Rattle.wording.proofs.Places.{answer_at, answer-small, listed-hit, listed-miss, listed-end}
 use Rattle.wording.proofs.is_listed.Statement.{statement}
 use Rattle.wording.proofs.is_listed.Tie as tie
 
 abbrev invariant-loop : tie.invariant-loop
-invariant-loop a i₀ i = (i ≤ length reasons) × (isListedIn (drop i reasons) a ≡ isListedIn reasons a)
+invariant-loop a i₀ i = (i ≤ length reasons) × (is_listed_in (drop i reasons) a ≡ is_listed_in reasons a)
 
 abbrev decreases-loop : tie.decreases-loop
 decreases-loop a i₀ i = length reasons - i

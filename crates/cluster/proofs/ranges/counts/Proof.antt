@@ -4,13 +4,13 @@ use mathlib.Core.Path.{◌≡◌}
 use Prim.Native.Nat.{◌≤◌}
 use lib.Dec.{leb}
 use borrow.Author.Rules.{rules}
-use Rattle.cluster.specs.Layout.{atPair}
-use Rattle.cluster.proofs.Ranging.{rest, rest-none, rest_more, rest_all, at_pair}
+use Rattle.cluster.specs.Layout.{at_pair}
+use Rattle.cluster.proofs.Ranging.{rest, rest-none, rest_more, rest_all, at_pair_lem}
 use Rattle.cluster.proofs.ranges.counts.Statement.{statement}
 use Rattle.cluster.proofs.ranges.counts.Tie as tie
 
 abbrev invariant-loop : tie.invariant-loop
-invariant-loop a acked row ok₀ b₀ ok b = (b ≤ 8) × (ok ≡ rest (λ x. leb (atPair acked a x) 512) b)
+invariant-loop a acked row ok₀ b₀ ok b = (b ≤ 8) × (ok ≡ rest (λ x. leb (at_pair acked a x) 512) b)
 
 abbrev decreases-loop : tie.decreases-loop
 decreases-loop a acked row ok₀ b₀ ok b = b
@@ -53,7 +53,7 @@ loop-again c =
     let f = c.before.before.before in
     let a = f.args in
     let l = c.before.before.loop in
-    let e = at_pair a.t1 a.a l.b (search rules) (search rules) (search rules) (search rules) in
+    let e = at_pair_lem a.t1 a.a l.b (search rules) (search rules) (search rules) (search rules) in
     (search rules, rest_more _ l.b _ l.invariant.1 _ (search rules) (search rules) (rw e c.both.ensures))
 
 returns : tie.Need-returns invariant-loop decreases-loop

@@ -3,14 +3,14 @@
 use mathlib.Core.Path.{◌≡◌}
 use Prim.Native.Nat.{◌≤◌}
 use borrow.Author.Rules.{rules}
-use Rattle.model.specs.Ranges.{every, replicaRanges}
-use Rattle.cluster.specs.Layout.{outlineOf}
+use Rattle.model.specs.Ranges.{every, replica_ranges}
+use Rattle.cluster.specs.Layout.{outline_of}
 use Rattle.cluster.proofs.Ranging.{rest, rest-none, rest_more, rest_all}
 use Rattle.cluster.proofs.ranges.replicas_in.Statement.{statement}
 use Rattle.cluster.proofs.ranges.replicas_in.Tie as tie
 
 abbrev invariant-loop : tie.invariant-loop
-invariant-loop row ok₀ b₀ ok b = (b ≤ 8) × (ok ≡ rest (λ x. every (replicaRanges (outlineOf row) x)) b)
+invariant-loop row ok₀ b₀ ok b = (b ≤ 8) × (ok ≡ rest (λ x. every (replica_ranges (outline_of row) x)) b)
 
 abbrev decreases-loop : tie.decreases-loop
 decreases-loop row ok₀ b₀ ok b = b

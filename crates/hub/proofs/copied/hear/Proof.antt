@@ -2,7 +2,7 @@
 use mathlib.Core.Path.{refl, ◌∙◌}
 use borrow.Author.Rules.{rules}
 use Rattle.model.specs.Steps.{hear}
-use Rattle.hub.specs.Lent.{reportFits, Reported}
+use Rattle.hub.specs.Lent.{report_fits, Reported}
 use Rattle.steps_controller.specs.Known.{HearKnown}
 use Rattle.hub.proofs.Lending.{lends, hear-told}
 use Rattle.hub.proofs.copied.hear.Statement.{statement}
@@ -30,7 +30,7 @@ returns c =
     let l = c.before.before.before.before.length.ensures in
     lends (hear a.x.board) (λ s. refl) (λ m. refl) a.c
     (HearKnown a.x.board a.x.epoch a.x.joined _) _ _
-    c.before.before.before.hear.ensures refl (reportFits a.c a.x) (Reported a.x)
+    c.before.before.before.hear.ensures refl (report_fits a.c a.x) (Reported a.x)
     (hear-told a.c a.x _ l.1) _ (c.before.check.ensures ∙ rw ok) _ c.ended.ensures.0
     c.ended.ensures.1 c.ended.ensures.2
 

@@ -2,7 +2,7 @@
 use mathlib.Core.Path.{refl, ◌∙◌}
 use borrow.Author.Rules.{rules}
 use Rattle.model.specs.Steps.{read}
-use Rattle.hub.specs.Lent.{reportFits, Reported}
+use Rattle.hub.specs.Lent.{report_fits, Reported}
 use Rattle.steps_controller.specs.Known.{ReadKnown}
 use Rattle.hub.proofs.Lending.{lends, read_told}
 use Rattle.hub.proofs.copied.read.Statement.{statement}
@@ -29,7 +29,7 @@ returns c =
     let ok = c.before.before.before.before.before.report.ensures in
     let l = c.before.before.before.before.length.ensures in
     lends (read a.x.board) (λ s. refl) (λ m. refl) a.c (ReadKnown a.x.board a.x.joined _) _ _
-    c.before.before.before.read.ensures refl (reportFits a.c a.x) (Reported a.x)
+    c.before.before.before.read.ensures refl (report_fits a.c a.x) (Reported a.x)
     (read_told a.c a.x _ l.1) _ (c.before.check.ensures ∙ rw ok) _ c.ended.ensures.0
     c.ended.ensures.1 c.ended.ensures.2
 

@@ -3,9 +3,9 @@ use mathlib.Core.Bool.{true}
 use mathlib.Core.Path.{◌≡◌, refl, sym, ◌∙◌}
 use borrow.Author.Rules.{rules}
 use borrow.Author.Tests.{not-true, not-false}
-use Rattle.model.specs.Steps.{readLeader}
+use Rattle.model.specs.Steps.{read_leader}
 use Rattle.steps_controller.specs.Known.{LeaderKnown}
-use Rattle.hub.specs.Lent.{leaderFits, Reported}
+use Rattle.hub.specs.Lent.{leader_fits, Reported}
 use Rattle.hub.proofs.Lending.{lends, turned-away, leader-fits, leader-told}
 use Rattle.hub.proofs.copied.read_leader.Statement.{statement}
 use Rattle.hub.proofs.copied.read_leader.Tie as tie
@@ -21,14 +21,14 @@ returns c =
     let d = c.before.before in
     let a = d.before.args in
     let unfit = sym d.leader.ensures ∙ not-true _ c.before.if1.true in
-    turned-away readLeader a.c (leaderFits a.c a.x) unfit (Reported a.x) _
+    turned-away read_leader a.c (leader_fits a.c a.x) unfit (Reported a.x) _
     c.ended.ensures.0 c.ended.ensures.1 c.ended.ensures.2
 
 length-requires : tie.Need-length-requires
 length-requires c κs = search rules
 
 -- what is handed on fits
-fitting : (c : tie.Else1) → leaderFits c.before.before.args.c c.before.before.args.x ≡ true
+fitting : (c : tie.Else1) → leader_fits c.before.before.args.c c.before.before.args.x ≡ true
 fitting c = sym c.before.leader.ensures ∙ not-false _ c.if1.false
 
 read-leader-requires : tie.Need-read-leader-requires
@@ -44,9 +44,9 @@ returns-2 c =
     let d = c.before.before.before in
     let a = d.before.before.before.args in
     let ok = fitting d.before in
-    lends readLeader (λ s. refl) (λ m. refl) a.c (LeaderKnown a.c a.x.epoch d.length.result) _ _
+    lends read_leader (λ s. refl) (λ m. refl) a.c (LeaderKnown a.c a.x.epoch d.length.result) _ _
     c.before.before.read-leader.ensures refl
-    (leaderFits a.c a.x) (Reported a.x) (leader-told a.c a.x _ d.length.ensures.1) _ (rw ok) _
+    (leader_fits a.c a.x) (Reported a.x) (leader-told a.c a.x _ d.length.ensures.1) _ (rw ok) _
     c.ended2.ensures.0 c.ended2.ensures.1 c.ended2.ensures.2
 
 pub read-leader-spec : {M : Type 1} → statement M

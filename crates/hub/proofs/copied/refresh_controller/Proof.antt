@@ -3,8 +3,8 @@ use mathlib.Core.Bool.{◌&&◌}
 use mathlib.Core.Path.{◌≡◌, refl, ◌∙◌}
 use borrow.Author.Rules.{rules}
 use Rattle.model.specs.Steps.{refreshController}
-use Rattle.cluster.specs.Layout.{registryOf}
-use Rattle.hub.specs.Lent.{registryFits, controllerFits}
+use Rattle.cluster.specs.Layout.{registry_of}
+use Rattle.hub.specs.Lent.{registry_fits, controller_fits}
 use Rattle.hub.proofs.Lending.{lends}
 use Rattle.hub.proofs.copied.refresh_controller.Statement.{statement}
 use Rattle.hub.proofs.copied.refresh_controller.Tie as tie
@@ -25,9 +25,9 @@ returns : tie.Need-returns
 returns c =
     let a = c.before.before.before.before.before.args in
     let ok = c.before.before.before.before.news.ensures in
-    lends refreshController (λ s. refl) (λ m. refl) a.c (λ s. s.registry ≡ registryOf a.g) _ _
-    c.before.before.before.refresh-controller.ensures refl (registryFits a.g && controllerFits a.c)
-    (λ s. s.registry ≡ registryOf a.g)
+    lends refreshController (λ s. refl) (λ m. refl) a.c (λ s. s.registry ≡ registry_of a.g) _ _
+    c.before.before.before.refresh-controller.ensures refl (registry_fits a.g && controller_fits a.c)
+    (λ s. s.registry ≡ registry_of a.g)
     (λ s t k. k) _ (c.before.check.ensures ∙ rw ok) _ c.ended.ensures.0
     c.ended.ensures.1 c.ended.ensures.2
 
