@@ -1,5 +1,6 @@
 // A sheet's row as an image, and an image's row as lines: the calls behind two entries for the hub's firmware (crate
 // row) and the programs `savesheet` and `showimage`.
+#![tactic(auto)]
 
 ghost use Rattle.std.specs.Prelude.{◌≡◌, length};
 ghost use Rattle.text.specs.Text.{Delivered};

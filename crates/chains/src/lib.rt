@@ -1,6 +1,7 @@
 // The chains of an image (document 02, Paper 7): the first record of a list, a record's next and epoch; error 19, found
 // by walking all nine chains over a scratch of marks; and the records' part of error 18. Inner layer: callers see to it
 // that an image has its length, 258 bytes and 8 for each of n records.
+#![tactic(auto)]
 
 ghost use Rattle.std.specs.Prelude.{◌≡◌, ◌+◌, ◌*◌, ◌<◌, ◌≤◌, length, replicate};
 ghost use Rattle.marks.specs.Marks.{none, most, room, marked};

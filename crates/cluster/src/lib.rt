@@ -1,5 +1,6 @@
 // A row as the hub keeps it, what a step answers and leaves, and what the crates of steps share: seats, checks, epochs,
 // words by number. Refusal 1 of a row's numbers stands in ranges.
+#![tactic(auto)]
 
 ghost use Rattle.std.specs.Prelude.{◌≡◌, true, cond, ◌≤◌, suc, ltb};
 ghost use Rattle.model.specs.Members as Q;
@@ -10,7 +11,7 @@ pub mod ranges;
 
 // Epoch, leader epoch (term), leader (0: none) and members as a mask: the registry's, or as a replica or the controller
 // last took them.
-#[derive(Drop)]
+#[derive(Clone, Copy)]
 pub struct View {
     pub epoch: u16,
     pub term: u16,
@@ -18,14 +19,14 @@ pub struct View {
     pub members: u8,
 }
 
-#[derive(Drop)]
+#[derive(Clone, Copy)]
 pub enum Status {
     Normal,
     Waiting,
     Choosing,
 }
 
-#[derive(Drop)]
+#[derive(Clone, Copy)]
 pub enum Stage {
     Idle,
     Leader,
@@ -33,14 +34,14 @@ pub enum Stage {
     Choosing,
 }
 
-#[derive(Drop)]
+#[derive(Clone, Copy)]
 pub struct Registry {
     pub view: View,
     pub status: Status,
 }
 
 // By replica, 1 first: the heard length, 0 for none and n + 1 for n, and the heard joined epoch.
-#[derive(Drop)]
+#[derive(Clone, Copy)]
 pub struct Controller {
     pub view: View,
     pub stage: Stage,
@@ -50,7 +51,7 @@ pub struct Controller {
 
 // A row of document 01. By replica, 1 first: its view, its joined epoch, the length of its log; acked has a's count for
 // b at 8 (a - 1) + b - 1. Then the number of receipts. The entries stand in the lent places.
-#[derive(Drop)]
+#[derive(Clone, Copy)]
 pub struct Cluster {
     pub registry: Registry,
     pub controller: Controller,
@@ -63,7 +64,7 @@ pub struct Cluster {
 
 // What a step answers, the members behind it as a mask (the empty set for a refused step and for one that asks no
 // majority), and the row it leaves.
-#[derive(Drop)]
+#[derive(Clone, Copy)]
 pub struct Outcome {
     pub answer: u8,
     pub behind: u8,
@@ -71,14 +72,14 @@ pub struct Outcome {
 }
 
 // What a step of the registry answers, and the registry it leaves.
-#[derive(Drop)]
+#[derive(Clone, Copy)]
 pub struct Ruled {
     pub answer: u8,
     pub registry: Registry,
 }
 
 // What a step of the controller answers, and the controller it leaves.
-#[derive(Drop)]
+#[derive(Clone, Copy)]
 pub struct Told {
     pub answer: u8,
     pub controller: Controller,
@@ -86,7 +87,7 @@ pub struct Told {
 
 // What a step of both answers, the members behind it, and what it leaves; `steps_central` has every step of either in
 // this form.
-#[derive(Drop)]
+#[derive(Clone, Copy)]
 pub struct Settled {
     pub answer: u8,
     pub behind: u8,

@@ -1,4 +1,5 @@
 // A lent list of numbers copied into another that is as long.
+#![tactic(auto)]
 
 ghost use Rattle.std.specs.Prelude.{◌≡◌, length};
 

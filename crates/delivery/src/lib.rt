@@ -1,11 +1,12 @@
 // A list that leads a row to normal, given out in a lent slice: what is answered, and its delivery.
+#![tactic(auto)]
 
 ghost use Rattle.std.specs.Prelude.{◌≤◌, length};
 ghost use Rattle.orders.specs.Orders.{orders};
 ghost use Rattle.delivery.specs.Delivery.{delivered, Gives};
 
 // What is answered: 0, or the number of the refusal; and how many records the list has, 0 where it is refused.
-#[derive(Drop)]
+#[derive(Clone, Copy)]
 pub struct Planned {
     pub answer: u8,
     pub count: usize,

@@ -1,4 +1,5 @@
 // A record and its answer in words, in a lent slice: the call behind the entry for the hub's firmware (crate row).
+#![tactic(auto)]
 
 ghost use Rattle.std.specs.Prelude.{◌≡◌};
 ghost use Rattle.phrases.specs.Describe.{result, left};

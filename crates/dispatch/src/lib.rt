@@ -1,5 +1,6 @@
 // From a record of a sheet to its step. Inner layer: callers see to refusal 1; the calls of `steps` test it, the runner
 // of sheets knows it.
+#![tactic(auto)]
 
 ghost use Rattle.model.specs.Records as R;
 ghost use Rattle.refinement.specs.Refinement.{lent, Full, row_of, Ready};
@@ -11,7 +12,7 @@ use records::{Record, bare, board};
 
 // What a record's step answers and leaves of a row beside what it writes where it is lent: the number of receipts, one
 // view and its place among the eight, and, central, the answer, who is behind it, the registry and the controller.
-#[derive(Drop)]
+#[derive(Clone, Copy)]
 pub struct Sent {
     pub issued: u16,
     pub place: usize,

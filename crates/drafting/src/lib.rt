@@ -1,5 +1,6 @@
 // The list that leads a row to normal (document 02, Paper 10), of its pieces: the choosing part, the waiting part, the
 // whole. Inner layer: the places are written, so callers lend copies, or places that they have done with.
+#![tactic(auto)]
 
 ghost use Rattle.std.specs.Prelude.{cond, ◌≡◌, ◌+◌, ◌*◌, ◌≤◌, length};
 ghost use Rattle.model.specs.State.{entries};

@@ -1,4 +1,5 @@
 // The draws of a seed, and the records that are drawn: the opening, and each later one by itself.
+#![tactic(auto)]
 
 ghost use Rattle.std.specs.Prelude.{◌≡◌, ◌≤◌};
 ghost use Rattle.model.specs.Records.{of, boardless};
@@ -8,7 +9,7 @@ ghost use Rattle.draws.specs.Drawn.{drawn_of};
 use records::Record;
 
 // A record that was drawn, and the state of its last draw.
-#[derive(Drop)]
+#[derive(Clone, Copy)]
 pub struct Drawn {
     pub made: Record,
     pub state: u32,

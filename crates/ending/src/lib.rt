@@ -1,5 +1,6 @@
 // The ending of a listing, the lines after the answers, from the row, the committed list and its terms. Inner layer:
 // callers see to the room, and that b is a replica.
+#![tactic(auto)]
 
 ghost use Rattle.std.specs.Prelude.{true, ◌≡◌, ◌+◌, ◌-◌, ◌≤◌, length, get_or, take};
 ghost use Rattle.model.specs.Ranges.{every, in_range, terms_in_range};

@@ -1,5 +1,6 @@
 // The text of a sheet, a line in words for each record: the call behind the entry for the hub's firmware (crate row)
 // and the program `explainsheet`.
+#![tactic(auto)]
 
 ghost use Rattle.std.specs.Prelude.{true, ◌≡◌, ℕ, ◌/◌, ◌≤◌, ◌<◌, leb, length, get_or};
 ghost use Rattle.text.specs.Text.{Wrote, Delivered};

@@ -1,3 +1,5 @@
+#![tactic(auto)]
+
 // Reads a sheet on standard input and prints a line in words for each record, or `refused` and the number.
 use libc::{STDIN_FILENO, STDOUT_FILENO};
 

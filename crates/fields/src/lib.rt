@@ -1,5 +1,6 @@
 // Numbers of two and of four bytes within a text, the low byte first, read at a place. Inner layer: callers see to it
 // that the text has them.
+#![tactic(auto)]
 
 ghost use Rattle.std.specs.Prelude.{◌≡◌, ◌+◌, ◌*◌, ◌≤◌, length};
 ghost use Rattle.fields.specs.Fields.{two_at, four_at};

@@ -1,4 +1,5 @@
 // The fields of a record: which of them its step uses, whether the record is well formed, and those of a step in words.
+#![tactic(auto)]
 
 ghost use Rattle.std.specs.Prelude.{cond, not, ◌&&◌, ◌≡◌, ◌+◌, ◌≤◌, eqb, length};
 ghost use Rattle.model.specs.Members.{is_replica};

@@ -1,5 +1,6 @@
 // Sheets from a seed, over the records that are drawn (crate draws): the call behind the entry for the hub's firmware
 // (crate row) and the program `seedsheet`.
+#![tactic(auto)]
 
 ghost use Rattle.std.specs.Prelude.{◌≡◌, ◌+◌, ◌*◌, ◌≤◌, length};
 ghost use Rattle.records.specs.Bytes.{sheet_bytes};

@@ -1,5 +1,6 @@
 // The list that leads to normal, of a sheet's row and of an image's row (document 02, Paper 10): the calls behind two
 // entries for the hub's firmware (crate row) and the programs `plansheet` and `planimage`.
+#![tactic(auto)]
 
 ghost use Rattle.std.specs.Prelude.{◌≡◌, ◌*◌, ◌≤◌};
 ghost use Rattle.recovery.specs.Plan.{Plan};

@@ -1,5 +1,6 @@
 // The head of an image (document 02, Paper 7), read; crate `heading` writes it. Inner layer: callers see to it that the
 // image has a head.
+#![tactic(auto)]
 
 ghost use Rattle.std.specs.Prelude.{◌≡◌, ◌+◌, ◌*◌, ◌≤◌, length};
 ghost use Rattle.fields.specs.Fields.{two_at};

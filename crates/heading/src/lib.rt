@@ -1,5 +1,6 @@
 // The head of an image (document 02, Paper 7), written; crate `head` has what it is, and reads it. Each writer stores
 // its bytes in out from place at on and answers the place after them. Inner layer: callers see to the room.
+#![tactic(auto)]
 
 ghost use Rattle.std.specs.Prelude.{[], ◌∷◌, ◌++◌, ◌≡◌, suc, ◌+◌, ◌<◌, ◌≤◌, length};
 ghost use Rattle.fields.specs.Fields.{two};

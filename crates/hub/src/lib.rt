@@ -1,6 +1,7 @@
 // The controller's steps over its record as the hub lends it: news (10), read leader (11), read (12), hear (14). Bad
 // input is refused with 1. Each copies the record out, calls the function of `copied` with it and stores what that
 // leaves.
+#![tactic(auto)]
 
 ghost use Rattle.hub.specs.Lent.{TakesNews, ReadsLeader, Reads, Hears, LentFixed};
 ghost use Rattle.hub.specs.Whole.{PutBack, LinksSafe};
@@ -12,7 +13,7 @@ mod fits;
 
 // What a board tells of itself: its number, its epoch, its joined epoch, the length of its log. Each must be in range,
 // also one that the step does not use.
-#[derive(Drop)]
+#[derive(Clone, Copy)]
 pub struct Report {
     pub board: u8,
     pub epoch: u16,
@@ -22,14 +23,14 @@ pub struct Report {
 
 // What a call answers, and the members behind its step as a mask: the empty set, as none of the four steps asks a
 // majority.
-#[derive(Drop)]
+#[derive(Clone, Copy)]
 pub struct Reply {
     pub answer: u8,
     pub behind: u8,
 }
 
 // The reply of a call, and the record that it leaves.
-#[derive(Drop)]
+#[derive(Clone, Copy)]
 pub struct Returned {
     pub reply: Reply,
     pub controller: Controller,

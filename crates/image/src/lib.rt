@@ -1,6 +1,7 @@
 // The image of a row (document 02, Paper 7): written into a lent slice, and taken up again. `store` and `list` hold
 // values, `store2` and `list2` the terms (leader epochs) at the same places. None of the public calls asks anything of
 // its caller.
+#![tactic(auto)]
 
 ghost use Rattle.std.specs.Prelude.{true, cond, ◌≡◌, ◌+◌, ◌*◌, length};
 ghost use Rattle.refinement.specs.Refinement.{lent, Shape};
@@ -11,7 +12,7 @@ ghost use Rattle.image.specs.Keeping.{Saves, lent_enough, Loads, ReadsBack, Resu
 use cluster::Cluster;
 
 // What the reader answers, 0 for an image that it took, and the row: the image's, or the one that was given.
-#[derive(Drop)]
+#[derive(Clone, Copy)]
 pub struct Loaded {
     pub answer: u8,
     pub row: Cluster,

@@ -1,6 +1,7 @@
 // Refusal 1 of a row for its kept epochs (document 02, Paper 4): the term of each entry inside a log or the receipts is
 // 1 to 4,000. Places past a length are not looked at. Inner layer: callers see to it that the second store and the
 // second list have their lengths, and that no log and no list of receipts is longer than 512.
+#![tactic(auto)]
 
 ghost use Rattle.std.specs.Prelude.{◌≡◌, List, map, ℕ, ◌≤◌, length};
 ghost use Rattle.model.specs.Ranges.{every, eight, is_epoch, kept_in_range};

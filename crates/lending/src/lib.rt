@@ -1,4 +1,5 @@
 // Steps 10, 11, 12 and 14 of a whole row: its controller is lent to the call of `hub`, and put back.
+#![tactic(auto)]
 
 ghost use Rattle.std.specs.Prelude.{◌≡◌, ◌≤◌};
 ghost use Rattle.model.specs.Steps as S;

@@ -1,5 +1,6 @@
 // The texts of single lines of a listing, and the writer of a record's line. Inner layer: callers see to it that `out`
 // has room for the text.
+#![tactic(auto)]
 
 ghost use Rattle.std.specs.Prelude.{◌≡◌, ◌+◌, ◌≤◌, length};
 ghost use Rattle.members.specs.Mask.{bits};

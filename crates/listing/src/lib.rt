@@ -1,6 +1,7 @@
 // The first lines of a listing: record, step, answer, and the set behind an accepted 2, 13 or 15. Inner layer: callers
 // see to it that there are an answer and a set, as a mask, for each record, 4,095 of them at most, that an answer has
 // two digits at most, and to the room.
+#![tactic(auto)]
 
 ghost use Rattle.std.specs.Prelude.{◌≡◌, ◌++◌, ℕ, ◌+◌, ◌/◌, ◌≤◌, ◌<◌, leb, length, get_or};
 ghost use Rattle.cluster.specs.Layout.{bits};

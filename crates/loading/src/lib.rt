@@ -2,6 +2,7 @@
 // and the second store, the boards' lengths, and the receipts into the list and the second list. Error 19 changes
 // nothing but the scratch. Inner layer: callers see to it that an image has its length, 258 bytes and 8 for each of n
 // records, and that the lent places and the scratch have theirs.
+#![tactic(auto)]
 
 ghost use Rattle.std.specs.Prelude.{true, ◌≡◌, ◌+◌, ◌*◌, ◌<◌, ◌≤◌, length};
 ghost use Rattle.marks.specs.Marks.{most, room};

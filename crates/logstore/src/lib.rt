@@ -2,6 +2,7 @@
 // lent slice of 4,096 numbers, the values: replica b owns the 512 places from 512 * (b - 1), and crate logparts writes
 // there. A second store and a second list have the terms (leader epochs) at the same places. Inner layer: callers see
 // to it that b is a replica, 1 to 8, and that a place is inside its log.
+#![tactic(auto)]
 
 ghost use Rattle.std.specs.Prelude.{◌≡◌, ◌<◌, ◌≤◌, length, set, get_or};
 ghost use Rattle.model.specs.State.{entry, same_entry};

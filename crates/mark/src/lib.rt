@@ -1,4 +1,5 @@
 // The mark of a board line: late or current (document 02, Paper 1).
+#![tactic(auto)]
 
 ghost use Rattle.std.specs.Prelude.{◌≡◌};
 ghost use Rattle.cluster.specs.Layout.{view_of};

@@ -1,6 +1,7 @@
 // Marks of record numbers in a lent scratch, one bit for each (document 02, Paper 8: "with 576 bytes of scratch or
 // more"). What a mark is in bytes is known here alone. Inner layer: callers see to it that a scratch is long enough for
 // a mark.
+#![tactic(auto)]
 
 ghost use Rattle.std.specs.Prelude.{◌≡◌, ◌≤◌, leb, length, replicate};
 ghost use Rattle.marks.specs.Marks.{most, room, marked, adding};

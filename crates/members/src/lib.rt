@@ -1,4 +1,5 @@
 // A set of replicas as a mask, replica 1 the lowest bit. Inner layer: callers see to it that b is a replica, 1 to 8.
+#![tactic(auto)]
 
 ghost use Rattle.std.specs.Prelude.{◌≡◌, true, false, ◌≤◌};
 ghost use Rattle.model.specs.Prelude.{upd};

@@ -1,5 +1,6 @@
 // What is proved of the papers' rules alone. Nothing here is to be run: each function is the carrier of a
 // statement, which is its promise.
+#![tactic(auto)]
 
 ghost use Rattle.model.specs.Carried.{CarriersHold};
 ghost use Rattle.model.specs.Claim.{DemandThree};

@@ -1,4 +1,5 @@
 // A list of records of a step and a board kept in few bytes, as orders, and written out as a sheet's records.
+#![tactic(auto)]
 
 ghost use Rattle.std.specs.Prelude.{◌++◌, ◌≡◌, suc, ◌+◌, ◌*◌, ◌≤◌, length, replicate};
 ghost use Rattle.model.specs.Records.{of};

@@ -17,8 +17,8 @@ use Rattle.reading.specs.Reading.{is_digit, leading}
 use Rattle.reading.proofs.Decimal.{digits-differ, cut-digits}
 use Rattle.records.specs.Bytes.{record_at, record_bytes}
 use Rattle.records.proofs.Encoding.{bytes-length}
-use Rattle.hex.specs.Hex.{hexes}
-use Rattle.hex.proofs.Hexes.{hexes-differ}
+use Rattle.hexes.specs.Hex.{hexes}
+use Rattle.hexes.proofs.Hexes.{hexes-differ}
 use Rattle.phrases.specs.Phrases.{no_step, reasons, phrase_in, is_listed}
 use Rattle.phrases.specs.Line.{lead_text, trail_text, board_part, second_part, step_text, raw_text, head_text, place, reason_text, verdict_text, line}
 use Rattle.phrases.specs.Describe.{LinesDiffer}

@@ -13,8 +13,8 @@ use Rattle.model.proofs.Tests.{split-and, join-and, by-test}
 use Rattle.text.specs.Text.{Text, digits}
 use Rattle.reading.proofs.Decimal.{by_digits}
 use Rattle.records.specs.Bytes.{record_at, record_bytes}
-use Rattle.hex.specs.Hex.{hex_digit, hexes}
-use Rattle.hex.proofs.Hexes.{Bytes}
+use Rattle.hexes.specs.Hex.{hex_digit, hexes}
+use Rattle.hexes.proofs.Hexes.{Bytes}
 use Rattle.phrases.specs.Line.{board_part, second_part}
 use Rattle.phrases.specs.Describe.{EightBytes}
 

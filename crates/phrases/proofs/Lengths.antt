@@ -15,8 +15,8 @@ use Rattle.text.proofs.Laws.{digits-one-length, digits-most-10}
 use Rattle.lines.specs.Lines.{word, newline}
 use Rattle.records.specs.Bytes.{record_at, record_bytes}
 use Rattle.records.proofs.Encoding.{bytes-length}
-use Rattle.hex.specs.Hex.{hexes}
-use Rattle.hex.proofs.Hexes.{Bytes, hexes-triple}
+use Rattle.hexes.specs.Hex.{hexes}
+use Rattle.hexes.proofs.Hexes.{Bytes, hexes-triple}
 use Rattle.phrases.specs.Phrases.{no_step, phrase_in, is_listed}
 use Rattle.phrases.specs.Line.{lead_text, trail_text, board_part, second_part, step_text, raw_text, head_text, place, verdict_text, line}
 use Rattle.phrases.specs.Describe.{LengthsTell}

@@ -13,7 +13,7 @@ use Rattle.model.proofs.Tests.{split-and, join-and, is_true, eq-or-ne}
 use Rattle.text.specs.Text.{Text}
 use Rattle.lines.specs.Lines.{word, newline}
 use Rattle.records.specs.Bytes.{record_at, record_bytes}
-use Rattle.hex.specs.Hex.{hexes}
+use Rattle.hexes.specs.Hex.{hexes}
 use Rattle.phrases.specs.Phrases.{no_step, reasons, is_listed}
 use Rattle.phrases.specs.Line.{lead_text, trail_text, board_part, second_part, step_text, raw_text, head_text, place, reason_text, verdict_text, line}
 use Rattle.phrases.specs.Describe.{is_one_line, OneLine}

@@ -2,7 +2,7 @@
 use mathlib.Core.Path.{refl}
 use Rattle.text.specs.Text.{over, digits, digits_within}
 use Rattle.records.specs.Bytes.{record_bytes}
-use Rattle.hex.specs.Hex.{hexes}
+use Rattle.hexes.specs.Hex.{hexes}
 use Rattle.phrases.specs.Phrases.{phrase_in, is_listed_in}
 use Rattle.phrases.specs.Line.{step_text, raw_text, head_text, verdict_text, line}
 use Rattle.phrases.specs.Describe.{result, left, LinesHold, RoomHolds}

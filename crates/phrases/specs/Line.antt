@@ -5,7 +5,7 @@ use Rattle.text.specs.Text.{Text, digits}
 use Rattle.lines.specs.Lines.{word, newline}
 use Rattle.model.specs.Records.{Record, boardless, well_formed}
 use Rattle.records.specs.Bytes.{record_bytes}
-use Rattle.hex.specs.Hex.{hexes}
+use Rattle.hexes.specs.Hex.{hexes}
 use Rattle.phrases.specs.Phrases.{no_step, form_of, reasons, phrase_in}
 
 -- "the step's name, the boards and value it uses"

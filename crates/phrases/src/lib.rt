@@ -1,5 +1,6 @@
 // The phrase list, the line of a record and its answer, and what holds of all lines (document 02, Paper 5): definitions
 // and laws. The list as bytes is in crate wording, the writer of a line in telling, the call in describe.
+#![tactic(auto)]
 
 ghost use Rattle.phrases.specs.Describe.{LinesDiffer, OneLine, Covers, LengthsTell, LinesHold, RoomHolds};
 

@@ -1,6 +1,7 @@
 // The pieces of a list that leads a row to normal (document 02, Paper 10): each record is tried on the row, in turn,
 // over a draft by value, the lent places, and the notes, which have the orders so far. Inner layer: the places are
 // written, so callers lend copies, or places that they have done with.
+#![tactic(auto)]
 
 ghost use Rattle.std.specs.Prelude.{◌≡◌, cond, ◌&&◌, ◌∷◌, [], ◌++◌, suc, ◌+◌, ◌-◌, ◌*◌, ◌≤◌, eqb, length, replicate};
 ghost use Rattle.model.specs.State.{entries, RowState};
@@ -18,7 +19,7 @@ use records::Record;
 
 // A list in the making: the row after its records so far, how many orders were noted of them, and whether nothing was
 // met that is error 20.
-#[derive(Drop)]
+#[derive(Clone, Copy)]
 pub struct Draft {
     pub row: Cluster,
     pub count: usize,

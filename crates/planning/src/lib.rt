@@ -1,6 +1,7 @@
 // The call that gives the records that lead a row to normal, and their number (document 02, Paper 10). It asks nothing of
 // its caller, and row and places (the two stores, the receipts and their epochs) are only read: the steps of the list
 // are tried on copies, 27,648 bytes in the call's own stack frame.
+#![tactic(auto)]
 
 ghost use Rattle.refinement.specs.Refinement.{lent};
 ghost use Rattle.planning.specs.Planning.{Plans, CallsRecover, FollowsRecover};

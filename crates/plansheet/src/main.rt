@@ -1,3 +1,5 @@
+#![tactic(auto)]
+
 // Reads a sheet on standard input and writes the records that lead its row to normal, or prints `refused` and the
 // number.
 use libc::{STDIN_FILENO, STDOUT_FILENO};

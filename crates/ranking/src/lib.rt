@@ -1,5 +1,6 @@
 // Which boards a list of document 02's Paper 10 names: the lowest-numbered of a set, and the highest ranked of them as
 // the controller heard them. Sets are masks, and any number is taken for a board: what is no replica is in no set.
+#![tactic(auto)]
 
 ghost use Rattle.std.specs.Prelude.{◌≡◌, false, ◌&&◌, ◌||◌, ◌≤◌, ltb, eqb};
 ghost use Rattle.model.specs.Prelude.{upd};

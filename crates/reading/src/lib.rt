@@ -1,10 +1,11 @@
 // Reading a line: a number within a text, and whether two texts are the same.
+#![tactic(auto)]
 
 ghost use Rattle.std.specs.Prelude.{◌↔◌, ◌≡◌, ◌+◌, ◌≤◌, T, length};
 ghost use Rattle.reading.specs.Reading.{digits_at, reads};
 
 // A number, and the place after its digits.
-#[derive(Drop)]
+#[derive(Clone, Copy)]
 pub struct Number {
     pub value: u64,
     pub end: usize,

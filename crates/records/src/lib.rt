@@ -1,4 +1,5 @@
 // A record of a sheet: its bytes, the check of its unused fields; and refusal 2 of a sheet.
+#![tactic(auto)]
 
 ghost use Rattle.std.specs.Prelude.{◌≡◌, cond, ◌&&◌, ◌+◌, ◌≤◌, eqb, length, drop};
 ghost use Rattle.text.specs.Text.{Wrote};
@@ -6,7 +7,7 @@ ghost use Rattle.records.specs.Record.{record_of};
 ghost use Rattle.records.specs.Bytes.{number, record_at, record_bytes, whole_records, is_opening, is_sheet};
 
 // A record of a sheet: its step, its board (a in step 9), b in step 9, a spare byte, the value.
-#[derive(Drop)]
+#[derive(Clone, Copy)]
 pub struct Record {
     pub step: u8,
     pub board: u8,

@@ -1,5 +1,6 @@
 // The records that lead a row to status normal (document 02, Paper 10): what they are, and that they do. Nothing here
 // is to be run: each function is the carrier of a statement, which is its promise.
+#![tactic(auto)]
 
 ghost use Rattle.recovery.specs.Claim.{RunsRecover, AnyPlan};
 ghost use Rattle.recovery.specs.Trials.{TrialsHold};

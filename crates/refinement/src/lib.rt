@@ -1,5 +1,6 @@
 // A row with the lent places, as a state of the model: definitions and laws, and how a replica's part is read. Inner
 // layer: callers see to it that k and h are replicas, 1 to 8.
+#![tactic(auto)]
 
 ghost use Rattle.std.specs.Prelude.{◌≡◌, ◌+◌, ◌-◌, ◌*◌, ◌≤◌, length, get_or};
 ghost use Rattle.cluster.specs.Layout.{no_view};

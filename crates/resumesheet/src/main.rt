@@ -1,3 +1,5 @@
+#![tactic(auto)]
+
 // Takes a row up from an image and goes on with more records: bytes on standard input and output, for tools and tests.
 // Input: 4 bytes, the image's length, low byte first; the image; then 0 to 4,095 records of 8 bytes (an opening among
 // them is answered 1). Output: 0, or the number of the refusal and no more: 2 where the input is too short for its

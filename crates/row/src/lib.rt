@@ -1,5 +1,6 @@
 // The entries for the hub's firmware in C, all in this one crate: an archive exports the marked functions of its own
 // crate alone. Each is one call of a proved function, with the same promise. include/row.h declares them.
+#![tactic(auto)]
 
 ghost use Rattle.std.specs.Prelude.{◌≡◌};
 ghost use Rattle.sheet.specs.Sheet as Sheet;

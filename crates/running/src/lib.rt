@@ -1,5 +1,6 @@
 // The run of a sheet, record by record: the row that it ends with, its answers and the sets behind them. For `sheet`,
 // `explain` and `archive`.
+#![tactic(auto)]
 
 ghost use Rattle.std.specs.Prelude.{◌≡◌, true, ◌-◌, ◌/◌, length, take};
 ghost use Rattle.model.specs.Records.{opening_of};
@@ -23,7 +24,7 @@ fn begin(sheet: &[u8]) -> Cluster
 
 // What a run carries from record to record beside the lent places: the row without the joined epochs, the counts and
 // the lengths.
-#[derive(Drop)]
+#[derive(Clone, Copy)]
 struct Carried {
     registry: Registry,
     controller: Controller,

@@ -1,3 +1,5 @@
+#![tactic(auto)]
+
 // Reads a sheet on standard input and writes the image of its row, or prints `refused` and the number.
 use libc::{STDIN_FILENO, STDOUT_FILENO};
 

@@ -1,4 +1,5 @@
 // The lists of a row written as chains of records (document 02, Paper 7): the records, and where each chain begins.
+#![tactic(auto)]
 
 ghost use Rattle.std.specs.Prelude.{cond, [], ◌∷◌, ◌++◌, ◌≡◌, ℕ, ◌+◌, ◌*◌, ◌<◌, ◌≤◌, eqb, ltb, length};
 ghost use Rattle.logstore.specs.Log.{pairs, log_of};

@@ -1,11 +1,12 @@
 // The input of the program `seedsheet`: a line with a seed and a count; and what the program prints.
+#![tactic(auto)]
 
 ghost use Rattle.std.specs.Prelude.{◌*◌, ◌≤◌, length};
 ghost use Rattle.text.specs.Text.{Wrote};
 ghost use Rattle.seedline.specs.Line.{seed_line, Read, Prints, LinesDiffer, LinesSeen, LinesLook, OthersRefused};
 
 // What an input asks for: the sheet of a seed and a count of records, in this order; or it is another input.
-#[derive(Drop)]
+#[derive(Clone, Copy)]
 pub enum Input {
     Asked(u32, u32),
     Other,

@@ -1,3 +1,5 @@
+#![tactic(auto)]
+
 // Reads a seed and a count of records on standard input and writes their sheet, or `refused 2`.
 use libc::{STDIN_FILENO, STDOUT_FILENO};
 

@@ -1,4 +1,5 @@
 // A sheet and its listing: the call behind the entry for the hub's firmware (crate row) and the program `runsheet`.
+#![tactic(auto)]
 
 ghost use Rattle.std.specs.Prelude.{◌≡◌};
 ghost use Rattle.model.specs.Trials.{TrialsHold};

@@ -1,3 +1,5 @@
+#![tactic(auto)]
+
 // Reads an image on standard input and prints the lines of its row, or `refused` and the number.
 use libc::{STDIN_FILENO, STDOUT_FILENO};
 

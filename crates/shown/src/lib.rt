@@ -1,5 +1,6 @@
 // Refusal 1 of a row and the lent places, and the shown list: its values and its terms. `store` and `list` hold values,
 // `store2` and `list2` the terms (leader epochs) at the same places. None of the calls asks anything of its caller.
+#![tactic(auto)]
 
 ghost use Rattle.std.specs.Prelude.{◌≡◌};
 ghost use Rattle.refinement.specs.Refinement.{lent, Shape};

@@ -1,5 +1,6 @@
 // The writers of the lines of a state: the registry, the controller, the boards, a receipt. Inner layer: callers see to
 // it that `out` has room for the text.
+#![tactic(auto)]
 
 ghost use Rattle.std.specs.Prelude.{◌++◌, ◌+◌, ◌≤◌, length};
 ghost use Rattle.model.specs.State.{entry};

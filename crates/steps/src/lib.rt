@@ -1,5 +1,6 @@
 // The public calls: the opening, the fifteen steps, any record. None asks anything of its caller: refusal 1 is tested
 // first. `store` and `list` hold values, `store2` and `list2` the terms (leader epochs) at the same places.
+#![tactic(auto)]
 
 ghost use Rattle.std.specs.Prelude.{◌≡◌};
 ghost use Rattle.model.specs.State as M;

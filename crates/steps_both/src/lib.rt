@@ -1,6 +1,7 @@
 // The steps of registry and controller: set normal (13), install (15). A step is answered by its `may_` function,
 // which makes the checks of specs/Checks.antt; refused it gives both back, with no one behind it. Tests are joined by
 // `&` and `|`, which make no branch: the result is then the contract's term by computation.
+#![tactic(auto)]
 
 ghost use Rattle.std.specs.Prelude.{◌≡◌, not, ◌&&◌, ◌||◌, ◌≤◌, leb, ltb, eqb};
 ghost use Rattle.model.specs.Prelude.{first_failed};

@@ -3,6 +3,7 @@
 // that they look at. Each promise is for every row with these parts, logs of at most 512 entries, at most 512 receipts
 // and lent places of their lengths. Inner layer: callers see to it that the lent places have their lengths and that no
 // log is longer than 512. A refused step of a part gives that part back, so no step here tests the answer.
+#![tactic(auto)]
 
 ghost use Rattle.std.specs.Prelude.{◌≡◌, List, ℕ, ◌≤◌, length};
 ghost use Rattle.model.specs.State as M;

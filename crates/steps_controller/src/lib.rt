@@ -2,6 +2,7 @@
 // `may_` function, which makes the checks of specs/Checks.antt; refused it gives the controller back. Inner layer:
 // callers see to it that a log's length is at most 512, and to a leader at stage leader; `steps` and `hub` refuse
 // others with 1.
+#![tactic(auto)]
 
 ghost use Rattle.std.specs.Prelude.{◌≡◌, ◌≤◌};
 ghost use Rattle.model.specs.Prelude.{first_failed};

@@ -3,6 +3,7 @@
 // row with these parts, at most 512 receipts and lent places of their lengths. Inner layer: callers see to it that the
 // lent places have their lengths, that no log is longer than 512, and that the leaders in the views are replicas or
 // none.
+#![tactic(auto)]
 
 ghost use Rattle.std.specs.Prelude.{◌≡◌, not, cond, ◌&&◌, List, ℕ, ◌≤◌, ◌<◌, eqb, length, set};
 ghost use Rattle.model.specs.Prelude.{upd, first_failed};
@@ -20,7 +21,7 @@ use cluster::{View, check, replica, seat};
 use refinement::{lookup, view};
 
 // What step 6 answers, and the view it leaves at a place among the views.
-#[derive(Drop)]
+#[derive(Clone, Copy)]
 pub struct Taken {
     pub answer: u8,
     pub place: usize,

@@ -2,6 +2,7 @@
 // replicas' views by value; their joined epochs, counts and lengths and the two stores lent. Each promise is for every
 // row with these parts, at most 512 receipts and lent places of their lengths. Inner layer: callers see to it that the
 // lent places have their lengths and that no log is longer than 512.
+#![tactic(auto)]
 
 ghost use Rattle.std.specs.Prelude.{◌≡◌, not, ◌&&◌, List, ℕ, ◌≤◌, eqb, length};
 ghost use Rattle.model.specs.Prelude.{first_failed};

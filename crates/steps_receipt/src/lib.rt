@@ -2,6 +2,7 @@
 // and lengths, the two stores and the two lists lent. Its promise is for every row with these parts and lent places of
 // their lengths. Inner layer: callers see to it that there are at most 512 receipts, that the lent places have their
 // lengths and that no log is longer than 512.
+#![tactic(auto)]
 
 ghost use Rattle.std.specs.Prelude.{◌≡◌, List, ℕ, ◌≤◌, length};
 ghost use Rattle.model.specs.Prelude.{first_failed};
@@ -17,7 +18,7 @@ use cluster::{View, check, replica, seat};
 use refinement::{lookup, pair, view};
 
 // What step 2 answers, the members behind it, and the number of receipts it leaves.
-#[derive(Drop)]
+#[derive(Clone, Copy)]
 pub struct Given {
     pub answer: u8,
     pub behind: u8,

@@ -1,5 +1,6 @@
 // The steps of the registry alone: add (3), remove (4), change leader (5). A step is answered by its `may_` function,
 // which makes the checks of specs/Checks.antt; refused it gives the registry back.
+#![tactic(auto)]
 
 ghost use Rattle.std.specs.Prelude.{◌≡◌, false, cond, ◌≤◌, eqb};
 ghost use Rattle.model.specs.Prelude.{upd, first_failed};

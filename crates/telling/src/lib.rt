@@ -1,5 +1,6 @@
 // A record and its answer in words: the writer of one English line (document 02, Paper 5). Inner layer: callers see to
 // the room, and that the answer is on the list.
+#![tactic(auto)]
 
 ghost use Rattle.std.specs.Prelude.{true, ◌≡◌, ◌+◌, ◌<◌, ◌≤◌, length};
 ghost use Rattle.text.specs.Text.{Wrote};
@@ -30,7 +31,7 @@ fn put_raw(out: &mut [u8], at: usize, r: Record) -> usize
 {
     let b = records::bytes(r);
     let p = wording::put_lead(&mut *out, at, 16);
-    hex::put_hexes(&mut *out, p, &b)
+    hexes::put_hexes(&mut *out, p, &b)
 }
 
 // Writes the step of a record, or its bytes.

@@ -1,5 +1,6 @@
 // Writers of bytes and numbers. Each stores a text in out from place at on and answers the place after it. Inner layer:
 // callers see to it that out has room for the text.
+#![tactic(auto)]
 
 ghost use Rattle.std.specs.Prelude.{◌∷◌, [], ◌++◌, ◌≡◌, ◌<◌, ◌≤◌, ◌+◌, length};
 ghost use Rattle.text.specs.Text.{Wrote, digits};

@@ -1,5 +1,6 @@
 // The step of a record, of a row by value: its parts are sent to the step and put together again. For `steps`, and for
 // the lists that lead to normal. Inner layer.
+#![tactic(auto)]
 
 ghost use Rattle.model.specs.Records as R;
 ghost use Rattle.refinement.specs.Refinement.{lent, Full, Ready, Turns};

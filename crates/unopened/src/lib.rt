@@ -1,4 +1,5 @@
 // The listing of the empty sheet, one line: for `sheet`.
+#![tactic(auto)]
 
 ghost use Rattle.text.specs.Text.{Delivered};
 ghost use Rattle.unopened.specs.Unopened.{unopened};

@@ -1,5 +1,6 @@
 // The phrase list as bytes: the words of the steps, and those of the answers. phrases/specs/Phrases.antt has the same
 // list, and the proofs hold the two together. Inner layer: callers see to the room and to places in the lists.
+#![tactic(auto)]
 
 ghost use Rattle.std.specs.Prelude.{true, ◌&&◌, ◌≡◌, ◌+◌, ◌-◌, ◌/◌, ◌%◌, ◌^◌, ◌<◌, ◌≤◌, eqb, length, take, drop, get_or};
 ghost use Rattle.text.specs.Text.{Wrote};

@@ -3,7 +3,7 @@ use mathlib.Core.Path.{refl}
 use Rattle.model.specs.Runs.{run, answers}
 use Rattle.text.specs.Text.{digits, digits_within, over, each_of}
 use Rattle.records.specs.Bytes.{records, record_bytes, sheet_bytes}
-use Rattle.hex.specs.Hex.{hexes}
+use Rattle.hexes.specs.Hex.{hexes}
 use Rattle.phrases.specs.Phrases.{phrase_in}
 use Rattle.phrases.specs.Line.{step_text, raw_text, head_text, verdict_text, line}
 use Rattle.running.specs.Running.{answers_of}

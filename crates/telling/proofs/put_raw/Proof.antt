@@ -5,7 +5,7 @@ use lib.ListN.{length}
 use Rattle.records.specs.Record.{record_of}
 use Rattle.records.specs.Bytes.{record_bytes}
 use Rattle.text.proofs.Laws.{fits, rest, then, wrote_as}
-use Rattle.hex.specs.Hex.{hexes}
+use Rattle.hexes.specs.Hex.{hexes}
 use Rattle.phrases.specs.Phrases.{no_step}
 use Rattle.phrases.specs.Line.{lead_text, raw_text}
 use borrow.Author.Rules.{rules}

@@ -1,9 +1,10 @@
 // Bytes in hexadecimal, as the line of a malformed record has them (document 02, Paper 5).
+#![tactic(auto)]
 
 ghost use Rattle.std.specs.Prelude.{◌≡◌, ◌++◌, ◌+◌, ◌<◌, ◌≤◌, length};
 ghost use Rattle.text.specs.Text.{Wrote};
 ghost use Rattle.lines.specs.Lines.{space};
-ghost use Rattle.hex.specs.Hex.{hex_digit, hex, hexes};
+ghost use Rattle.hexes.specs.Hex.{hex_digit, hex, hexes};
 
 // The digit of a number below 16.
 fn hex_digit(x: u8) -> u8

@@ -13,7 +13,7 @@ use Rattle.model.proofs.Tests.{by-test}
 use Rattle.text.specs.Text.{Text, Wrote}
 use Rattle.text.proofs.Laws.{nothing}
 use Rattle.lines.specs.Lines.{space}
-use Rattle.hex.specs.Hex.{hex_digit, hex, hexes}
+use Rattle.hexes.specs.Hex.{hex_digit, hex, hexes}
 
 pub hex-written : {d e : Text} {at r high low : ℕ} (b : ℕ) → high ≡ hex_digit (b / 16) → low ≡ hex_digit (b % 16)
     → Wrote d at (32 ∷ high ∷ low ∷ []) e r → Wrote d at (space ++ hex b) e r

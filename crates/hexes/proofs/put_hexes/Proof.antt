@@ -1,14 +1,14 @@
--- `hex::put_hexes` meets its contract. The loop's invariant: the first i bytes are written. Assumes nothing.
+-- `hexes::put_hexes` meets its contract. The loop's invariant: the first i bytes are written. Assumes nothing.
 use mathlib.Core.Path.{◌≡◌, refl}
 use Prim.Native.Nat.{◌-◌, ◌≤◌}
 use native.Mathlib.Omega.{arith}
 use lib.ListN.{length, take}
 use Rattle.text.specs.Text.{Wrote}
 use Rattle.text.proofs.Laws.{then}
-use Rattle.hex.specs.Hex.{hexes}
-use Rattle.hex.proofs.Hexes.{hexes-none, hexes-next, hexes-length, hexes-all}
-use Rattle.hex.proofs.put_hexes.Statement.{statement}
-use Rattle.hex.proofs.put_hexes.Tie as tie
+use Rattle.hexes.specs.Hex.{hexes}
+use Rattle.hexes.proofs.Hexes.{hexes-none, hexes-next, hexes-length, hexes-all}
+use Rattle.hexes.proofs.put_hexes.Statement.{statement}
+use Rattle.hexes.proofs.put_hexes.Tie as tie
 
 abbrev invariant-loop : tie.invariant-loop
 invariant-loop out₀ at s p₀ i₀ out p i = (i ≤ length s) × (length out ≡ length out₀) × Wrote out₀ at (hexes (take i s)) out p

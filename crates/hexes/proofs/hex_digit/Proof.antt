@@ -1,8 +1,8 @@
--- `hex::hex_digit` meets its contract. Assumes nothing.
+-- `hexes::hex_digit` meets its contract. Assumes nothing.
 use borrow.Author.Tests.{lt-ltb, le-ltb}
 use borrow.Author.Rules.{rules}
-use Rattle.hex.proofs.hex_digit.Statement.{statement}
-use Rattle.hex.proofs.hex_digit.Tie as tie
+use Rattle.hexes.proofs.hex_digit.Statement.{statement}
+use Rattle.hexes.proofs.hex_digit.Tie as tie
 
 add-result : tie.Need-overflow-add-result
 add-result c = search rules

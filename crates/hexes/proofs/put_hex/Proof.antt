@@ -1,9 +1,9 @@
--- `hex::put_hex` meets its contract. Assumes nothing.
+-- `hexes::put_hex` meets its contract. Assumes nothing.
 use Rattle.text.proofs.Laws.{then}
-use Rattle.hex.proofs.Hexes.{hex-written}
+use Rattle.hexes.proofs.Hexes.{hex-written}
 use borrow.Author.Rules.{rules}
-use Rattle.hex.proofs.put_hex.Statement.{statement}
-use Rattle.hex.proofs.put_hex.Tie as tie
+use Rattle.hexes.proofs.put_hex.Statement.{statement}
+use Rattle.hexes.proofs.put_hex.Tie as tie
 
 hex-digit-requires : tie.Need-hex-digit-requires
 hex-digit-requires c κs = search rules
