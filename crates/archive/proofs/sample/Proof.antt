@@ -9,5 +9,5 @@ returns : tie.Need-returns
 unfolding EmptyRefused save_result save_left
 returns c = (sample-holds, λ out. (refl, refl), lengths-tell)
 
-pub sample-spec : {M : Type 1} → statement M
-sample-spec = tie.close (tie.spec returns)
+pub sample_spec : {M : Type 1} → statement M
+sample_spec = tie.close (tie.spec returns)

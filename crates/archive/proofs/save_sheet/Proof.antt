@@ -8,39 +8,39 @@ use Rattle.archive.proofs.Archiving.{no-sheet, sheet-saved}
 use Rattle.archive.proofs.save_sheet.Statement.{statement}
 use Rattle.archive.proofs.save_sheet.Tie as tie
 
-abbrev start : tie.After-is-sheet → tie.Start
+abbrev start : tie.After-is_sheet → tie.Start
 start c = c.before.before.before
 
-passed : (c : tie.Else1) → is_sheet (start c.before).args.sheet.now ≡ true
-passed c = sym c.before.is-sheet.ensures ∙ not-false _ c.if1.false
+passed : (c : tie.Else-not-is_sheet) → is_sheet (start c.before).args.sheet.now ≡ true
+passed c = sym c.before.is_sheet.ensures ∙ not-false _ c.if-not-is_sheet.false
 
-is-sheet-requires : tie.Need-is-sheet-requires
+is-sheet-requires : tie.Need-is_sheet-requires
 is-sheet-requires c κs = search rules
 
-returns : tie.Need-returns
+returns : tie.Need-returns-then-not-is_sheet
 returns c =
     let a = (start c.before).args in
-    no-sheet a.sheet.now a.out.now (sym c.before.is-sheet.ensures ∙ not-true _ c.if1.true)
+    no-sheet a.sheet.now a.out.now (sym c.before.is_sheet.ensures ∙ not-true _ c.if-not-is_sheet.true)
 
-slice-aggregate-play : tie.Need-slice-aggregate-play
+slice-aggregate-play : tie.Need-slice_bounds-play-end
 slice-aggregate-play c = search rules
 
-slice-aggregate-play-2 : tie.Need-slice-aggregate-play-2
+slice-aggregate-play-2 : tie.Need-slice_bounds-play-end-2
 slice-aggregate-play-2 c = search rules
 
-slice-aggregate-play-3 : tie.Need-slice-aggregate-play-3
+slice-aggregate-play-3 : tie.Need-slice_bounds-play-end-3
 slice-aggregate-play-3 c = search rules
 
-slice-aggregate-play-4 : tie.Need-slice-aggregate-play-4
+slice-aggregate-play-4 : tie.Need-slice_bounds-play-end-4
 slice-aggregate-play-4 c = search rules
 
-slice-aggregate-play-5 : tie.Need-slice-aggregate-play-5
+slice-aggregate-play-5 : tie.Need-slice_bounds-play-end-5
 slice-aggregate-play-5 c = search rules
 
-slice-aggregate-play-6 : tie.Need-slice-aggregate-play-6
+slice-aggregate-play-6 : tie.Need-slice_bounds-play-end-6
 slice-aggregate-play-6 c = search rules
 
-play-requires : tie.Need-play-requires
+play-requires : tie.Need-play-row-requires
 play-requires c κs = (
   passed c.before.before.before.before.before.before,
   record { store = refl; store2 = refl; list = refl; list2 = refl },
@@ -48,34 +48,34 @@ play-requires c κs = (
   refl,
 )
 
-slice-aggregate-save : tie.Need-slice-aggregate-save
+slice-aggregate-save : tie.Need-slice_bounds-save-end
 slice-aggregate-save c = search rules
 
-slice-aggregate-save-2 : tie.Need-slice-aggregate-save-2
+slice-aggregate-save-2 : tie.Need-slice_bounds-save-end-2
 slice-aggregate-save-2 c = search rules
 
-slice-aggregate-save-3 : tie.Need-slice-aggregate-save-3
+slice-aggregate-save-3 : tie.Need-slice_bounds-save-end-3
 slice-aggregate-save-3 c = search rules
 
-slice-aggregate-save-4 : tie.Need-slice-aggregate-save-4
+slice-aggregate-save-4 : tie.Need-slice_bounds-save-end-4
 slice-aggregate-save-4 c = search rules
 
 save-requires : tie.Need-save-requires
 save-requires c κs = search rules
 
-same_length : tie.Need-same-length
+same_length : tie.Need-shape_of-out
 same_length c = search rules
 
-returns-2 : tie.Need-returns-2
+returns-2 : tie.Need-returns
 returns-2 c =
     let w = c.before.before in
     let p = w.before.before.before.before.before.before.before.before.before.before.before.before in
     let d = p.before.before.before.before.before.before.before in
     let a = (start d.before).args in
-    sheet-saved a.sheet.now (passed d) _ _ _ _ p.play.ensures a.out.now _ _ w.save.ensures
+    sheet-saved a.sheet.now (passed d) _ _ _ _ p.play-row.ensures a.out.now _ _ w.save.ensures
 
-pub save-sheet-spec : {M : Type 1} → statement M
-save-sheet-spec =
+pub save_sheet_spec : {M : Type 1} → statement M
+save_sheet_spec =
     tie.close
     (tie.spec
     is-sheet-requires

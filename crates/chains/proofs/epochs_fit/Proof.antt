@@ -11,13 +11,13 @@ use Rattle.chains.proofs.Meeting.{up_to-step, up_to-zero}
 use Rattle.chains.proofs.epochs_fit.Statement.{statement}
 use Rattle.chains.proofs.epochs_fit.Tie as tie
 
-abbrev invariant-loop : tie.invariant-loop
+abbrev invariant-loop : tie.invariant-loop-k
 invariant-loop image n k₀ k = (k ≤ n) × (epochs_fit n image ≡ epochs_fit k image)
 
-abbrev decreases-loop : tie.decreases-loop
+abbrev decreases-loop : tie.decreases-loop-k
 decreases-loop image n k₀ k = k
 
-loop-holds : tie.Need-loop-init invariant-loop decreases-loop
+loop-holds : tie.Need-loop-k-init invariant-loop decreases-loop
 loop-holds c = (omega arith, refl)
 
 term-requires : tie.Need-term-requires invariant-loop decreases-loop
@@ -26,36 +26,36 @@ term-requires c κs = omega arith
 epoch-requires : tie.Need-epoch-requires invariant-loop decreases-loop
 epoch-requires c κs = search rules
 
-returns : tie.Need-returns invariant-loop decreases-loop
+returns : tie.Need-returns-then-not-epoch invariant-loop decreases-loop
 returns c =
-    let l = c.before.before.before.before.loop in
+    let l = c.before.before.before.before.loop-k in
     let i = c.before.before.before.before.before.before.args.image.now in
     let t = c.before.epoch.ensures ∙ ap is_epoch c.before.before.term.ensures in
-    let e : is_epoch (epoch_of i l.k) ≡ false = sym t ∙ not-true _ c.if1.true in
+    let e : is_epoch (epoch_of i l.k) ≡ false = sym t ∙ not-true _ c.if-not-epoch.true in
     sym (l.invariant.1 ∙ up_to-step l.k (λ j. is_epoch (epoch_of i j)) (omega arith) ∙ rw e)
 
-sub-k : tie.Need-overflow-sub-k invariant-loop decreases-loop
+sub-k : tie.Need-overflow_sub-k invariant-loop decreases-loop
 sub-k c = omega arith
 
-loop-less : tie.Need-loop-smaller invariant-loop decreases-loop
+loop-less : tie.Need-loop-k-smaller invariant-loop decreases-loop
 loop-less c = omega arith
 
-loop-again : tie.Need-loop-preserved invariant-loop decreases-loop
+loop-again : tie.Need-loop-k-preserved invariant-loop decreases-loop
 loop-again c =
-    let l = c.before.before.before.before.loop in
+    let l = c.before.before.before.before.loop-k in
     let i = c.before.before.before.before.before.before.args.image.now in
     let t = c.before.epoch.ensures ∙ ap is_epoch c.before.before.term.ensures in
-    let e : is_epoch (epoch_of i l.k) ≡ true = sym t ∙ not-false _ c.if1.false in
+    let e : is_epoch (epoch_of i l.k) ≡ true = sym t ∙ not-false _ c.if-not-epoch.false in
     (omega arith, l.invariant.1 ∙ up_to-step l.k (λ j. is_epoch (epoch_of i j)) (omega arith) ∙ rw e)
 
-returns-2 : tie.Need-returns-2 invariant-loop decreases-loop
+returns-2 : tie.Need-returns invariant-loop decreases-loop
 returns-2 c =
-    let l = c.before.loop in
+    let l = c.before.loop-k in
     let i = c.before.before.before.args.image.now in
     sym (l.invariant.1 ∙ up_to-zero l.k (λ j. is_epoch (epoch_of i j)) (omega arith))
 
-pub epochs-fit-spec : {M : Type 1} → statement M
-epochs-fit-spec =
+pub epochs_fit_spec : {M : Type 1} → statement M
+epochs_fit_spec =
     tie.close
     (tie.spec
     invariant-loop

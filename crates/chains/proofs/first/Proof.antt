@@ -5,29 +5,29 @@ use borrow.Author.Tests.{eq-eqb, ne_eqb}
 use Rattle.chains.proofs.first.Statement.{statement}
 use Rattle.chains.proofs.first.Tie as tie
 
-two-at-requires : tie.Need-two-at-requires
+two-at-requires : tie.Need-two_at-requires
 two-at-requires c κs = search rules
 
-cast-result : tie.Need-overflow-cast-result
+cast-result : tie.Need-overflow_cast-result
 cast-result c = search rules
 
-returns : tie.Need-returns
-returns c = c.two_at.ensures ∙ rw (eq-eqb _ _ c.before.if1.true)
+returns : tie.Need-returns-then-b-eq8
+returns c = c.two_at.ensures ∙ rw (eq-eqb _ _ c.before.if-b-eq8.true)
 
-mul-two-at : tie.Need-overflow-mul-two-at
+mul-two-at : tie.Need-overflow_mul-b
 mul-two-at c = search rules
 
-add-two-at : tie.Need-overflow-add-two-at
+add-two-at : tie.Need-overflow_add-b
 add-two-at c = search rules
 
-two-at-requires-2 : tie.Need-two-at-requires-2
+two-at-requires-2 : tie.Need-two_at-requires-2
 two-at-requires-2 c κs = search rules
 
-cast-result-2 : tie.Need-overflow-cast-result-2
+cast-result-2 : tie.Need-overflow_cast-result-2
 cast-result-2 c = search rules
 
-returns-2 : tie.Need-returns-2
-returns-2 c = c.two-at2.ensures ∙ rw (ne_eqb _ _ c.before.if1.false)
+returns-2 : tie.Need-returns
+returns-2 c = c.two_at-2.ensures ∙ rw (ne_eqb _ _ c.before.if-b-eq8.false)
 
 pub first_spec : {M : Type 1} → statement M
 first_spec =

@@ -11,7 +11,7 @@ use Rattle.chains.proofs.well_linked.Tie as tie
 clear-requires : tie.Need-clear-requires
 clear-requires c κs = search rules
 
-walk-all-requires : tie.Need-walk-all-requires
+walk-all-requires : tie.Need-walk_all-ok-requires
 walk-all-requires c κs =
     let s = c.before.before.before.before.before.before.before.args.scratch.now in
     let clean = ap marked c.before.before.before.clear.ensures ∙ marked-none (length s) in
@@ -20,16 +20,16 @@ walk-all-requires c κs =
 clear-requires-2 : tie.Need-clear-requires-2
 clear-requires-2 c κs = search rules
 
-same_length : tie.Need-same-length
+same_length : tie.Need-shape_of-scratch
 same_length c = search rules
 
 returns : tie.Need-returns
 returns c =
     let w = c.before.before.before.before.before.before in
     let a = w.before.before.before.before.before.before.before.before.args in
-    let same : length w.walk-all.new.1.1.0 ≡ length a.scratch.now = omega arith in
-    (w.walk-all.ensures, c.before.before.clear2.ensures ∙ ap (λ m. replicate m 0) same)
+    let same : length w.walk_all-ok.new.1.1.0 ≡ length a.scratch.now = omega arith in
+    (w.walk_all-ok.ensures, c.before.before.clear-2.ensures ∙ ap (λ m. replicate m 0) same)
 
-pub well-linked-spec : {M : Type 1} → statement M
-well-linked-spec =
+pub well_linked_spec : {M : Type 1} → statement M
+well_linked_spec =
     tie.close (tie.spec clear-requires walk-all-requires clear-requires-2 same_length returns)

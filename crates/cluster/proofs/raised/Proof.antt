@@ -7,14 +7,14 @@ use Rattle.cluster.proofs.raised.Tie as tie
 use Rattle.cluster.proofs.raised.Reads as reads
 use Rattle.cluster.proofs.raised.Lts as lts
 
-add-result : tie.Need-overflow-add-result
+add-result : tie.Need-overflow_add-result
 add-result c = search rules
 
-returns : tie.Need-returns
-returns c = rw (lt-ltb _ _ c.if1.true) (add-one _)
+returns : tie.Need-returns-then-e-lt4000
+returns c = rw (lt-ltb _ _ c.if-e-lt4000.true) (add-one _)
 
-returns-2 : tie.Need-returns-2
-returns-2 c = rw (le-ltb _ _ c.if1.false)
+returns-2 : tie.Need-returns-else-e-lt4000
+returns-2 c = rw (le-ltb _ _ c.if-e-lt4000.false)
 
-pub raised-spec : {M : Type 1} → statement M
-raised-spec = tie.close (tie.spec add-result returns returns-2)
+pub raised_spec : {M : Type 1} → statement M
+raised_spec = tie.close (tie.spec add-result returns returns-2)

@@ -5,11 +5,11 @@ use Rattle.cluster.proofs.replica.Tie as tie
 use Rattle.cluster.proofs.replica.Reads as reads
 use Rattle.cluster.proofs.replica.Lts as lts
 
-returns : tie.Need-returns
-returns c = rw (le-leb _ _ c.if1.true)
+returns : tie.Need-returns-then-b-ge1
+returns c = rw (le-leb _ _ c.if-b-ge1.true)
 
-returns-2 : tie.Need-returns-2
-returns-2 c = rw (lt-leb _ _ c.if1.false)
+returns-2 : tie.Need-returns-else-b-ge1
+returns-2 c = rw (lt-leb _ _ c.if-b-ge1.false)
 
-pub replica-spec : {M : Type 1} → statement M
-replica-spec = tie.close (tie.spec returns returns-2)
+pub replica_spec : {M : Type 1} → statement M
+replica_spec = tie.close (tie.spec returns returns-2)

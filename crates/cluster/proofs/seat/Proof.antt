@@ -7,14 +7,14 @@ use Rattle.cluster.proofs.seat.Tie as tie
 use Rattle.cluster.proofs.seat.Reads as reads
 use Rattle.cluster.proofs.seat.Lts as lts
 
-add-result : tie.Need-overflow-add-result
+add-result : tie.Need-overflow_add-result
 add-result c = search rules
 
-add-result-2 : tie.Need-overflow-add-result-2
+add-result-2 : tie.Need-overflow_add-result-2
 add-result-2 c = search rules
 
 returns : tie.Need-returns
 returns c = (search rules, search rules, λ e. omega (arith, replica-range c.args.b e))
 
-pub seat-spec : {M : Type 1} → statement M
-seat-spec = tie.close (tie.spec add-result add-result-2 returns)
+pub seat_spec : {M : Type 1} → statement M
+seat_spec = tie.close (tie.spec add-result add-result-2 returns)

@@ -15,38 +15,38 @@ places c = let a = c.args in lent a.store.now a.store2.now a.list.now a.list2.no
 contains-requires : tie.Need-contains-requires
 contains-requires c κs = search rules
 
-returns : tie.Need-returns
+returns : tie.Need-returns-then-not-contains
 returns c =
     let s = c.before.before.before.before.before.before.before in
     no-turn 4 s.args.q s.args.b (follows entries s.args.l s.args.b) s.args.d (places s) s.args.notes.now
-    (sym c.before.contains.ensures ∙ not-true _ c.if1.true) s.requires.0
+    (sym c.before.contains.ensures ∙ not-true _ c.if-not-contains.true) s.requires.0
 
 follows-requires : tie.Need-follows-requires
 follows-requires c κs = search rules
 
-same_length : tie.Need-same-length
+same_length : tie.Need-shape_of-store
 same_length c = search rules
 
-same-length-2 : tie.Need-same-length-2
+same-length-2 : tie.Need-shape_of-store2
 same-length-2 c = search rules
 
-same-length-3 : tie.Need-same-length-3
+same-length-3 : tie.Need-shape_of-list
 same-length-3 c = search rules
 
-same-length-4 : tie.Need-same-length-4
+same-length-4 : tie.Need-shape_of-list2
 same-length-4 c = search rules
 
-same-length-5 : tie.Need-same-length-5
+same-length-5 : tie.Need-shape_of-notes
 same-length-5 c = search rules
 
-returns-2 : tie.Need-returns-2
+returns-2 : tie.Need-returns
 returns-2 c =
     let s = c.before.before.before.before.before.before.before.before.before.before.before.before.before.before.before.before.before.before.before.before.before.before.before in
     one-turn 4 s.args.q s.args.b (follows entries s.args.l s.args.b) s.args.d (places s) s.args.notes.now
-    (sym c.before.before.before.before.before.before.before.before.before.before.before.before.before.before.before.before.before.contains.ensures ∙ not-false _ c.before.before.before.before.before.before.before.before.before.before.before.before.before.before.before.before.if1.false) c.before.before.before.before.before.before.before.before.before.before.follows.ensures
+    (sym c.before.before.before.before.before.before.before.before.before.before.before.before.before.before.before.before.before.contains.ensures ∙ not-false _ c.before.before.before.before.before.before.before.before.before.before.before.before.before.before.before.before.if-not-contains.false) c.before.before.before.before.before.before.before.before.before.before.follows.ensures
 
-pub follow-one-spec : {M : Type 1} → statement M
-follow-one-spec =
+pub follow_one_spec : {M : Type 1} → statement M
+follow_one_spec =
     tie.close
     (tie.spec
     contains-requires

@@ -7,5 +7,5 @@ use Rattle.draws.proofs.draw.Tie as tie
 returns : tie.Need-returns
 returns c = low_first c.args.s (omega arith)
 
-pub draw-spec : {M : Type 1} → statement M
-draw-spec = tie.close (tie.spec returns)
+pub draw_spec : {M : Type 1} → statement M
+draw_spec = tie.close (tie.spec returns)

@@ -3,18 +3,18 @@ use Rattle.std.proofs.Common.{◌∙◌, rules}
 use Rattle.draws.proofs.draw_opening.Statement.{statement}
 use Rattle.draws.proofs.draw_opening.Tie as tie
 
-advance-requires : tie.Need-advance-requires
+advance-requires : tie.Need-advance-t-requires
 advance-requires c κs = search rules
 
-board-from-requires : tie.Need-board-from-requires
+board-from-requires : tie.Need-board_from-b-requires
 board-from-requires c κs = search rules
 
-with-fields-requires : tie.Need-with-fields-requires
+with-fields-requires : tie.Need-with_fields-requires
 with-fields-requires c κs = search rules
 
 returns : tie.Need-returns
-returns c = c.with-fields.ensures ∙ rw (c.before.board-from.ensures, c.before.before.advance.ensures)
+returns c = c.with_fields.ensures ∙ rw (c.before.board_from-b.ensures, c.before.before.advance-t.ensures)
 
-pub draw-opening-spec : {M : Type 1} → statement M
-draw-opening-spec =
+pub draw_opening_spec : {M : Type 1} → statement M
+draw_opening_spec =
     tie.close (tie.spec advance-requires board-from-requires with-fields-requires returns)

@@ -4,88 +4,88 @@ use Rattle.draws.proofs.Drawing.{of_none, of-both, of-value, of_one}
 use Rattle.draws.proofs.draw_record.Statement.{statement}
 use Rattle.draws.proofs.draw_record.Tie as tie
 
-advance-requires : tie.Need-advance-requires
+advance-requires : tie.Need-advance-s1-requires
 advance-requires c κs = search rules
 
-step-from-requires : tie.Need-step-from-requires
+step-from-requires : tie.Need-step_from-n-requires
 step-from-requires c κs = search rules
 
 boardless-requires : tie.Need-boardless-requires
 boardless-requires c κs = search rules
 
-with-fields-requires : tie.Need-with-fields-requires
+with-fields-requires : tie.Need-with_fields-requires
 with-fields-requires c κs = search rules
 
-returns : tie.Need-returns
+returns : tie.Need-returns-then-boardless
 returns c =
-    c.with-fields.ensures
-    ∙ of_none c.before.before.before.before.before.args.s c.before.before.before.before.advance.ensures
-    c.before.before.before.step_from.ensures
-    (sym c.before.before.boardless.ensures ∙ c.before.if1.true)
+    c.with_fields.ensures
+    ∙ of_none c.before.before.before.before.before.args.s c.before.before.before.before.advance-s1.ensures
+    c.before.before.before.step_from-n.ensures
+    (sym c.before.before.boardless.ensures ∙ c.before.if-boardless.true)
 
-advance-requires-2 : tie.Need-advance-requires-2
+advance-requires-2 : tie.Need-advance-s2-requires
 advance-requires-2 c κs = search rules
 
-board-from-requires : tie.Need-board-from-requires
+board-from-requires : tie.Need-board_from-a-requires
 board-from-requires c κs = search rules
 
-advance-requires-3 : tie.Need-advance-requires-3
+advance-requires-3 : tie.Need-advance-s3-requires
 advance-requires-3 c κs = search rules
 
-board-from-requires-2 : tie.Need-board-from-requires-2
+board-from-requires-2 : tie.Need-board_from-b-requires
 board-from-requires-2 c κs = search rules
 
-second-board-requires : tie.Need-second-board-requires
+second-board-requires : tie.Need-second_board-c-requires
 second-board-requires c κs = search rules
 
-with-fields-requires-2 : tie.Need-with-fields-requires-2
+with-fields-requires-2 : tie.Need-with_fields-requires-then-n-eq9
 with-fields-requires-2 c κs = search rules
 
-returns-2 : tie.Need-returns-2
+returns-2 : tie.Need-returns-then-n-eq9
 returns-2 c =
     let w = c.before.before.before.before.before in
     let u = w.before.before.before in
-    c.with-fields2.ensures
-    ∙ of-both u.before.before.before.args.s u.before.before.advance.ensures u.before.step_from.ensures
-    w.before.advance2.ensures w.board-from.ensures (sym u.boardless.ensures ∙ w.before.before.if1.false)
-    c.before.before.before.advance3.ensures c.before.before.board-from2.ensures
-    c.before.second-board.ensures
-    (eq-eqb _ _ c.before.before.before.before.if2.true)
+    c.with_fields-then-n-eq9.ensures
+    ∙ of-both u.before.before.before.args.s u.before.before.advance-s1.ensures u.before.step_from-n.ensures
+    w.before.advance-s2.ensures w.board_from-a.ensures (sym u.boardless.ensures ∙ w.before.before.if-boardless.false)
+    c.before.before.before.advance-s3.ensures c.before.before.board_from-b.ensures
+    c.before.second_board-c.ensures
+    (eq-eqb _ _ c.before.before.before.before.if-n-eq9.true)
 
-advance-requires-4 : tie.Need-advance-requires-4
+advance-requires-4 : tie.Need-advance-s3-requires-then-n-eq1
 advance-requires-4 c κs = search rules
 
-draw-requires : tie.Need-draw-requires
+draw-requires : tie.Need-draw-v-requires
 draw-requires c κs = search rules
 
-with-fields-requires-3 : tie.Need-with-fields-requires-3
+with-fields-requires-3 : tie.Need-with_fields-requires-then-n-eq1
 with-fields-requires-3 c κs = search rules
 
-returns-3 : tie.Need-returns-3
+returns-3 : tie.Need-returns-then-n-eq1
 returns-3 c =
     let w = c.before.before.before.before.before in
     let u = w.before.before.before in
-    c.with-fields3.ensures
-    ∙ of-value u.before.before.before.args.s u.before.before.advance.ensures
-    u.before.step_from.ensures
-    w.before.advance2.ensures w.board-from.ensures (sym u.boardless.ensures ∙ w.before.before.if1.false)
-    c.before.before.advance4.ensures c.before.draw.ensures
-    (ne_eqb _ _ c.before.before.before.before.if2.false) (eq-eqb _ _ c.before.before.before.if3.true)
+    c.with_fields-then-n-eq1.ensures
+    ∙ of-value u.before.before.before.args.s u.before.before.advance-s1.ensures
+    u.before.step_from-n.ensures
+    w.before.advance-s2.ensures w.board_from-a.ensures (sym u.boardless.ensures ∙ w.before.before.if-boardless.false)
+    c.before.before.advance-s3-then-n-eq1.ensures c.before.draw-v.ensures
+    (ne_eqb _ _ c.before.before.before.before.if-n-eq9.false) (eq-eqb _ _ c.before.before.before.if-n-eq1.true)
 
-with-fields-requires-4 : tie.Need-with-fields-requires-4
+with-fields-requires-4 : tie.Need-with_fields-requires-2
 with-fields-requires-4 c κs = search rules
 
-returns-4 : tie.Need-returns-4
+returns-4 : tie.Need-returns
 returns-4 c =
     let w = c.before.before.before in
     let u = w.before.before.before in
-    c.with-fields4.ensures
-    ∙ of_one u.before.before.before.args.s u.before.before.advance.ensures u.before.step_from.ensures
-    w.before.advance2.ensures w.board-from.ensures (sym u.boardless.ensures ∙ w.before.before.if1.false)
-    (ne_eqb _ _ c.before.before.if2.false) (ne_eqb _ _ c.before.if3.false)
+    c.with_fields-2.ensures
+    ∙ of_one u.before.before.before.args.s u.before.before.advance-s1.ensures u.before.step_from-n.ensures
+    w.before.advance-s2.ensures w.board_from-a.ensures (sym u.boardless.ensures ∙ w.before.before.if-boardless.false)
+    (ne_eqb _ _ c.before.before.if-n-eq9.false) (ne_eqb _ _ c.before.if-n-eq1.false)
 
-pub draw-record-spec : {M : Type 1} → statement M
-draw-record-spec =
+pub draw_record_spec : {M : Type 1} → statement M
+draw_record_spec =
     tie.close
     (tie.spec
     advance-requires

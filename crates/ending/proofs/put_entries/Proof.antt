@@ -17,13 +17,13 @@ use borrow.Author.Rules.{rules}
 use Rattle.ending.proofs.put_entries.Statement.{statement}
 use Rattle.ending.proofs.put_entries.Tie as tie
 
-abbrev invariant-loop : tie.invariant-loop
+abbrev invariant-loop : tie.invariant-loop-i
 invariant-loop out₀ at list list2 n i₀ p₀ out i p = (i ≤ n) × Wrote out₀ at (receipts_text (take i (pairs list list2))) out p
 
-abbrev decreases-loop : tie.decreases-loop
+abbrev decreases-loop : tie.decreases-loop-i
 decreases-loop out₀ at list list2 n i₀ p₀ out i p = n - i
 
-abbrev start : tie.At-loop invariant-loop decreases-loop → tie.Start invariant-loop decreases-loop
+abbrev start : tie.At-loop-i invariant-loop decreases-loop → tie.Start invariant-loop decreases-loop
 start c = c.before.before.before.before
 
 abbrev all : tie.Start invariant-loop decreases-loop → List Entry
@@ -33,19 +33,19 @@ long : (e : tie.Start invariant-loop decreases-loop) → length (all e) ≡ leng
 long e = pairs-length e.args.list.now e.args.list2.now e.requires.1
 
 -- The next receipt, and what is left after it.
-abbrev next : tie.At-loop invariant-loop decreases-loop → Text
+abbrev next : tie.At-loop-i invariant-loop decreases-loop → Text
 next d = receipt_text (get_or (all (start d)) d.loop.i (entry 0 0))
 
 -- It is of the value and the term at its place.
-here : (d : tie.At-loop invariant-loop decreases-loop) →
+here : (d : tie.At-loop-i invariant-loop decreases-loop) →
     get_or (all (start d)) d.loop.i (entry 0 0)
     ≡ entry (get_or (start d).args.list.now d.loop.i 0) (get_or (start d).args.list2.now d.loop.i 0)
 here d = let e = start d in pairs-at e.args.list.now e.args.list2.now d.loop.i e.pre.1
 
-abbrev left : tie.At-loop invariant-loop decreases-loop → Text
+abbrev left : tie.At-loop-i invariant-loop decreases-loop → Text
 left d = receipts_left (all (start d)) (start d).args.n d.loop.i
 
-room : (c : tie.In-loop invariant-loop decreases-loop)
+room : (c : tie.In-loop-i invariant-loop decreases-loop)
     → c.before.loop.p + length (space ++ (next c.before ++ left c.before)) ≤ length c.before.loop.out
 room c =
     let d = c.before in
@@ -53,64 +53,64 @@ room c =
     receipts-room (all e) e.args.n d.loop.i c.loop-test.true (rw (long e) e.pre.0) d.loop.invariant.1
     e.pre.2
 
-loop-holds : tie.Need-loop-init invariant-loop decreases-loop
+loop-holds : tie.Need-loop-i-init invariant-loop decreases-loop
 unfolding receipts_text
 loop-holds c = (omega arith, nothing _ _)
 
-put-byte-requires : tie.Need-put-byte-requires invariant-loop decreases-loop
+put-byte-requires : tie.Need-put_byte-q-requires invariant-loop decreases-loop
 put-byte-requires c κs =
     let d = c.before.before in
     byte _ (fits _ space (next d ++ left d) (room c.before))
 
-mul-put-receipt : tie.Need-overflow-mul-put-receipt invariant-loop decreases-loop
+mul-put-receipt : tie.Need-offset_bounds-list-i invariant-loop decreases-loop
 mul-put-receipt c = search rules
 
-shared-slice-read-put-receipt : tie.Need-shared-slice-read-put-receipt invariant-loop decreases-loop
+shared-slice-read-put-receipt : tie.Need-bounds-list-i invariant-loop decreases-loop
 shared-slice-read-put-receipt c = search rules
 
-mul-put-receipt-2 : tie.Need-overflow-mul-put-receipt-2 invariant-loop decreases-loop
+mul-put-receipt-2 : tie.Need-offset_bounds-list2-i invariant-loop decreases-loop
 mul-put-receipt-2 c = search rules
 
-shared-slice-read-put-receipt-2 : tie.Need-shared-slice-read-put-receipt-2 invariant-loop decreases-loop
+shared-slice-read-put-receipt-2 : tie.Need-bounds-list2-i invariant-loop decreases-loop
 shared-slice-read-put-receipt-2 c = search rules
 
-put-receipt-requires : tie.Need-put-receipt-requires invariant-loop decreases-loop
+put-receipt-requires : tie.Need-put_receipt-p-requires invariant-loop decreases-loop
 put-receipt-requires c κs =
     let w = c.before.before.before.before.before in
     let t = w.before.before in
     let d = t.before in
-    subst (λ x. w.put_byte.result + length (receipt_text x) ≤ length w.put_byte.new.0) (here d)
-    (fits _ (next d) (left d) (rest space (next d ++ left d) w.put_byte.ensures (room t)))
+    subst (λ x. w.put_byte-q.result + length (receipt_text x) ≤ length w.put_byte-q.new.0) (here d)
+    (fits _ (next d) (left d) (rest space (next d ++ left d) w.put_byte-q.ensures (room t)))
 
-add-i : tie.Need-overflow-add-i invariant-loop decreases-loop
+add-i : tie.Need-overflow_add-i invariant-loop decreases-loop
 add-i c = search rules
 
-loop-less : tie.Need-loop-smaller invariant-loop decreases-loop
+loop-less : tie.Need-loop-i-smaller invariant-loop decreases-loop
 loop-less c = search rules
 
-loop-again : tie.Need-loop-preserved invariant-loop decreases-loop
+loop-again : tie.Need-loop-i-preserved invariant-loop decreases-loop
 loop-again c =
     let v = c.before.before in
     let w = v.before.before.before.before.before.before in
     let t = w.before.before in
     let d = t.before in
     let e = start d in
-    let h : d.loop.i < length (all e) = rw (long e) (omega (arith, t.loop-test.true, e.pre.0)) in
-    let one = subst (λ x. Wrote w.put_byte.new.0 w.put_byte.result (receipt_text x) v.put-receipt.new.0
-    v.put-receipt.result) (sym (here d)) v.put-receipt.ensures in
-    (omega arith, rw (receipts-next (all e) d.loop.i h) (then d.loop.invariant.1 (then w.put_byte.ensures one)))
+    let h : d.loop-i.i < length (all e) = rw (long e) (omega (arith, t.loop-i-test.true, e.pre.0)) in
+    let one = subst (λ x. Wrote w.put_byte-q.new.0 w.put_byte-q.result (receipt_text x) v.put_receipt-p.new.0
+    v.put_receipt-p.result) (sym (here d)) v.put_receipt-p.ensures in
+    (omega arith, rw (receipts-next (all e) d.loop-i.i h) (then d.loop-i.invariant.1 (then w.put_byte-q.ensures one)))
 
-same_length : tie.Need-same-length invariant-loop decreases-loop
-same_length c = wrote-length c.before.loop.invariant.1
+same_length : tie.Need-shape_of-out invariant-loop decreases-loop
+same_length c = wrote-length c.before.loop-i.invariant.1
 
 returns : tie.Need-returns invariant-loop decreases-loop
 returns c =
     let d = c.before in
-    let q : d.loop.i ≡ (start d).args.n = omega (arith, d.loop.invariant.0, c.loop-test.false) in
-    rw (← q) d.loop.invariant.1
+    let q : d.loop-i.i ≡ (start d).args.n = omega (arith, d.loop-i.invariant.0, c.loop-i-test.false) in
+    rw (← q) d.loop-i.invariant.1
 
-pub put-entries-spec : {M : Type 1} → statement M
-put-entries-spec =
+pub put_entries_spec : {M : Type 1} → statement M
+put_entries_spec =
     tie.close
     (tie.spec
     invariant-loop

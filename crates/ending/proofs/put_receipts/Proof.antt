@@ -41,55 +41,52 @@ room0 e =
     (receipts-is (all e) e.args.n (enough e)) e.requires.2
 
 -- What was given at the start, from after the call j.
-abbrev start1 : tie.After-put-bytes → tie.Start
+abbrev start1 : tie.After-put_bytes-a → tie.Start
 start1 c = c.before.before.before.before.before.before
 
-abbrev start2 : tie.After-put-number → tie.Start
+abbrev start2 : tie.After-put_number-b → tie.Start
 start2 c = start1 c.before.before.before.before
 
-abbrev start3 : tie.After-put-entries → tie.Start
+abbrev start3 : tie.After-put_entries-c → tie.Start
 start3 c = start2 c.before.before.before.before
 
-slice-aggregate-put-bytes : tie.Need-slice-aggregate-put-bytes
-slice-aggregate-put-bytes c = search rules
-
-put-bytes-requires : tie.Need-put-bytes-requires
+put-bytes-requires : tie.Need-put_bytes-a-requires
 put-bytes-requires c κs =
     let e = c.before.before.before.before.before in fits _ (word "receipts ") (text1 e) (room0 e)
 
 -- The room that is left after the call j, then the need of the next.
-room1 : (c : tie.After-put-bytes) → c.put-bytes.result + length (text1 (start1 c)) ≤ length c.put-bytes.new.0
+room1 : (c : tie.After-put_bytes-a) → c.put_bytes-a.result + length (text1 (start1 c)) ≤ length c.put_bytes-a.new.0
 room1 c =
     let e = start1 c in
-    rest (word "receipts ") (text1 e) c.put-bytes.ensures (room0 e)
+    rest (word "receipts ") (text1 e) c.put_bytes-a.ensures (room0 e)
 
-put-number-requires : tie.Need-put-number-requires
+put-number-requires : tie.Need-put_number-b-requires
 put-number-requires c κs =
     let d = c.before.before.before in
     let e = start1 d in
     fits _ (digits e.args.n) (text2 e) (room1 d)
 
-room2 : (c : tie.After-put-number) → c.put-number.result + length (text2 (start2 c)) ≤ length c.put-number.new.0
+room2 : (c : tie.After-put_number-b) → c.put_number-b.result + length (text2 (start2 c)) ≤ length c.put_number-b.new.0
 room2 c =
     let e = start2 c in
-    rest (digits e.args.n) (text2 e) c.put-number.ensures (room1 c.before.before.before.before)
+    rest (digits e.args.n) (text2 e) c.put_number-b.ensures (room1 c.before.before.before.before)
 
-put-entries-requires : tie.Need-put-entries-requires
+put-entries-requires : tie.Need-put_entries-c-requires
 put-entries-requires c κs =
     let d = c.before.before.before in
     let e = start2 d in
     (e.pre.0, e.pre.1, fits _ (given e) (text3 e) (room2 d))
 
-room3 : (c : tie.After-put-entries)
-    → c.put_entries.result + length (text3 (start3 c)) ≤ length c.put_entries.new.0
+room3 : (c : tie.After-put_entries-c)
+    → c.put_entries-c.result + length (text3 (start3 c)) ≤ length c.put_entries-c.new.0
 room3 c =
     let e = start3 c in
-    rest (given e) (text3 e) c.put_entries.ensures (room2 c.before.before.before.before)
+    rest (given e) (text3 e) c.put_entries-c.ensures (room2 c.before.before.before.before)
 
-put-byte-requires : tie.Need-put-byte-requires
+put-byte-requires : tie.Need-put_byte-requires
 put-byte-requires c κs = byte _ (room3 c.before.before.before)
 
-same_length : tie.Need-same-length
+same_length : tie.Need-shape_of-out
 same_length c = search rules
 
 returns : tie.Need-returns
@@ -101,13 +98,12 @@ returns c =
     let w = c.before.before.put_byte in
     subst (λ t. Wrote e.args.out.now e.args.at t w.new.0 w.result)
     (sym (receipts-is (all e) e.args.n (enough e)))
-    (then p1.put-bytes.ensures (then p2.put-number.ensures (then p3.put_entries.ensures w.ensures)))
+    (then p1.put_bytes-a.ensures (then p2.put_number-b.ensures (then p3.put_entries-c.ensures w.ensures)))
 
-pub put-receipts-spec : {M : Type 1} → statement M
-put-receipts-spec =
+pub put_receipts_spec : {M : Type 1} → statement M
+put_receipts_spec =
     tie.close
     (tie.spec
-    slice-aggregate-put-bytes
     put-bytes-requires
     put-number-requires
     put-entries-requires

@@ -16,58 +16,58 @@ use Rattle.ending.proofs.put_replicas.Tie as tie
 abbrev line : Cluster → ℕ → Text
 line row = replica row.views row.joined row.len row.registry.view
 
-abbrev invariant-loop : tie.invariant-loop
+abbrev invariant-loop : tie.invariant-loop-b
 invariant-loop out₀ at views joined len w p₀ b₀ out p b =
     (b ≤ 8) × Wrote out₀ at (up_to (replica views joined len w) b) out p
 
-abbrev decreases-loop : tie.decreases-loop
+abbrev decreases-loop : tie.decreases-loop-b
 decreases-loop out₀ at views joined len w p₀ b₀ out p b = 8 - b
 
-abbrev start : tie.At-loop invariant-loop decreases-loop → tie.Start invariant-loop decreases-loop
+abbrev start : tie.At-loop-b invariant-loop decreases-loop → tie.Start invariant-loop decreases-loop
 start c = c.before.before.before.before.before.before.before
 
-loop-holds : tie.Need-loop-init invariant-loop decreases-loop
+loop-holds : tie.Need-loop-b-init invariant-loop decreases-loop
 unfolding up_to
 loop-holds c = (omega arith, nothing _ _)
 
-add-b : tie.Need-overflow-add-b invariant-loop decreases-loop
+add-b : tie.Need-overflow_add-b invariant-loop decreases-loop
 add-b c = omega arith
 
-put-replica-requires : tie.Need-put-replica-requires invariant-loop decreases-loop
+put-replica-requires : tie.Need-put_replica-p-requires invariant-loop decreases-loop
 unfolding board_line board_lines
 put-replica-requires c κs =
     let d = c.before.before in
     let e = start d in
     let row = e.args.row in
     let q =
-    replica-is row.views row.joined row.len row.registry.view (d.loop.b + 1) (omega arith) in
-    let r = up_to-fits (line row) d.loop.b c.before.loop-test.true d.loop.invariant.1 e.pre in
-    (omega arith, omega arith, subst (λ t. d.loop.p + length t ≤ length d.loop.out) q r)
+    replica-is row.views row.joined row.len row.registry.view (d.loop-b.b + 1) (omega arith) in
+    let r = up_to-fits (line row) d.loop-b.b c.before.loop-b-test.true d.loop-b.invariant.1 e.pre in
+    (omega arith, omega arith, subst (λ t. d.loop-b.p + length t ≤ length d.loop-b.out) q r)
 
-loop-less : tie.Need-loop-smaller invariant-loop decreases-loop
+loop-less : tie.Need-loop-b-smaller invariant-loop decreases-loop
 loop-less c = omega arith
 
-loop-again : tie.Need-loop-preserved invariant-loop decreases-loop
+loop-again : tie.Need-loop-b-preserved invariant-loop decreases-loop
 loop-again c =
-    let w = c.before.before.put-replica in
+    let w = c.before.before.put_replica-p in
     let d = c.before.before.before.before.before in
     let row = (start d).args.row in
     let q =
-    replica-is row.views row.joined row.len row.registry.view (d.loop.b + 1) (omega arith) in
-    (omega arith, rw (up_to-next (line row) d.loop.b, q) (then d.loop.invariant.1 w.ensures))
+    replica-is row.views row.joined row.len row.registry.view (d.loop-b.b + 1) (omega arith) in
+    (omega arith, rw (up_to-next (line row) d.loop-b.b, q) (then d.loop-b.invariant.1 w.ensures))
 
-same_length : tie.Need-same-length invariant-loop decreases-loop
-same_length c = wrote-length c.before.loop.invariant.1
+same_length : tie.Need-shape_of-out invariant-loop decreases-loop
+same_length c = wrote-length c.before.loop-b.invariant.1
 
 returns : tie.Need-returns invariant-loop decreases-loop
 unfolding board_line board_lines
 returns c =
     let d = c.before in
     let e = start d in
-    let q : d.loop.b ≡ 8 = omega (arith, d.loop.invariant.0, c.loop-test.false) in
-    subst (λ t. Wrote e.args.out.now e.args.at t d.loop.out d.loop.p)
-    (ap (up_to (line e.args.row)) q ∙ up_to-eight (line e.args.row)) d.loop.invariant.1
+    let q : d.loop-b.b ≡ 8 = omega (arith, d.loop-b.invariant.0, c.loop-b-test.false) in
+    subst (λ t. Wrote e.args.out.now e.args.at t d.loop-b.out d.loop-b.p)
+    (ap (up_to (line e.args.row)) q ∙ up_to-eight (line e.args.row)) d.loop-b.invariant.1
 
-pub put-replicas-spec : {M : Type 1} → statement M
-put-replicas-spec =
+pub put_replicas_spec : {M : Type 1} → statement M
+put_replicas_spec =
     tie.close (tie.spec invariant-loop decreases-loop loop-holds add-b put-replica-requires loop-less loop-again same_length returns)

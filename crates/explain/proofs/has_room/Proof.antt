@@ -12,24 +12,24 @@ use borrow.Author.Rules.{rules}
 use Rattle.explain.proofs.has_room.Statement.{statement}
 use Rattle.explain.proofs.has_room.Tie as tie
 
-mul-if1 : tie.Need-overflow-mul-if1
+mul-if1 : tie.Need-overflow_mul-sheet
 mul-if1 c = search rules
 
-returns : tie.Need-returns
+returns : tie.Need-returns-then-sheet-room
 returns c =
     let e = c.before.before.before in
     let s = e.args.sheet.now in
     let ns = e.args.answers.now in
     let n = length s / 8 in
-    let bytes = c.before.before.shared-slice-known.given in
+    let bytes = c.before.before.shared_slice_known-1.given in
     let most = text-most s ns n (λ i. omega (arith, bytes i)) e.requires.2 in
-    sym (le-leb (length (each_of (line_at s ns) n)) e.args.room (omega (arith, most, c.if1.true)))
+    sym (le-leb (length (each_of (line_at s ns) n)) e.args.room (omega (arith, most, c.if-sheet-room.true)))
 
-text-length-requires : tie.Need-text-length-requires
+text-length-requires : tie.Need-text_length-requires
 text-length-requires c κs = search rules
 
-returns-2 : tie.Need-returns-2
-returns-2 c = ap (λ n. leb n c.before.before.before.before.args.room) c.text-length.ensures
+returns-2 : tie.Need-returns
+returns-2 c = ap (λ n. leb n c.before.before.before.before.args.room) c.text_length.ensures
 
-pub has-room-spec : {M : Type 1} → statement M
-has-room-spec = tie.close (tie.spec mul-if1 returns text-length-requires returns-2)
+pub has_room_spec : {M : Type 1} → statement M
+has_room_spec = tie.close (tie.spec mul-if1 returns text-length-requires returns-2)

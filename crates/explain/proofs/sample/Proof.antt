@@ -17,5 +17,5 @@ unfolding SampleHolds RoomHolds EmptyRefused result left over explained trial_sh
     head_text step_text raw_text hexes verdict_text phrase_in records record_bytes digits digits_within run answers
 returns c = ((refl, refl), (refl, refl, refl, refl, refl, refl, refl), λ out. (refl, refl), lengths-tell)
 
-pub sample-spec : {M : Type 1} → statement M
-sample-spec = tie.close (tie.spec returns)
+pub sample_spec : {M : Type 1} → statement M
+sample_spec = tie.close (tie.spec returns)

@@ -10,69 +10,69 @@ use Rattle.phrases.specs.Line.{line}
 use Rattle.explain.proofs.text_length.Statement.{statement}
 use Rattle.explain.proofs.text_length.Tie as tie
 
-abbrev invariant-loop : tie.invariant-loop
+abbrev invariant-loop : tie.invariant-loop-i
 invariant-loop sheet answers n total₀ i₀ total i =
     (i ≤ n) × (total ≤ 96 * i) × (total ≡ length (each_of (line_at sheet answers) i))
 
-abbrev decreases-loop : tie.decreases-loop
+abbrev decreases-loop : tie.decreases-loop-i
 decreases-loop sheet answers n total₀ i₀ total i = n - i
 
-abbrev start : tie.At-loop invariant-loop decreases-loop → tie.Start invariant-loop decreases-loop
+abbrev start : tie.At-loop-i invariant-loop decreases-loop → tie.Start invariant-loop decreases-loop
 start c = c.before.before.before
 
-loop-holds : tie.Need-loop-init invariant-loop decreases-loop
+loop-holds : tie.Need-loop-i-init invariant-loop decreases-loop
 loop-holds c =
     let a = c.before.before.args in
     (omega arith, omega arith, ap length (sym (each_none (line_at a.sheet.now a.answers.now))))
 
-mul-decode : tie.Need-overflow-mul-decode invariant-loop decreases-loop
+mul-decode : tie.Need-overflow_mul-i invariant-loop decreases-loop
 mul-decode c = omega arith
 
-decode-requires : tie.Need-decode-requires invariant-loop decreases-loop
+decode-requires : tie.Need-decode-r-requires invariant-loop decreases-loop
 decode-requires c κs = omega arith
 
-shared-slice-read-line-length : tie.Need-shared-slice-read-line-length invariant-loop decreases-loop
+shared-slice-read-line-length : tie.Need-bounds-answers-i invariant-loop decreases-loop
 shared-slice-read-line-length c = omega arith
 
-cast-line-length : tie.Need-overflow-cast-line-length invariant-loop decreases-loop
-cast-line-length c = omega (arith, c.shared-slice-known3.given c.before.before.before.loop.i)
+cast-line-length : tie.Need-overflow_cast-answers invariant-loop decreases-loop
+cast-line-length c = omega (arith, c.shared_slice_known-in-loop-i-1.given c.before.before.before.loop-i.i)
 
-line-length-requires : tie.Need-line-length-requires invariant-loop decreases-loop
-line-length-requires c κs = (start c.before.before.before).pre.2 c.before.before.before.loop.i (omega arith)
+line-length-requires : tie.Need-line_length-total-requires invariant-loop decreases-loop
+line-length-requires c κs = (start c.before.before.before).pre.2 c.before.before.before.loop-i.i (omega arith)
 
-add_total : tie.Need-overflow-add-total invariant-loop decreases-loop
-add_total c = omega (arith, c.before.before.before.before.loop.invariant.1, c.line-length.ensures.1)
+add_total : tie.Need-overflow_add-total invariant-loop decreases-loop
+add_total c = omega (arith, c.before.before.before.before.loop-i.invariant.1, c.line_length-total.ensures.1)
 
-add-i : tie.Need-overflow-add-i invariant-loop decreases-loop
+add-i : tie.Need-overflow_add-i invariant-loop decreases-loop
 add-i c = omega arith
 
-loop-less : tie.Need-loop-smaller invariant-loop decreases-loop
+loop-less : tie.Need-loop-i-smaller invariant-loop decreases-loop
 loop-less c = omega arith
 
-loop-again : tie.Need-loop-preserved invariant-loop decreases-loop
+loop-again : tie.Need-loop-i-preserved invariant-loop decreases-loop
 loop-again c =
     let r = c.before.before in
     let d = r.before.before in
     let a = (start d).args in
     let text = line_at a.sheet.now a.answers.now in
-    let one : c.line-length.result ≡ length (text d.loop.i) = c.line-length.ensures.0
-    ∙ ap (λ q. length (line q (get_or a.answers.now d.loop.i 0))) r.decode.ensures in
-    let more = ap length (each_next text d.loop.i) in
-    let both = length-append (each_of text d.loop.i) (text d.loop.i) in (
+    let one : c.line_length-total.result ≡ length (text d.loop-i.i) = c.line_length-total.ensures.0
+    ∙ ap (λ q. length (line q (get_or a.answers.now d.loop-i.i 0))) r.decode-r.ensures in
+    let more = ap length (each_next text d.loop-i.i) in
+    let both = length-append (each_of text d.loop-i.i) (text d.loop-i.i) in (
       omega arith,
-      omega (arith, d.loop.invariant.1, c.line-length.ensures.1),
-      omega (arith, d.loop.invariant.2, one, more, both),
+      omega (arith, d.loop-i.invariant.1, c.line_length-total.ensures.1),
+      omega (arith, d.loop-i.invariant.2, one, more, both),
     )
 
 returns : tie.Need-returns invariant-loop decreases-loop
 returns c =
-    let l = c.before.loop in
+    let l = c.before.loop-i in
     let a = (start c.before).args in
     let e : l.i ≡ length a.sheet.now / 8 = omega arith in
     l.invariant.2 ∙ ap (λ n. length (each_of (line_at a.sheet.now a.answers.now) n)) e
 
-pub text-length-spec : {M : Type 1} → statement M
-text-length-spec =
+pub text_length_spec : {M : Type 1} → statement M
+text_length_spec =
     tie.close
     (tie.spec
     invariant-loop

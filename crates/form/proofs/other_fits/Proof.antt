@@ -7,11 +7,11 @@ use Rattle.form.proofs.other_fits.Tie as tie
 replica-requires : tie.Need-replica-requires
 replica-requires c κs = search rules
 
-returns : tie.Need-returns
-returns c = rw (eq-eqb _ 9 c.before.if1.true, c.replica.ensures)
+returns : tie.Need-returns-then-step-eq9
+returns c = rw (eq-eqb _ 9 c.before.if-step-eq9.true, c.replica.ensures)
 
-returns-2 : tie.Need-returns-2
-returns-2 c = rw (ne_eqb _ 9 c.if1.false)
+returns-2 : tie.Need-returns
+returns-2 c = rw (ne_eqb _ 9 c.if-step-eq9.false)
 
-pub other-fits-spec : {M : Type 1} → statement M
-other-fits-spec = tie.close (tie.spec replica-requires returns returns-2)
+pub other_fits_spec : {M : Type 1} → statement M
+other_fits_spec = tie.close (tie.spec replica-requires returns returns-2)

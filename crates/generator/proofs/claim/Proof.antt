@@ -6,5 +6,5 @@ use Rattle.generator.proofs.claim.Tie as tie
 returns : tie.Need-returns
 returns c = well-made
 
-pub claim-spec : {M : Type 1} → statement M
-claim-spec = tie.close (tie.spec returns)
+pub claim_spec : {M : Type 1} → statement M
+claim_spec = tie.close (tie.spec returns)

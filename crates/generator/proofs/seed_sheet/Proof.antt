@@ -9,64 +9,64 @@ use Rattle.generator.proofs.Sheets.{all-written, none, too_many, short, written}
 use Rattle.generator.proofs.seed_sheet.Statement.{statement}
 use Rattle.generator.proofs.seed_sheet.Tie as tie
 
-returns : tie.Need-returns
-returns c = let a = c.before.before.args in none a.seed a.count a.sheet.now c.if1.true
+returns : tie.Need-returns-then-count-lt1
+returns c = let a = c.before.before.args in none a.seed a.count a.sheet.now c.if-count-lt1.true
 
-returns-2 : tie.Need-returns-2
+returns-2 : tie.Need-returns-then-count-gt4095
 returns-2 c =
     let a = c.before.before.before.args in
-    too_many a.seed a.count a.sheet.now c.before.if1.false c.if2.true
+    too_many a.seed a.count a.sheet.now c.before.if-count-lt1.false c.if-count-gt4095.true
 
-mul-if3 : tie.Need-overflow-mul-if3
+mul-if3 : tie.Need-overflow_mul-count
 mul-if3 c = search rules
 
-returns-3 : tie.Need-returns-3
+returns-3 : tie.Need-returns-then-sheet-count
 returns-3 c =
     let a = c.before.before.before.before.args in
-    short a.seed a.count a.sheet.now c.before.before.if1.false c.before.if2.false c.if3.true
+    short a.seed a.count a.sheet.now c.before.before.if-count-lt1.false c.before.if-count-gt4095.false c.if-sheet-count.true
 
-draw-opening-requires : tie.Need-draw-opening-requires
+draw-opening-requires : tie.Need-draw_opening-d-requires
 draw-opening-requires c κs = search rules
 
-encode-requires : tie.Need-encode-requires
+encode-requires : tie.Need-encode-at-requires
 encode-requires c κs = search rules
 
 -- From the opening's record back to the tests, and to the start.
-abbrev tested : tie.After-encode → tie.Else3
+abbrev tested : tie.After-encode-at → tie.Else-sheet-count
 tested c = c.before.before.before
 
-abbrev start : tie.Else3 → tie.Start
+abbrev start : tie.Else-sheet-count → tie.Start
 start c = c.before.before.before.before
 
-put-later-requires : tie.Need-put-later-requires
+put-later-requires : tie.Need-put_later-requires
 put-later-requires c κs =
     let e = c.before.before.before in
-    let w = e.encode.ensures in
+    let w = e.encode-at.ensures in
     let t = tested e in
     omega (
       arith,
       w.next,
       wrote-length w,
-      bytes-length (record_of e.before.before.draw-opening.result.made),
-      t.if3.left,
-      t.before.before.if1.left,
+      bytes-length (record_of e.before.before.before.draw_opening-d.result.made),
+      t.if-sheet-count.left,
+      t.before.before.if-count-lt1.left,
     )
 
-same_length : tie.Need-same-length
+same_length : tie.Need-shape_of-sheet
 same_length c = search rules
 
-returns-4 : tie.Need-returns-4
+returns-4 : tie.Need-returns
 returns-4 c =
     let e = c.before.before.before.before.before.before in
     let t = tested e in
     let a = (start t).args in
-    let low = t.before.before.if1.left in
-    written a.seed a.count a.sheet.now low t.before.if2.left t.if3.left
-    (all-written a.seed a.count (drawn_of e.before.before.draw-opening.result) low
-    e.before.before.draw-opening.ensures e.encode.ensures c.before.before.put-later.ensures)
+    let low = t.before.before.if-count-lt1.left in
+    written a.seed a.count a.sheet.now low t.before.if-count-gt4095.left t.if-sheet-count.left
+    (all-written a.seed a.count (drawn_of e.before.before.before.draw_opening-d.result) low
+    e.before.before.before.draw_opening-d.ensures e.encode-at.ensures c.before.before.put_later.ensures)
 
-pub seed-sheet-spec : {M : Type 1} → statement M
-seed-sheet-spec =
+pub seed_sheet_spec : {M : Type 1} → statement M
+seed_sheet_spec =
     tie.close
     (tie.spec
     returns

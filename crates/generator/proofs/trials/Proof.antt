@@ -48,5 +48,5 @@ slices = (refl, refl, refl, refl, refl, refl)
 returns : tie.Need-returns
 returns c = (draws, states, boards, records, counts, longest, slices)
 
-pub trials-spec : {M : Type 1} → statement M
-trials-spec = tie.close (tie.spec returns)
+pub trials_spec : {M : Type 1} → statement M
+trials_spec = tie.close (tie.spec returns)

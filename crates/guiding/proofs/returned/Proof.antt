@@ -6,19 +6,19 @@ use borrow.Author.Rules.{rules}
 use Rattle.guiding.proofs.returned.Statement.{statement}
 use Rattle.guiding.proofs.returned.Tie as tie
 
-cast-result : tie.Need-overflow-cast-result
+cast-result : tie.Need-overflow_cast-result
 cast-result c = search rules
 
-returns : tie.Need-returns
+returns : tie.Need-returns-then-x-ne0
 returns c =
-    λ q e f. e ∙ bytes-error q (λ z. c.before.if1.true (e ∙ z))
+    λ q e f. e ∙ bytes-error q (λ z. c.before.if-x-ne0.true (e ∙ z))
 
-mul-result : tie.Need-overflow-mul-result
+mul-result : tie.Need-overflow_mul-result
 mul-result c = search rules
 
-returns-2 : tie.Need-returns-2
+returns-2 : tie.Need-returns
 returns-2 c =
-    λ q e f. ap (λ n. 8 * n) f ∙ bytes-list q (sym e ∙ c.before.if1.false)
+    λ q e f. ap (λ n. 8 * n) f ∙ bytes-list q (sym e ∙ c.before.if-x-ne0.false)
 
-pub returned-spec : {M : Type 1} → statement M
-returned-spec = tie.close (tie.spec cast-result returns mul-result returns-2)
+pub returned_spec : {M : Type 1} → statement M
+returned_spec = tie.close (tie.spec cast-result returns mul-result returns-2)

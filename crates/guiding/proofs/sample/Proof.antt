@@ -20,5 +20,5 @@ sample-holds = (refl, refl, λ out. (refl, refl))
 returns : tie.Need-returns
 returns c = sample-holds
 
-pub sample-spec : {M : Type 1} → statement M
-sample-spec = tie.close (tie.spec returns)
+pub sample_spec : {M : Type 1} → statement M
+sample_spec = tie.close (tie.spec returns)

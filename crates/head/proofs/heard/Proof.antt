@@ -5,14 +5,14 @@ use borrow.Author.Rules.{rules}
 use Rattle.head.proofs.heard.Statement.{statement}
 use Rattle.head.proofs.heard.Tie as tie
 
-returns : tie.Need-returns
-returns c = rw (eq-eqb _ _ c.if1.true)
+returns : tie.Need-returns-then-n-eq65535
+returns c = rw (eq-eqb _ _ c.if-n-eq65535.true)
 
-add-result : tie.Need-overflow-add-result
+add-result : tie.Need-overflow_add-result
 add-result c = search rules
 
-returns-2 : tie.Need-returns-2
-returns-2 c = rw (ne_eqb _ _ c.if1.false) (omega arith)
+returns-2 : tie.Need-returns
+returns-2 c = rw (ne_eqb _ _ c.if-n-eq65535.false) (omega arith)
 
-pub heard-spec : {M : Type 1} → statement M
-heard-spec = tie.close (tie.spec returns add-result returns-2)
+pub heard_spec : {M : Type 1} → statement M
+heard_spec = tie.close (tie.spec returns add-result returns-2)

@@ -10,49 +10,49 @@ use Rattle.heading.proofs.Eights.{up_to, eight-room, eight-more, eight-all}
 use Rattle.heading.proofs.put_boards.Statement.{statement}
 use Rattle.heading.proofs.put_boards.Tie as tie
 
-abbrev invariant-loop : tie.invariant-loop
+abbrev invariant-loop : tie.invariant-loop-i
 invariant-loop out₀ at row firsts p₀ i₀ out p i = (i ≤ 8) × Wrote out₀ at (up_to (board_bytes (outline_of row) firsts) i) out p
 
-abbrev decreases-loop : tie.decreases-loop
+abbrev decreases-loop : tie.decreases-loop-i
 decreases-loop out₀ at row firsts p₀ i₀ out p i = 8 - i
 
-abbrev start : tie.At-loop invariant-loop decreases-loop → tie.Start invariant-loop decreases-loop
+abbrev start : tie.At-loop-i invariant-loop decreases-loop → tie.Start invariant-loop decreases-loop
 start c = c.before.before
 
-abbrev texts : tie.At-loop invariant-loop decreases-loop → ℕ → Text
+abbrev texts : tie.At-loop-i invariant-loop decreases-loop → ℕ → Text
 texts c = let a = (start c).args in board_bytes (outline_of a.row) a.firsts
 
-loop-holds : tie.Need-loop-init invariant-loop decreases-loop
+loop-holds : tie.Need-loop-i-init invariant-loop decreases-loop
 unfolding each_of
 loop-holds c = (omega arith, nothing _ _)
 
-put-board-requires : tie.Need-put-board-requires invariant-loop decreases-loop
+put-board-requires : tie.Need-put_board-p-requires invariant-loop decreases-loop
 put-board-requires c κs =
     let d = c.before.before in
-    let l = c.before.loop-test.true in
-    (l, eight-room (texts d) d.loop.i l d.loop.invariant.1 (start d).requires)
+    let l = c.before.loop-i-test.true in
+    (l, eight-room (texts d) d.loop-i.i l d.loop-i.invariant.1 (start d).requires)
 
-add-i : tie.Need-overflow-add-i invariant-loop decreases-loop
+add-i : tie.Need-overflow_add-i invariant-loop decreases-loop
 add-i c = omega arith
 
-loop-less : tie.Need-loop-smaller invariant-loop decreases-loop
+loop-less : tie.Need-loop-i-smaller invariant-loop decreases-loop
 loop-less c = omega arith
 
-loop-again : tie.Need-loop-preserved invariant-loop decreases-loop
+loop-again : tie.Need-loop-i-preserved invariant-loop decreases-loop
 loop-again c =
     let w = c.before.before in
     let d = w.before.before.before in
-    (omega arith, eight-more (texts d) d.loop.i d.loop.invariant.1 w.put-board.ensures)
+    (omega arith, eight-more (texts d) d.loop-i.i d.loop-i.invariant.1 w.put_board-p.ensures)
 
-same_length : tie.Need-same-length invariant-loop decreases-loop
-same_length c = wrote-length c.before.loop.invariant.1
+same_length : tie.Need-shape_of-out invariant-loop decreases-loop
+same_length c = wrote-length c.before.loop-i.invariant.1
 
 returns : tie.Need-returns invariant-loop decreases-loop
 returns c =
-    let d = c.before in eight-all (texts d) d.loop.i d.loop.invariant.0 c.loop-test.false d.loop.invariant.1
+    let d = c.before in eight-all (texts d) d.loop-i.i d.loop-i.invariant.0 c.loop-i-test.false d.loop-i.invariant.1
 
-pub put-boards-spec : {M : Type 1} → statement M
-put-boards-spec =
+pub put_boards_spec : {M : Type 1} → statement M
+put_boards_spec =
     tie.close
     (tie.spec
     invariant-loop

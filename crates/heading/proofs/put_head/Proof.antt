@@ -7,31 +7,31 @@ use borrow.Author.Rules.{rules}
 use Rattle.heading.proofs.put_head.Statement.{statement}
 use Rattle.heading.proofs.put_head.Tie as tie
 
-status-number-requires : tie.Need-status-number-requires
+status-number-requires : tie.Need-status_number-n-requires
 status-number-requires c κs = search rules
 
-number-requires : tie.Need-number-requires
+number-requires : tie.Need-number-m-requires
 number-requires c κs = search rules
 
-put-view-requires : tie.Need-put-view-requires
+put-view-requires : tie.Need-put_view-a-requires
 put-view-requires c κs = search rules
 
-put-view-requires-2 : tie.Need-put-view-requires-2
+put-view-requires-2 : tie.Need-put_view-b-requires
 put-view-requires-2 c κs = search rules
 
-put-heards-requires : tie.Need-put-heards-requires
+put-heards-requires : tie.Need-put_heards-c-requires
 put-heards-requires c κs = search rules
 
-put-boards-requires : tie.Need-put-boards-requires
+put-boards-requires : tie.Need-put_boards-d-requires
 put-boards-requires c κs = search rules
 
-array-read-put-two : tie.Need-array-read-put-two
+array-read-put-two : tie.Need-bounds-firsts-8
 array-read-put-two c = search rules
 
-put-two-requires : tie.Need-put-two-requires
+put-two-requires : tie.Need-put_two-requires
 put-two-requires c κs = search rules
 
-same_length : tie.Need-same-length
+same_length : tie.Need-shape_of-out
 same_length c = search rules
 
 returns : tie.Need-returns
@@ -44,13 +44,13 @@ returns c =
     let a = b.before.before.before.before in
     let m = a.before.before in
     let row = m.before.before.before.before.before.args.row in
-    let g = ap (view_bytes (view_of row.registry.view)) m.before.status-number.ensures in
-    let k = ap (view_bytes (view_of row.controller.view)) m.number.ensures in
-    then (wrote_as g a.put_view.ensures) (then (wrote_as k b.put-view2.ensures)
-    (then d.put-heards.ensures (then e.put-boards.ensures f.put_two.ensures)))
+    let g = ap (view_bytes (view_of row.registry.view)) m.before.before.before.status_number-n.ensures in
+    let k = ap (view_bytes (view_of row.controller.view)) m.before.before.number-m.ensures in
+    then (wrote_as g a.before.put_view-a.ensures) (then (wrote_as k b.put_view-b.ensures)
+    (then d.put_heards-c.ensures (then e.put_boards-d.ensures f.put_two.ensures)))
 
-pub put-head-spec : {M : Type 1} → statement M
-put-head-spec =
+pub put_head_spec : {M : Type 1} → statement M
+put_head_spec =
     tie.close
     (tie.spec
     status-number-requires

@@ -5,19 +5,19 @@ use borrow.Author.Rules.{rules}
 use Rattle.heading.proofs.put_taken.Statement.{statement}
 use Rattle.heading.proofs.put_taken.Tie as tie
 
-put-epochs-requires : tie.Need-put-epochs-requires
+put-epochs-requires : tie.Need-put_epochs-p-requires
 put-epochs-requires c κs = search rules
 
-put-two-requires : tie.Need-put-two-requires
+put-two-requires : tie.Need-put_two-q-requires
 put-two-requires c κs = search rules
 
-slice-aggregate-put-bytes : tie.Need-slice-aggregate-put-bytes
+slice-aggregate-put-bytes : tie.Need-slice_bounds-put_bytes-end
 slice-aggregate-put-bytes c = search rules
 
-put-bytes-requires : tie.Need-put-bytes-requires
+put-bytes-requires : tie.Need-put_bytes-requires
 put-bytes-requires c κs = search rules
 
-same_length : tie.Need-same-length
+same_length : tie.Need-shape_of-out
 same_length c = search rules
 
 returns : tie.Need-returns
@@ -26,11 +26,11 @@ returns c =
     let e = d.before.before.before.before.before in
     let f = e.before.before.before.before in
     let a = f.before.before.before in
-    rw (mask-back a.args.v.members a.well-formed.1.1.0.1.1.1.1.1.0.1)
-    (then f.put-epochs.ensures (then e.put_two.ensures d.put-bytes.ensures))
+    rw (mask-back a.args.v.members a.well_formed.1.1.0.1.1.1.1.1.0.1)
+    (then f.put_epochs-p.ensures (then e.put_two-q.ensures d.put_bytes.ensures))
 
-pub put-taken-spec : {M : Type 1} → statement M
-put-taken-spec =
+pub put_taken_spec : {M : Type 1} → statement M
+put_taken_spec =
     tie.close
     (tie.spec
     put-epochs-requires

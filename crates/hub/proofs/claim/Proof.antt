@@ -8,5 +8,5 @@ use Rattle.hub.proofs.Fixed.{lent-fixed}
 returns : tie.Need-returns
 returns c = (put-back, links-safe, lent-fixed)
 
-pub claim-spec : {M : Type 1} → statement M
-claim-spec = tie.close (tie.spec returns)
+pub claim_spec : {M : Type 1} → statement M
+claim_spec = tie.close (tie.spec returns)

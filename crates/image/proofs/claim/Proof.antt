@@ -9,5 +9,5 @@ use Rattle.image.proofs.claim.Tie as tie
 returns : tie.Need-returns
 returns c = (reads-back, resumes, images-tell, taken-fits, past-left)
 
-pub claim-spec : {M : Type 1} → statement M
-claim-spec = tie.close (tie.spec returns)
+pub claim_spec : {M : Type 1} → statement M
+claim_spec = tie.close (tie.spec returns)

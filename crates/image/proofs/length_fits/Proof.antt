@@ -8,19 +8,19 @@ use borrow.Author.Tests.{ne_eqb}
 use Rattle.image.proofs.length_fits.Statement.{statement}
 use Rattle.image.proofs.length_fits.Tie as tie
 
-returns : tie.Need-returns
+returns : tie.Need-returns-then-n-lt258
 returns c =
     let n = length c.before.args.image.now in
-    sym (rw (ne_eqb n (8 * ((n - 258) / 8) + 258) (λ e. omega (arith, e, c.if1.true))))
+    sym (rw (ne_eqb n (8 * ((n - 258) / 8) + 258) (λ e. omega (arith, e, c.if-n-lt258.true))))
 
-mul-result : tie.Need-overflow-mul-result
+mul-result : tie.Need-overflow_mul-result
 mul-result c = omega arith
 
-add-result : tie.Need-overflow-add-result
+add-result : tie.Need-overflow_add-result
 add-result c = omega arith
 
-returns-2 : tie.Need-returns-2
+returns-2 : tie.Need-returns
 returns-2 c = search rules
 
-pub length-fits-spec : {M : Type 1} → statement M
-length-fits-spec = tie.close (tie.spec returns mul-result add-result returns-2)
+pub length_fits_spec : {M : Type 1} → statement M
+length_fits_spec = tie.close (tie.spec returns mul-result add-result returns-2)

@@ -19,78 +19,78 @@ abbrev start : tie.After-lengths → tie.Start
 start c = c.before.before.before.before.before.before.before.before.before.before.before
 
 -- Past refusal 1, and past 3.
-lengths-fit : (d : tie.Else1) → lengths_fit (places (start d.before)) ≡ true
-lengths-fit d = sym d.before.lengths.ensures ∙ not-false _ d.if1.false
+lengths-fit : (d : tie.Else-not-lengths) → lengths_fit (places (start d.before)) ≡ true
+lengths-fit d = sym d.before.lengths.ensures ∙ not-false _ d.if-not-lengths.false
 
-lent-enough : (d : tie.Else2)
+lent-enough : (d : tie.Else-not-enough)
     → let s = start d.before.before.before in lent_enough (places s) s.args.scratch.now ≡ true
-lent-enough d = rw (lengths-fit d.before.before, sym d.before.enough.ensures ∙ not-false _ d.if2.false)
+lent-enough d = rw (lengths-fit d.before.before, sym d.before.enough.ensures ∙ not-false _ d.if-not-enough.false)
 
 lengths-requires : tie.Need-lengths-requires
 lengths-requires c κs = search rules
 
-same_length : tie.Need-same-length
+same_length : tie.Need-shape_of-store-then-not-lengths
 same_length c = search rules
 
-same-length-2 : tie.Need-same-length-2
+same-length-2 : tie.Need-shape_of-store2-then-not-lengths
 same-length-2 c = search rules
 
-same-length-3 : tie.Need-same-length-3
+same-length-3 : tie.Need-shape_of-list-then-not-lengths
 same-length-3 c = search rules
 
-same-length-4 : tie.Need-same-length-4
+same-length-4 : tie.Need-shape_of-list2-then-not-lengths
 same-length-4 c = search rules
 
-returns : tie.Need-returns
+returns : tie.Need-returns-then-not-lengths
 returns c =
     let s = start c.before in
     bad-lengths s.args.image.now s.args.given (places s) s.args.scratch.now
-    (sym c.before.lengths.ensures ∙ not-true _ c.if1.true)
+    (sym c.before.lengths.ensures ∙ not-true _ c.if-not-lengths.true)
 
 enough-requires : tie.Need-enough-requires
 enough-requires c κs = search rules
 
-same-length-5 : tie.Need-same-length-5
+same-length-5 : tie.Need-shape_of-store-then-not-enough
 same-length-5 c = search rules
 
-same-length-6 : tie.Need-same-length-6
+same-length-6 : tie.Need-shape_of-store2-then-not-enough
 same-length-6 c = search rules
 
-same-length-7 : tie.Need-same-length-7
+same-length-7 : tie.Need-shape_of-list-then-not-enough
 same-length-7 c = search rules
 
-same-length-8 : tie.Need-same-length-8
+same-length-8 : tie.Need-shape_of-list2-then-not-enough
 same-length-8 c = search rules
 
-returns-2 : tie.Need-returns-2
+returns-2 : tie.Need-returns-then-not-enough
 returns-2 c =
     let d = c.before.before in
     let s = start d.before in
     bad-scratch s.args.image.now s.args.given (places s) s.args.scratch.now (lengths-fit d)
-    (sym c.before.enough.ensures ∙ not-true _ c.if2.true)
+    (sym c.before.enough.ensures ∙ not-true _ c.if-not-enough.true)
 
-judge-requires : tie.Need-judge-requires
+judge-requires : tie.Need-judge-v-requires
 judge-requires c κs = search rules
 
 clear-requires : tie.Need-clear-requires
 clear-requires c κs = search rules
 
-same-length-9 : tie.Need-same-length-9
+same-length-9 : tie.Need-shape_of-store-then-v-ne0
 same-length-9 c = search rules
 
-same-length-10 : tie.Need-same-length-10
+same-length-10 : tie.Need-shape_of-store2-then-v-ne0
 same-length-10 c = search rules
 
-same-length-11 : tie.Need-same-length-11
+same-length-11 : tie.Need-shape_of-list-then-v-ne0
 same-length-11 c = search rules
 
-same-length-12 : tie.Need-same-length-12
+same-length-12 : tie.Need-shape_of-list2-then-v-ne0
 same-length-12 c = search rules
 
-same-length-13 : tie.Need-same-length-13
+same-length-13 : tie.Need-shape_of-scratch-then-v-ne0
 same-length-13 c = search rules
 
-returns-3 : tie.Need-returns-3
+returns-3 : tie.Need-returns-then-v-ne0
 returns-3 c =
     let e = c.before.before in
     let t = e.before.before in
@@ -98,33 +98,33 @@ returns-3 c =
     let s = start d.before.before.before in
     let image = s.args.image.now in
     bad-image image s.args.given (places s) s.args.scratch.now (lent-enough d) _ e.clear.ensures
-    t.before.judge.result (verdict-of image t.before.judge.result t.before.judge.ensures t.if3.true)
-    t.if3.true
+    t.before.judge-v.result (verdict-of image t.before.judge-v.result t.before.judge-v.ensures t.if-v-ne0.true)
+    t.if-v-ne0.true
 
-take-up-requires : tie.Need-take-up-requires
+take-up-requires : tie.Need-take_up-requires
 take-up-requires c κs =
     let t = c.before.before.before.before.before in
     let d = t.before.before in
     let s = start d.before.before.before in
-    let b = judged-both s.args.image.now (sym t.if3.false ∙ t.before.judge.ensures) in
+    let b = judged-both s.args.image.now (sym t.if-v-ne0.false ∙ t.before.judge-v.ensures) in
     (b.0, b.1, lent-enough d)
 
-same-length-14 : tie.Need-same-length-14
+same-length-14 : tie.Need-shape_of-store
 same-length-14 c = search rules
 
-same-length-15 : tie.Need-same-length-15
+same-length-15 : tie.Need-shape_of-store2
 same-length-15 c = search rules
 
-same-length-16 : tie.Need-same-length-16
+same-length-16 : tie.Need-shape_of-list
 same-length-16 c = search rules
 
-same-length-17 : tie.Need-same-length-17
+same-length-17 : tie.Need-shape_of-list2
 same-length-17 c = search rules
 
-same-length-18 : tie.Need-same-length-18
+same-length-18 : tie.Need-shape_of-scratch
 same-length-18 c = search rules
 
-returns-4 : tie.Need-returns-4
+returns-4 : tie.Need-returns
 returns-4 c = search rules
 
 pub load_spec : {M : Type 1} → statement M

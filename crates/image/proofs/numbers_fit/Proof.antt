@@ -15,35 +15,35 @@ use Rattle.image.proofs.Fitting.{records-are}
 use Rattle.image.proofs.numbers_fit.Statement.{statement}
 use Rattle.image.proofs.numbers_fit.Tie as tie
 
-codes-fit-requires : tie.Need-codes-fit-requires
+codes-fit-requires : tie.Need-codes_fit-requires
 codes-fit-requires c κs = search rules
 
-returns : tie.Need-returns
+returns : tie.Need-returns-then-not-codes_fit
 unfolding numbers_fit
-returns c = sym (rw (sym c.before.codes-fit.ensures ∙ not-true _ c.if1.true))
+returns c = sym (rw (sym c.before.codes_fit.ensures ∙ not-true _ c.if-not-codes_fit.true))
 
-row-requires : tie.Need-row-requires
+row-requires : tie.Need-row-row-requires
 row-requires c κs = search rules
 
-in-range-requires : tie.Need-in-range-requires
+in-range-requires : tie.Need-in_range-requires
 in-range-requires c κs = search rules
 
-coded : (c : tie.Else1) → codes_fit c.before.before.before.args.image.now ≡ true
-coded c = sym c.before.codes-fit.ensures ∙ not-false _ c.if1.false
+coded : (c : tie.Else-not-codes_fit) → codes_fit c.before.before.before.args.image.now ≡ true
+coded c = sym c.before.codes_fit.ensures ∙ not-false _ c.if-not-codes_fit.false
 
-returns-2 : tie.Need-returns-2
+returns-2 : tie.Need-returns-then-not-in_range
 unfolding numbers_fit
 returns-2 c =
     let d = c.before.before.before in
     let e : in_range (outline_of (row_at d.before.before.before.args.image.now (replicate 8 0) 0)) ≡ false =
-    sym (c.before.in-range.ensures ∙ ap (λ r. in_range (outline_of r)) c.before.before.row.ensures)
-    ∙ not-true _ c.if2.true in
+    sym (c.before.in_range.ensures ∙ ap (λ r. in_range (outline_of r)) c.before.before.row-row.ensures)
+    ∙ not-true _ c.if-not-in_range.true in
     sym (rw (coded d, e))
 
-epochs-fit-requires : tie.Need-epochs-fit-requires
+epochs-fit-requires : tie.Need-epochs_fit-requires
 epochs-fit-requires c κs = search rules
 
-returns-3 : tie.Need-returns-3
+returns-3 : tie.Need-returns
 unfolding numbers_fit
 returns-3 c =
     let x = c.before in
@@ -51,13 +51,13 @@ returns-3 c =
     let s = d.before.before.before in
     let image = s.args.image.now in
     let e : in_range (outline_of (row_at image (replicate 8 0) 0)) ≡ true =
-    sym (x.before.in-range.ensures ∙ ap (λ r. in_range (outline_of r)) x.before.before.row.ensures)
-    ∙ not-false _ x.if2.false in
-    c.epochs-fit.ensures ∙ ap (λ n. epochs_fit n image) (sym (records-are image s.args.n s.requires))
+    sym (x.before.in_range.ensures ∙ ap (λ r. in_range (outline_of r)) x.before.before.row-row.ensures)
+    ∙ not-false _ x.if-not-in_range.false in
+    c.epochs_fit.ensures ∙ ap (λ n. epochs_fit n image) (sym (records-are image s.args.n s.requires))
     ∙ sym (rw (coded d, e))
 
-pub numbers-fit-spec : {M : Type 1} → statement M
-numbers-fit-spec =
+pub numbers_fit_spec : {M : Type 1} → statement M
+numbers_fit_spec =
     tie.close
     (tie.spec
     codes-fit-requires

@@ -13,24 +13,24 @@ places s = let a = s.args in lent a.store.now a.store2.now a.list.now a.list2.no
 fits-requires : tie.Need-fits-requires
 fits-requires c κs = search rules
 
-returns : tie.Need-returns
+returns : tie.Need-returns-then-not-fits
 returns c =
     let s = c.before.before.before.before.before.before.before in
     not_valid s.args.row (places s) s.args.out.now
-    (sym c.before.fits2.ensures.0 ∙ not-true _ c.if1.true)
+    (sym c.before.fits.ensures.0 ∙ not-true _ c.if-not-fits.true)
 
-put-image-requires : tie.Need-put-image-requires
+put-image-requires : tie.Need-put_image-requires
 put-image-requires c κs =
     let d = c.before in (
-      sym d.before.fits2.ensures.0 ∙ not-false _ d.if1.false,
-      d.before.fits2.ensures.1,
+      sym d.before.fits.ensures.0 ∙ not-false _ d.if-not-fits.false,
+      d.before.fits.ensures.1,
     )
 
-same_length : tie.Need-same-length
+same_length : tie.Need-shape_of-out
 same_length c = search rules
 
-returns-2 : tie.Need-returns-2
+returns-2 : tie.Need-returns
 returns-2 c = search rules
 
-pub save-spec : {M : Type 1} → statement M
-save-spec = tie.close (tie.spec fits-requires returns put-image-requires same_length returns-2)
+pub save_spec : {M : Type 1} → statement M
+save_spec = tie.close (tie.spec fits-requires returns put-image-requires same_length returns-2)

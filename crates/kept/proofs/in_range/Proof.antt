@@ -13,16 +13,16 @@ use Rattle.kept.proofs.Terms.{kept-tests}
 use Rattle.kept.proofs.in_range.Statement.{statement}
 use Rattle.kept.proofs.in_range.Tie as tie
 
-cast-n : tie.Need-overflow-cast-n
+cast-n : tie.Need-overflow_cast-n
 cast-n c = search rules
 
-sub-epochs : tie.Need-overflow-sub-epochs
+sub-epochs : tie.Need-slice_bounds-epochs-count
 sub-epochs c = search rules
 
-part-epochs-start : tie.Need-slice-bounds-epochs-start
+part-epochs-start : tie.Need-slice_bounds-epochs-start
 part-epochs-start c = search rules
 
-part-epochs-end : tie.Need-slice-bounds-epochs-end
+part-epochs-end : tie.Need-slice_bounds-epochs-end
 part-epochs-end c = search rules
 
 epochs-requires : tie.Need-epochs-requires
@@ -44,8 +44,8 @@ returns c store list full =
     c.both.ensures ∙ (λ i. given i && c.before.logs.ensures i)
     ∙ sym (kept-tests row (lent store a.store2.now list a.list2.now) full)
 
-pub in-range-spec : {M : Type 1} → statement M
-in-range-spec =
+pub in_range_spec : {M : Type 1} → statement M
+in_range_spec =
     tie.close
     (tie.spec
     cast-n

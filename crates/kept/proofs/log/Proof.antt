@@ -6,28 +6,28 @@ use borrow.Author.Rules.{rules}
 use Rattle.kept.proofs.log.Statement.{statement}
 use Rattle.kept.proofs.log.Tie as tie
 
-sub-start : tie.Need-overflow-sub-start
+sub-start : tie.Need-overflow_sub-start
 sub-start c = search rules
 
-cast-start : tie.Need-overflow-cast-start
+cast-start : tie.Need-overflow_cast-start
 cast-start c = search rules
 
-mul-start : tie.Need-overflow-mul-start
+mul-start : tie.Need-overflow_mul-start
 mul-start c = search rules
 
-add-end : tie.Need-overflow-add-end
+add-end : tie.Need-overflow_add-end
 add-end c = search rules
 
-mul-epochs : tie.Need-overflow-mul-epochs
+mul-epochs : tie.Need-offset_bounds-terms-start
 mul-epochs c = search rules
 
-sub-epochs : tie.Need-overflow-sub-epochs
+sub-epochs : tie.Need-slice_bounds-epochs-count
 sub-epochs c = search rules
 
-part-epochs-start : tie.Need-slice-bounds-epochs-start
+part-epochs-start : tie.Need-slice_bounds-epochs-start
 part-epochs-start c = search rules
 
-part-epochs-end : tie.Need-slice-bounds-epochs-end
+part-epochs-end : tie.Need-slice_bounds-epochs-end
 part-epochs-end c = search rules
 
 epochs-requires : tie.Need-epochs-requires
@@ -40,8 +40,8 @@ returns c =
     let e : start + a.n - start ≡ a.n = omega arith in
     c.epochs.ensures ∙ rw e
 
-pub log-spec : {M : Type 1} → statement M
-log-spec =
+pub log_spec : {M : Type 1} → statement M
+log_spec =
     tie.close
     (tie.spec
     sub-start

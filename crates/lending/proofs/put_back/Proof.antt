@@ -7,7 +7,7 @@ use Rattle.lending.proofs.put_back.Tie as tie
 
 shape : (c : tie.Start) → Shape c.args.row
 shape c =
-    let g = c.well-formed.0.1.1.1.1 in
+    let g = c.well_formed.0.1.1.1.1 in
     let row = c.args.row in
     record {
       views = sym (length-map row.views _) ∙ g.0.1.0.1;
@@ -19,5 +19,5 @@ shape c =
 returns : tie.Need-returns
 returns c = (refl, shape c.before.before)
 
-pub put-back-spec : {M : Type 1} → statement M
-put-back-spec = tie.close (tie.spec returns)
+pub put_back_spec : {M : Type 1} → statement M
+put_back_spec = tie.close (tie.spec returns)

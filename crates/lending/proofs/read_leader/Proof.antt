@@ -10,27 +10,27 @@ use Rattle.lending.proofs.read_leader.Tie as tie
 seat-requires : tie.Need-seat-requires
 seat-requires c κs = search rules
 
-report-requires : tie.Need-report-requires
+report-requires : tie.Need-report-x-requires
 report-requires c κs = search rules
 
-read-leader-requires : tie.Need-read-leader-requires
+read-leader-requires : tie.Need-read_leader-requires
 read-leader-requires c κs = search rules
 
-put-back-requires : tie.Need-put-back-requires
+put-back-requires : tie.Need-put_back-requires
 put-back-requires c κs = search rules
 
 returns : tie.Need-returns
 returns c p v =
     let row = c.before.before.before.before.before.before.args.row in
-    let t = c.before.read-leader.result in
+    let t = c.before.read_leader.result in
     let b = c.before.before.before.seat.result in
     let k = c.before.before.before.seat.ensures in
-    let shape = c.put-back.ensures.1 in
-    let told = c.before.before.report.ensures in
+    let shape = c.put_back.ensures.1 in
+    let told = c.before.before.report-x.ensures in
     let l =
-    subst (λ x. ReadsLeader row.controller x t.reply t.controller) told c.before.read-leader.ensures in
-    linked row p c.put-back.result t c.put-back.ensures.0
+    subst (λ x. ReadsLeader row.controller x t.reply t.controller) told c.before.read_leader.ensures in
+    linked row p c.put_back.result t c.put_back.ensures.0
     (Link.read_leader shape (tells-leader row p shape v b k.0 k.1 k.2) l)
 
-pub read-leader-spec : {M : Type 1} → statement M
-read-leader-spec = tie.close (tie.spec seat-requires report-requires read-leader-requires put-back-requires returns)
+pub read_leader_spec : {M : Type 1} → statement M
+read_leader_spec = tie.close (tie.spec seat-requires report-requires read-leader-requires put-back-requires returns)

@@ -6,28 +6,28 @@ use Rattle.cluster.proofs.Laws.{at-index}
 use Rattle.lending.proofs.report.Statement.{statement}
 use Rattle.lending.proofs.report.Tie as tie
 
-sub-i : tie.Need-overflow-sub-i
+sub-i : tie.Need-overflow_sub-i
 sub-i c = search rules
 
-cast-i : tie.Need-overflow-cast-i
+cast-i : tie.Need-overflow_cast-i
 cast-i c = search rules
 
-mul-v : tie.Need-overflow-mul-v
+mul-v : tie.Need-offset_bounds-row-i
 mul-v c = search rules
 
-element-copy-out-v : tie.Need-element-copy-out-v
+element-copy-out-v : tie.Need-bounds-row-i
 element-copy-out-v c = search rules
 
-mul-t7 : tie.Need-overflow-mul-t7
+mul-t7 : tie.Need-offset_bounds-row-i-2
 mul-t7 c = search rules
 
-element-copy-out-t13 : tie.Need-element-copy-out-t13
+element-copy-out-t13 : tie.Need-bounds-row-i-2
 element-copy-out-t13 c = search rules
 
-mul-t14 : tie.Need-overflow-mul-t14
+mul-t14 : tie.Need-offset_bounds-row-i-3
 mul-t14 c = search rules
 
-element-copy-out-t17 : tie.Need-element-copy-out-t17
+element-copy-out-t17 : tie.Need-bounds-row-i-3
 element-copy-out-t17 c = search rules
 
 returns : tie.Need-returns
@@ -43,8 +43,8 @@ returns c =
       len = at-index 0 row.len b h i;
     })
 
-pub report-spec : {M : Type 1} → statement M
-report-spec =
+pub report_spec : {M : Type 1} → statement M
+report_spec =
     tie.close
     (tie.spec
     sub-i

@@ -9,5 +9,5 @@ returns : tie.Need-returns
 unfolding LimitsHold all_hold holds run answers
 returns c = tt
 
-pub trials-spec : {M : Type 1} → statement M
-trials-spec = tie.close (tie.spec returns)
+pub trials_spec : {M : Type 1} → statement M
+trials_spec = tie.close (tie.spec returns)

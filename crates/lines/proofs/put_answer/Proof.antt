@@ -26,64 +26,64 @@ abbrev text1 : tie.Start → Text
 text1 e = digits e.args.step ++ (space ++ text2 e)
 
 -- What was given at the start, from after the call j.
-abbrev start1 : tie.After-put-field → tie.Start
+abbrev start1 : tie.After-put_field-a → tie.Start
 start1 c = c.before.before.before
 
-abbrev start2 : tie.After-put-field2 → tie.Start
+abbrev start2 : tie.After-put_field-b → tie.Start
 start2 c = start1 c.before.before.before.before
 
-abbrev start3 : tie.After-put-number → tie.Start
+abbrev start3 : tie.After-put_number-c → tie.Start
 start3 c = start2 c.before.before.before.before
 
-abbrev start4 : tie.After-put-fourth → tie.Start
+abbrev start4 : tie.After-put_fourth-d → tie.Start
 start4 c = start3 c.before.before.before.before
 
-put-field-requires : tie.Need-put-field-requires
+put-field-requires : tie.Need-put_field-a-requires
 unfolding answer_line
 put-field-requires c κs = let e = c.before.before in fits_both _ (digits e.args.k) space (text1 e) e.requires
 
 -- The room that is left after the call j, then the need of the next.
-room1 : (c : tie.After-put-field) → c.put-field.result + length (text1 (start1 c)) ≤ length c.put-field.new.0
+room1 : (c : tie.After-put_field-a) → c.put_field-a.result + length (text1 (start1 c)) ≤ length c.put_field-a.new.0
 unfolding answer_line
 room1 c =
     let e = start1 c in
-    rest_both (digits e.args.k) space (text1 e) c.put-field.ensures e.pre
+    rest_both (digits e.args.k) space (text1 e) c.put_field-a.ensures e.pre
 
-put-field-requires-2 : tie.Need-put-field-requires-2
+put-field-requires-2 : tie.Need-put_field-b-requires
 put-field-requires-2 c κs =
     let d = c.before.before.before in
     let e = start1 d in
     fits_both _ (digits e.args.step) space (text2 e) (room1 d)
 
-room2 : (c : tie.After-put-field2) → c.put-field2.result + length (text2 (start2 c)) ≤ length c.put-field2.new.0
+room2 : (c : tie.After-put_field-b) → c.put_field-b.result + length (text2 (start2 c)) ≤ length c.put_field-b.new.0
 room2 c =
     let e = start2 c in
-    rest_both (digits e.args.step) space (text2 e) c.put-field2.ensures
+    rest_both (digits e.args.step) space (text2 e) c.put_field-b.ensures
     (room1 c.before.before.before.before)
 
-put-number-requires : tie.Need-put-number-requires
+put-number-requires : tie.Need-put_number-c-requires
 put-number-requires c κs =
     let d = c.before.before.before in
     let e = start2 d in
     fits _ (digits e.args.answer) (text3 e) (room2 d)
 
-room3 : (c : tie.After-put-number) → c.put-number.result + length (text3 (start3 c)) ≤ length c.put-number.new.0
+room3 : (c : tie.After-put_number-c) → c.put_number-c.result + length (text3 (start3 c)) ≤ length c.put_number-c.new.0
 room3 c =
     let e = start3 c in
-    rest (digits e.args.answer) (text3 e) c.put-number.ensures (room2 c.before.before.before.before)
+    rest (digits e.args.answer) (text3 e) c.put_number-c.ensures (room2 c.before.before.before.before)
 
-put-fourth-requires : tie.Need-put-fourth-requires
+put-fourth-requires : tie.Need-put_fourth-d-requires
 put-fourth-requires c κs =
     let d = c.before.before.before in
     let e = start3 d in
     fits _ (fourth e) (text4 e) (room3 d)
 
-room4 : (c : tie.After-put-fourth) → c.put-fourth.result + length (text4 (start4 c)) ≤ length c.put-fourth.new.0
+room4 : (c : tie.After-put_fourth-d) → c.put_fourth-d.result + length (text4 (start4 c)) ≤ length c.put_fourth-d.new.0
 room4 c =
     let e = start4 c in
-    rest (fourth e) (text4 e) c.put-fourth.ensures (room3 c.before.before.before.before)
+    rest (fourth e) (text4 e) c.put_fourth-d.ensures (room3 c.before.before.before.before)
 
-put-byte-requires : tie.Need-put-byte-requires
+put-byte-requires : tie.Need-put_byte-requires
 put-byte-requires c κs = byte _ (room4 c.before.before.before)
 
 returns : tie.Need-returns
@@ -94,15 +94,15 @@ returns c =
     let p2 = p3.before.before.before.before in
     let p1 = p2.before.before.before.before in
     let e = start1 p1 in
-    then-both (digits e.args.k) space p1.put-field.ensures
-    (then-both (digits e.args.step) space p2.put-field2.ensures
-    (then p3.put-number.ensures (then p4.put-fourth.ensures c.before.before.put_byte.ensures)))
+    then-both (digits e.args.k) space p1.put_field-a.ensures
+    (then-both (digits e.args.step) space p2.put_field-b.ensures
+    (then p3.put_number-c.ensures (then p4.put_fourth-d.ensures c.before.before.put_byte.ensures)))
 
-same_length : tie.Need-same-length
+same_length : tie.Need-shape_of-out
 same_length c = wrote-length (returns c)
 
-pub put-answer-spec : {M : Type 1} → statement M
-put-answer-spec =
+pub put_answer_spec : {M : Type 1} → statement M
+put_answer_spec =
     tie.close
     (tie.spec
     put-field-requires

@@ -11,37 +11,37 @@ use Rattle.loading.proofs.Parts.{places-there, part-copied}
 use Rattle.loading.proofs.copy_board.Statement.{statement}
 use Rattle.loading.proofs.copy_board.Tie as tie
 
-first-requires : tie.Need-first-requires
+first-requires : tie.Need-first-start-requires
 first-requires c κs = search rules
 
-mul-from : tie.Need-overflow-mul-from
+mul-from : tie.Need-overflow_mul-from
 mul-from c = search rules
 
-add-to : tie.Need-overflow-add-to
+add-to : tie.Need-overflow_add-to
 add-to c = search rules
 
-mul-copy : tie.Need-overflow-mul-copy
+mul-copy : tie.Need-offset_bounds-store-from
 mul-copy c = search rules
 
-sub-copy : tie.Need-overflow-sub-copy
+sub-copy : tie.Need-slice_bounds-copy-count
 sub-copy c = search rules
 
-part-copy-start : tie.Need-slice-bounds-copy-start
+part-copy-start : tie.Need-slice_bounds-copy-start
 part-copy-start c = search rules
 
-part-copy-end : tie.Need-slice-bounds-copy-end
+part-copy-end : tie.Need-slice_bounds-copy-end
 part-copy-end c = search rules
 
-mul-copy-2 : tie.Need-overflow-mul-copy-2
+mul-copy-2 : tie.Need-offset_bounds-store2-from
 mul-copy-2 c = search rules
 
-sub-copy-2 : tie.Need-overflow-sub-copy-2
+sub-copy-2 : tie.Need-slice_bounds-copy-count-2
 sub-copy-2 c = search rules
 
-part-copy-start-2 : tie.Need-slice-bounds-copy-start-2
+part-copy-start-2 : tie.Need-slice_bounds-copy-start-2
 part-copy-start-2 c = search rules
 
-part-copy-end-2 : tie.Need-slice-bounds-copy-end-2
+part-copy-end-2 : tie.Need-slice_bounds-copy-end-2
 part-copy-end-2 c = search rules
 
 copy-requires : tie.Need-copy-requires
@@ -49,15 +49,15 @@ copy-requires c κs =
     let s = c.before.before.before.before.before.before in
     let next = next_of s.args.image.now in (
       search rules,
-      subst (λ k. Sound s.args.n (chain_of next k)) (sym c.before.before.first.ensures) s.requires.2,
+      subst (λ k. Sound s.args.n (chain_of next k)) (sym c.before.before.first-start.ensures) s.requires.2,
       search (rules, places-there s.args.store.now),
       search (rules, places-there s.args.store2.now),
     )
 
-same_length : tie.Need-same-length
+same_length : tie.Need-shape_of-store
 same_length c = search rules
 
-same-length-2 : tie.Need-same-length-2
+same-length-2 : tie.Need-shape_of-store2
 same-length-2 c = search rules
 
 returns : tie.Need-returns
@@ -66,7 +66,7 @@ returns c =
     let a = s.args in
     let i = a.image.now in
     let next = next_of i in
-    let start = c.before.before.before.before.before.before.before.first in
+    let start = c.before.before.before.before.before.before.before.first-start in
     let e : start.result ≡ first_of i a.b = start.ensures in
     let ks = chain_of next start.result in
     let k : length ks ≤ 512 = (subst (λ k. Sound a.n (chain_of next k)) (sym e) s.requires.2).short in
@@ -81,8 +81,8 @@ returns c =
           ∙ ap (λ k. sets a.store2.now (512 * a.b) (epochs_of i (chain_of next k))) e;
     }
 
-pub copy-board-spec : {M : Type 1} → statement M
-copy-board-spec =
+pub copy_board_spec : {M : Type 1} → statement M
+copy_board_spec =
     tie.close
     (tie.spec
     first-requires

@@ -9,49 +9,49 @@ use Rattle.logparts.proofs.append_entry.Tie as tie
 abbrev start : tie.After-append → tie.Start
 start c = c.before.before.before.before.before
 
-sub-start : tie.Need-overflow-sub-start
+sub-start : tie.Need-overflow_sub-start
 sub-start c = search rules
 
-cast-start : tie.Need-overflow-cast-start
+cast-start : tie.Need-overflow_cast-start
 cast-start c = search rules
 
-mul-start : tie.Need-overflow-mul-start
+mul-start : tie.Need-overflow_mul-start
 mul-start c = search rules
 
-add-end : tie.Need-overflow-add-end
+add-end : tie.Need-overflow_add-end
 add-end c = search rules
 
-mul-append : tie.Need-overflow-mul-append
+mul-append : tie.Need-offset_bounds-store-start
 mul-append c = search rules
 
-sub-append : tie.Need-overflow-sub-append
+sub-append : tie.Need-slice_bounds-append-count
 sub-append c = search rules
 
-part-append-start : tie.Need-slice-bounds-append-start
+part-append-start : tie.Need-slice_bounds-append-start
 part-append-start c = search rules
 
-part-append-end : tie.Need-slice-bounds-append-end
+part-append-end : tie.Need-slice_bounds-append-end
 part-append-end c = search rules
 
-mul-append-2 : tie.Need-overflow-mul-append-2
+mul-append-2 : tie.Need-offset_bounds-terms-start
 mul-append-2 c = search rules
 
-sub-append-2 : tie.Need-overflow-sub-append-2
+sub-append-2 : tie.Need-slice_bounds-append-count-2
 sub-append-2 c = search rules
 
-part-append-start-2 : tie.Need-slice-bounds-append-start-2
+part-append-start-2 : tie.Need-slice_bounds-append-start-2
 part-append-start-2 c = search rules
 
-part-append-end-2 : tie.Need-slice-bounds-append-end-2
+part-append-end-2 : tie.Need-slice_bounds-append-end-2
 part-append-end-2 c = search rules
 
 append-requires : tie.Need-append-requires
 append-requires c κs = search rules
 
-same_length : tie.Need-same-length
+same_length : tie.Need-shape_of-store
 same_length c = search rules
 
-same-length-2 : tie.Need-same-length-2
+same-length-2 : tie.Need-shape_of-terms
 same-length-2 c = search rules
 
 returns : tie.Need-returns
@@ -63,8 +63,8 @@ returns c =
       part-set a.terms.now _ at a.len a.t (omega arith) (omega arith) d.append.ensures.1,
     )
 
-pub append-entry-spec : {M : Type 1} → statement M
-append-entry-spec =
+pub append_entry_spec : {M : Type 1} → statement M
+append_entry_spec =
     tie.close
     (tie.spec
     sub-start

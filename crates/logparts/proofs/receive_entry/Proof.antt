@@ -11,73 +11,73 @@ use Rattle.logparts.proofs.receive_entry.Tie as tie
 abbrev start : tie.After-receive → tie.Start
 start c = c.before.before.before.before.before.before.before
 
-sub-from : tie.Need-overflow-sub-from
+sub-from : tie.Need-overflow_sub-from
 sub-from c = search rules
 
-cast-from : tie.Need-overflow-cast-from
+cast-from : tie.Need-overflow_cast-from
 cast-from c = search rules
 
-mul-from : tie.Need-overflow-mul-from
+mul-from : tie.Need-overflow_mul-from
 mul-from c = search rules
 
-add-from : tie.Need-overflow-add-from
+add-from : tie.Need-overflow_add-from
 add-from c = search rules
 
-mul-v : tie.Need-overflow-mul-v
+mul-v : tie.Need-offset_bounds-store-from
 mul-v c = search rules
 
-slice-read-v : tie.Need-slice-read-v
+slice-read-v : tie.Need-bounds-store-from
 slice-read-v c = search rules
 
-mul-t : tie.Need-overflow-mul-t
+mul-t : tie.Need-offset_bounds-terms-from
 mul-t c = search rules
 
-slice-read-t : tie.Need-slice-read-t
+slice-read-t : tie.Need-bounds-terms-from
 slice-read-t c = search rules
 
-sub-own : tie.Need-overflow-sub-own
+sub-own : tie.Need-overflow_sub-own
 sub-own c = search rules
 
-cast-own : tie.Need-overflow-cast-own
+cast-own : tie.Need-overflow_cast-own
 cast-own c = search rules
 
-mul-own : tie.Need-overflow-mul-own
+mul-own : tie.Need-overflow_mul-own
 mul-own c = search rules
 
-add-end : tie.Need-overflow-add-end
+add-end : tie.Need-overflow_add-end
 add-end c = search rules
 
-mul-receive : tie.Need-overflow-mul-receive
+mul-receive : tie.Need-offset_bounds-store-own
 mul-receive c = search rules
 
-sub-receive : tie.Need-overflow-sub-receive
+sub-receive : tie.Need-slice_bounds-receive-count
 sub-receive c = search rules
 
-part-receive-start : tie.Need-slice-bounds-receive-start
+part-receive-start : tie.Need-slice_bounds-receive-start
 part-receive-start c = search rules
 
-part-receive-end : tie.Need-slice-bounds-receive-end
+part-receive-end : tie.Need-slice_bounds-receive-end
 part-receive-end c = search rules
 
-mul-receive-2 : tie.Need-overflow-mul-receive-2
+mul-receive-2 : tie.Need-offset_bounds-terms-own
 mul-receive-2 c = search rules
 
-sub-receive-2 : tie.Need-overflow-sub-receive-2
+sub-receive-2 : tie.Need-slice_bounds-receive-count-2
 sub-receive-2 c = search rules
 
-part-receive-start-2 : tie.Need-slice-bounds-receive-start-2
+part-receive-start-2 : tie.Need-slice_bounds-receive-start-2
 part-receive-start-2 c = search rules
 
-part-receive-end-2 : tie.Need-slice-bounds-receive-end-2
+part-receive-end-2 : tie.Need-slice_bounds-receive-end-2
 part-receive-end-2 c = search rules
 
 receive-requires : tie.Need-receive-requires
 receive-requires c κs = search rules
 
-same_length : tie.Need-same-length
+same_length : tie.Need-shape_of-store
 same_length c = search rules
 
-same-length-2 : tie.Need-same-length-2
+same-length-2 : tie.Need-shape_of-terms
 same-length-2 c = search rules
 
 returns : tie.Need-returns
@@ -92,8 +92,8 @@ returns c =
           d.receive.ensures.1,
     )
 
-pub receive-entry-spec : {M : Type 1} → statement M
-receive-entry-spec =
+pub receive_entry_spec : {M : Type 1} → statement M
+receive_entry_spec =
     tie.close
     (tie.spec
     sub-from

@@ -27,9 +27,9 @@ returns c =
       pairs-at a.store.now a.terms.now (place a.a a.n) e,
       pairs-at a.store.now a.terms.now (place a.b a.n) e,
       c.before.before.before.value.ensures,
-      c.before.before.value2.ensures,
+      c.before.before.value-2.ensures,
       c.before.term.ensures,
-      c.term2.ensures,
+      c.term-2.ensures,
     )
 
 pub same_spec : {M : Type 1} → statement M

@@ -54,36 +54,36 @@ module _ (vs ts : List ℕ) (a m b n i : ℕ)
       stops : t ≡ false → more i ≡ 0
       stops z = by-same ∙ rw z
 
-abbrev invariant-loop : tie.invariant-loop
+abbrev invariant-loop : tie.invariant-loop-i
 invariant-loop store terms a m b n i₀ i =
     let xs = log_of (pairs store terms) a m in
     let ys = log_of (pairs store terms) b n in
     (i ≤ m) × (length (shared same_entry xs ys) ≡ i + shared_from same_entry xs ys i)
 
-abbrev decreases-loop : tie.decreases-loop
+abbrev decreases-loop : tie.decreases-loop-i
 decreases-loop store terms a m b n i₀ i = m - i
 
-abbrev start : tie.At-loop invariant-loop decreases-loop → tie.Start invariant-loop decreases-loop
+abbrev start : tie.At-loop-i invariant-loop decreases-loop → tie.Start invariant-loop decreases-loop
 start c = c.before.before.before
 
-loop-holds : tie.Need-loop-init invariant-loop decreases-loop
+loop-holds : tie.Need-loop-i-init invariant-loop decreases-loop
 loop-holds c = (search rules, omega arith)
 
-returns : tie.Need-returns invariant-loop decreases-loop
+returns : tie.Need-returns-then-n-i invariant-loop decreases-loop
 returns c =
     let l = c.before.before in
     let f = start l in
     let a = f.args in
     omega (
       arith,
-      l.loop.invariant.1,
-      ends-2 a.store.now a.terms.now a.a a.m a.b a.n l.loop.i f.pre c.if1.true,
+      l.loop-i.invariant.1,
+      ends-2 a.store.now a.terms.now a.a a.m a.b a.n l.loop-i.i f.pre c.if-n-i.true,
     )
 
 same-requires : tie.Need-same-requires invariant-loop decreases-loop
 same-requires c κs = search rules
 
-returns-2 : tie.Need-returns-2 invariant-loop decreases-loop
+returns-2 : tie.Need-returns-then-not-same invariant-loop decreases-loop
 returns-2 c =
     let d = c.before.before in
     let l = d.before.before in
@@ -91,18 +91,18 @@ returns-2 c =
     let a = f.args in
     omega (
       arith,
-      l.loop.invariant.1,
-      stops a.store.now a.terms.now a.a a.m a.b a.n l.loop.i f.pre
-          d.before.loop-test.true d.if1.false c.before.same.ensures (not-true _ c.if2.true),
+      l.loop-i.invariant.1,
+      stops a.store.now a.terms.now a.a a.m a.b a.n l.loop-i.i f.pre
+          d.before.loop-i-test.true d.if-n-i.false c.before.same.ensures (not-true _ c.if-not-same.true),
     )
 
-add-i : tie.Need-overflow-add-i invariant-loop decreases-loop
+add-i : tie.Need-overflow_add-i invariant-loop decreases-loop
 add-i c = omega arith
 
-loop-less : tie.Need-loop-smaller invariant-loop decreases-loop
+loop-less : tie.Need-loop-i-smaller invariant-loop decreases-loop
 loop-less c = omega arith
 
-loop-again : tie.Need-loop-preserved invariant-loop decreases-loop
+loop-again : tie.Need-loop-i-preserved invariant-loop decreases-loop
 loop-again c =
     let d = c.before.before in
     let l = d.before.before in
@@ -111,24 +111,24 @@ loop-again c =
       search rules,
       omega (
         arith,
-        l.loop.invariant.1,
-        goes_on a.store.now a.terms.now a.a a.m a.b a.n l.loop.i f.pre
-            d.before.loop-test.true d.if1.false c.before.same.ensures (not-false _ c.if2.false),
+        l.loop-i.invariant.1,
+        goes_on a.store.now a.terms.now a.a a.m a.b a.n l.loop-i.i f.pre
+            d.before.loop-i-test.true d.if-n-i.false c.before.same.ensures (not-false _ c.if-not-same.false),
       ),
     )
 
-returns-3 : tie.Need-returns-3 invariant-loop decreases-loop
+returns-3 : tie.Need-returns invariant-loop decreases-loop
 returns-3 c =
     let l = c.before in
     let f = start l in
     let a = f.args in
     omega (
       arith,
-      l.loop.invariant.1,
-      ends a.store.now a.terms.now a.a a.m a.b a.n l.loop.i f.pre c.loop-test.false,
+      l.loop-i.invariant.1,
+      ends a.store.now a.terms.now a.a a.m a.b a.n l.loop-i.i f.pre c.loop-i-test.false,
     )
 
-pub shared-spec : {M : Type 1} → statement M
-shared-spec =
+pub shared_spec : {M : Type 1} → statement M
+shared_spec =
     tie.close
     (tie.spec invariant-loop decreases-loop loop-holds returns same-requires returns-2 add-i loop-less loop-again returns-3)

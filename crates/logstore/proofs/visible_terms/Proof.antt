@@ -8,57 +8,57 @@ use Rattle.logstore.proofs.Laws.{from_start, from_place}
 use Rattle.logstore.proofs.visible_terms.Statement.{statement}
 use Rattle.logstore.proofs.visible_terms.Tie as tie
 
-sub-result : tie.Need-overflow-sub-result
+sub-result : tie.Need-slice_bounds-result-count
 sub-result c = search rules
 
-part-result-start : tie.Need-slice-bounds-result-start
+part-result-start : tie.Need-slice_bounds-result-start
 part-result-start c = search rules
 
-part-result-end : tie.Need-slice-bounds-result-end
+part-result-end : tie.Need-slice_bounds-result-end
 part-result-end c = search rules
 
-returns : tie.Need-returns
+returns : tie.Need-returns-then-leader-eq0
 returns c =
     let a = c.before.before.args in
     let e : a.issued - 0 ≡ a.issued = omega arith in (
-      rw (e, eq-eqb _ _ c.before.if1.true),
-      rw (eq-eqb _ _ c.before.if1.true) (from_start 2 a.committed.ptr),
+      rw (e, eq-eqb _ _ c.before.if-leader-eq0.true),
+      rw (eq-eqb _ _ c.before.if-leader-eq0.true) (from_start 2 a.committed.ptr),
     )
 
-sub-start : tie.Need-overflow-sub-start
+sub-start : tie.Need-overflow_sub-start
 sub-start c = search rules
 
-cast-start : tie.Need-overflow-cast-start
+cast-start : tie.Need-overflow_cast-start
 cast-start c = search rules
 
-mul-start : tie.Need-overflow-mul-start
+mul-start : tie.Need-overflow_mul-start
 mul-start c = search rules
 
-add-end : tie.Need-overflow-add-end
+add-end : tie.Need-overflow_add-end
 add-end c = search rules
 
-mul-result : tie.Need-overflow-mul-result
+mul-result : tie.Need-offset_bounds-store-start
 mul-result c = search rules
 
-sub-result-2 : tie.Need-overflow-sub-result-2
+sub-result-2 : tie.Need-slice_bounds-result-count-2
 sub-result-2 c = search rules
 
-part-result-start-2 : tie.Need-slice-bounds-result-start-2
+part-result-start-2 : tie.Need-slice_bounds-result-start-2
 part-result-start-2 c = search rules
 
-part-result-end-2 : tie.Need-slice-bounds-result-end-2
+part-result-end-2 : tie.Need-slice_bounds-result-end-2
 part-result-end-2 c = search rules
 
-returns-2 : tie.Need-returns-2
+returns-2 : tie.Need-returns
 returns-2 c =
     let a = c.before.before.args in
     let from = 512 * (a.leader - 1) in
     let e : from + a.len - from ≡ a.len = omega arith in
-    let n = ne_eqb _ _ c.before.if1.false in
+    let n = ne_eqb _ _ c.before.if-leader-eq0.false in
     (rw (e, n), rw n (from_place 2 a.store.ptr from))
 
-pub visible-terms-spec : {M : Type 1} → statement M
-visible-terms-spec =
+pub visible_terms_spec : {M : Type 1} → statement M
+visible_terms_spec =
     tie.close
     (tie.spec
     sub-result

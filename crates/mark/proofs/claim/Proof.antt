@@ -18,5 +18,5 @@ returns c = λ o real sts b.
       outside = outside entries b (opened-inv o real) sts;
     }
 
-pub claim-spec : {M : Type 1} → statement M
-claim-spec = tie.close (tie.spec returns)
+pub claim_spec : {M : Type 1} → statement M
+claim_spec = tie.close (tie.spec returns)

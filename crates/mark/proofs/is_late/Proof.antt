@@ -6,5 +6,5 @@ use Rattle.mark.proofs.is_late.Tie as tie
 returns : tie.Need-returns
 returns c = refl
 
-pub is-late-spec : {M : Type 1} → statement M
-is-late-spec = tie.close (tie.spec returns)
+pub is_late_spec : {M : Type 1} → statement M
+is_late_spec = tie.close (tie.spec returns)

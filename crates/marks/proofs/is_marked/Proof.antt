@@ -5,19 +5,19 @@ use Rattle.marks.proofs.Laws.{marked-at}
 use Rattle.marks.proofs.is_marked.Statement.{statement}
 use Rattle.marks.proofs.is_marked.Tie as tie
 
-sub-i : tie.Need-overflow-sub-i
+sub-i : tie.Need-overflow_sub-i
 sub-i c = search rules
 
-sub-b : tie.Need-overflow-sub-b
+sub-b : tie.Need-overflow_sub-b
 sub-b c = search rules
 
-cast-b : tie.Need-overflow-cast-b
+cast-b : tie.Need-overflow_cast-b
 cast-b c = search rules
 
-add-b : tie.Need-overflow-add-b
+add-b : tie.Need-overflow_add-b
 add-b c = search rules
 
-shared-slice-read-has : tie.Need-shared-slice-read-has
+shared-slice-read-has : tie.Need-bounds-s-i
 shared-slice-read-has c = search rules
 
 has-requires : tie.Need-has-requires
@@ -26,5 +26,5 @@ has-requires c κs = search rules
 returns : tie.Need-returns
 returns c = c.has.ensures ∙ sym (marked-at _ _ c.before.before.before.requires.1)
 
-pub is-marked-spec : {M : Type 1} → statement M
-is-marked-spec = tie.close (tie.spec sub-i sub-b cast-b add-b shared-slice-read-has has-requires returns)
+pub is_marked_spec : {M : Type 1} → statement M
+is_marked_spec = tie.close (tie.spec sub-i sub-b cast-b add-b shared-slice-read-has has-requires returns)

@@ -5,28 +5,28 @@ use Rattle.marks.proofs.Laws.{marked-set}
 use Rattle.marks.proofs.mark.Statement.{statement}
 use Rattle.marks.proofs.mark.Tie as tie
 
-sub_at : tie.Need-overflow-sub-at
+sub_at : tie.Need-overflow_sub-at
 sub_at c = search rules
 
-sub-b : tie.Need-overflow-sub-b
+sub-b : tie.Need-overflow_sub-b
 sub-b c = search rules
 
-cast-b : tie.Need-overflow-cast-b
+cast-b : tie.Need-overflow_cast-b
 cast-b c = search rules
 
-add-b : tie.Need-overflow-add-b
+add-b : tie.Need-overflow_add-b
 add-b c = search rules
 
-slice-read-insert : tie.Need-slice-read-insert
+slice-read-insert : tie.Need-bounds-s-at
 slice-read-insert c = omega arith
 
 insert-requires : tie.Need-insert-requires
 insert-requires c κs = search rules
 
-slice-write-s : tie.Need-slice-write-s
+slice-write-s : tie.Need-bounds-s-at-2
 slice-write-s c = search rules
 
-same_length : tie.Need-same-length
+same_length : tie.Need-shape_of-s
 same_length c = search rules
 
 returns : tie.Need-returns

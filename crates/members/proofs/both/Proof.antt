@@ -6,5 +6,5 @@ use Rattle.members.proofs.both.Tie as tie
 returns : tie.Need-returns
 returns c = bits-both c.args.m c.args.q
 
-pub both-spec : {M : Type 1} → statement M
-both-spec = tie.close (tie.spec returns)
+pub both_spec : {M : Type 1} → statement M
+both_spec = tie.close (tie.spec returns)

@@ -5,14 +5,14 @@ use Rattle.members.proofs.Laws.{bits_at}
 use Rattle.members.proofs.has.Statement.{statement}
 use Rattle.members.proofs.has.Tie as tie
 
-sub-result : tie.Need-overflow-sub-result
+sub-result : tie.Need-overflow_sub-result
 sub-result c = search rules
 
-shr-result : tie.Need-overflow-shr-result
+shr-result : tie.Need-overflow_shr-result
 shr-result c = search rules
 
 returns : tie.Need-returns
 returns c = sym (bits_at c.args.m c.args.b (search rules) (search rules))
 
-pub has-spec : {M : Type 1} → statement M
-has-spec = tie.close (tie.spec sub-result shr-result returns)
+pub has_spec : {M : Type 1} → statement M
+has_spec = tie.close (tie.spec sub-result shr-result returns)

@@ -12,5 +12,5 @@ size-requires c κs = search rules
 returns : tie.Need-returns
 returns c = rw (c.size.ensures, c.before.majority.ensures)
 
-pub is-quorum-spec : {M : Type 1} → statement M
-is-quorum-spec = tie.close (tie.spec majority-requires size-requires returns)
+pub is_quorum_spec : {M : Type 1} → statement M
+is_quorum_spec = tie.close (tie.spec majority-requires size-requires returns)

@@ -16,10 +16,10 @@ abbrev rule : ℕ → ℕ
 rule m = quorum (size (bits m))
 
 -- Where a number of two bytes lies: twice the mask.
-mul-result : tie.Need-overflow-mul-result
+mul-result : tie.Need-offset_bounds-m
 mul-result c = search rules
 
-array-read-result : tie.Need-array-read-result
+array-read-result : tie.Need-bounds-m
 array-read-result c = search rules
 
 -- The test over the whole table: the goal has the array where the law has `table rule 256`.
@@ -31,9 +31,9 @@ returns c = table_at rule 256 c.args.m (search rules)
 small : (m : ℕ) → rule m < 256
 small m = omega (arith, size-le (bits m))
 
-cast-result : tie.Need-overflow-cast-result
+cast-result : tie.Need-overflow_cast-result-2
 unfolding bits
 cast-result c = record { fits = subst (λ n. n < 256) (sym (returns c)) (small c.args.m) }
 
-pub majority-spec : {M : Type 1} → statement M
-majority-spec = tie.close (tie.spec mul-result array-read-result cast-result returns)
+pub majority_spec : {M : Type 1} → statement M
+majority_spec = tie.close (tie.spec mul-result array-read-result cast-result returns)

@@ -6,7 +6,7 @@ use Rattle.members.proofs.Laws.{ones-size, size-le}
 use Rattle.members.proofs.size.Statement.{statement}
 use Rattle.members.proofs.size.Tie as tie
 
-cast-result : tie.Need-overflow-cast-result
+cast-result : tie.Need-overflow_cast-result
 cast-result c =
     let m = c.args.m in
     record { fits = omega (arith, ones-size m (search rules), size-le (bits m)) }
@@ -14,5 +14,5 @@ cast-result c =
 returns : tie.Need-returns
 returns c = ones-size c.args.m (search rules)
 
-pub size-spec : {M : Type 1} → statement M
-size-spec = tie.close (tie.spec cast-result returns)
+pub size_spec : {M : Type 1} → statement M
+size_spec = tie.close (tie.spec cast-result returns)

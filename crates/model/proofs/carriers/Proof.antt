@@ -6,5 +6,5 @@ use Rattle.model.proofs.Carried.{carriers-hold}
 returns : tie.Need-returns
 returns c = carriers-hold
 
-pub carriers-spec : {M : Type 1} → statement M
-carriers-spec = tie.close (tie.spec returns)
+pub carriers_spec : {M : Type 1} → statement M
+carriers_spec = tie.close (tie.spec returns)

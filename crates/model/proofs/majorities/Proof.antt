@@ -6,5 +6,5 @@ use Rattle.model.proofs.Majority as Majority
 returns : tie.Need-returns
 returns c = Majority.majorities
 
-pub majorities-spec : {M : Type 1} → statement M
-majorities-spec = tie.close (tie.spec returns)
+pub majorities_spec : {M : Type 1} → statement M
+majorities_spec = tie.close (tie.spec returns)

@@ -14,5 +14,5 @@ returns c = λ o real sts.
     join-and (in_range (outline (after entries o sts))) (kept_in_range (after entries o sts))
     (in-range entries o real sts) (kept_in (terms-run o real sts))
 
-pub ranges-spec : {M : Type 1} → statement M
-ranges-spec = tie.close (tie.spec returns)
+pub ranges_spec : {M : Type 1} → statement M
+ranges_spec = tie.close (tie.spec returns)

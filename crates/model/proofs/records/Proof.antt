@@ -6,5 +6,5 @@ use Rattle.model.proofs.Forms.{forms}
 returns : tie.Need-returns
 returns c = forms
 
-pub records-spec : {M : Type 1} → statement M
-records-spec = tie.close (tie.spec returns)
+pub records_spec : {M : Type 1} → statement M
+records_spec = tie.close (tie.spec returns)

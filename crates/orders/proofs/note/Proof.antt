@@ -6,44 +6,44 @@ use Rattle.orders.proofs.Laws.{noted}
 use Rattle.orders.proofs.note.Statement.{statement}
 use Rattle.orders.proofs.note.Tie as tie
 
-mul_at : tie.Need-overflow-mul-at
+mul_at : tie.Need-overflow_mul-at
 mul_at c = search rules
 
-slice-write-o : tie.Need-slice-write-o
+slice-write-o : tie.Need-bounds-o-at
 slice-write-o c = search rules
 
-add-o : tie.Need-overflow-add-o
+add-o : tie.Need-overflow_add-o
 add-o c = search rules
 
-slice-write-o-2 : tie.Need-slice-write-o-2
+slice-write-o-2 : tie.Need-bounds-o-at-2
 slice-write-o-2 c = simp length-set (omega arith)
 
-cast-o : tie.Need-overflow-cast-o
+cast-o : tie.Need-overflow_cast-o
 cast-o c = search rules
 
-add-o-2 : tie.Need-overflow-add-o-2
+add-o-2 : tie.Need-overflow_add-o-2
 add-o-2 c = search rules
 
-slice-write-o-3 : tie.Need-slice-write-o-3
+slice-write-o-3 : tie.Need-bounds-o-at-3
 slice-write-o-3 c = simp length-set (omega arith)
 
-cast-o-2 : tie.Need-overflow-cast-o-2
+cast-o-2 : tie.Need-overflow_cast-o-2
 cast-o-2 c = search rules
 
-add-o-3 : tie.Need-overflow-add-o-3
+add-o-3 : tie.Need-overflow_add-o-3
 add-o-3 c = search rules
 
-slice-write-o-4 : tie.Need-slice-write-o-4
+slice-write-o-4 : tie.Need-bounds-o-at-4
 slice-write-o-4 c = simp length-set (omega arith)
 
-same_length : tie.Need-same-length
+same_length : tie.Need-shape_of-o
 same_length c = search rules
 
 returns : tie.Need-returns
 returns c = let a = c.args in noted _ a.k a.step a.board a.n c.requires
 
-pub note-spec : {M : Type 1} → statement M
-note-spec =
+pub note_spec : {M : Type 1} → statement M
+note_spec =
     tie.close
     (tie.spec
     mul_at

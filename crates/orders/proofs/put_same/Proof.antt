@@ -13,31 +13,31 @@ use Rattle.orders.proofs.Laws.{same_bytes, one_less, none_left}
 use Rattle.orders.proofs.put_same.Statement.{statement}
 use Rattle.orders.proofs.put_same.Tie as tie
 
-abbrev invariant-loop : tie.invariant-loop
+abbrev invariant-loop : tie.invariant-loop-i
 invariant-loop out₀ at step board n r p₀ i₀ out p i =
     (p + 8 * i ≡ at + 8 * n) × (length out ≡ length out₀)
     × (over out p (sheet_bytes (replicate i (of step board))) ≡ over out₀ at (sheet_bytes (replicate n (of step board))))
 
-abbrev decreases-loop : tie.decreases-loop
+abbrev decreases-loop : tie.decreases-loop-i
 decreases-loop out₀ at step board n r p₀ i₀ out p i = i
 
-loop-holds : tie.Need-loop-init invariant-loop decreases-loop
+loop-holds : tie.Need-loop-i-init invariant-loop decreases-loop
 loop-holds c = (refl, refl, refl)
 
-encode-requires : tie.Need-encode-requires invariant-loop decreases-loop
+encode-requires : tie.Need-encode-p-requires invariant-loop decreases-loop
 encode-requires c κs = omega arith
 
-sub-i : tie.Need-overflow-sub-i invariant-loop decreases-loop
+sub-i : tie.Need-overflow_sub-i invariant-loop decreases-loop
 sub-i c = omega arith
 
-loop-less : tie.Need-loop-smaller invariant-loop decreases-loop
+loop-less : tie.Need-loop-i-smaller invariant-loop decreases-loop
 loop-less c = omega arith
 
-loop-again : tie.Need-loop-preserved invariant-loop decreases-loop
+loop-again : tie.Need-loop-i-preserved invariant-loop decreases-loop
 loop-again c =
-    let l = c.before.before.before.before.before.loop in
+    let l = c.before.before.before.before.before.loop-i in
     let a = c.before.before.before.before.before.before.before.args in
-    let w = c.before.before.encode.ensures in
+    let w = c.before.before.encode-p.ensures in
     let r = of a.step a.board in
     let some : 1 ≤ l.i = omega arith in (
       omega (arith, w.next, bytes-length r),
@@ -45,12 +45,12 @@ loop-again c =
       one_less l.i r some w ∙ l.invariant.2,
     )
 
-same_length : tie.Need-same-length invariant-loop decreases-loop
-same_length c = c.before.loop.invariant.1
+same_length : tie.Need-shape_of-out invariant-loop decreases-loop
+same_length c = c.before.loop-i.invariant.1
 
 returns : tie.Need-returns invariant-loop decreases-loop
 returns c =
-    let l = c.before.loop in
+    let l = c.before.loop-i in
     let a = c.before.before.before.args in
     let r = of a.step a.board in
     let none : l.i ≡ 0 = omega arith in
@@ -59,8 +59,8 @@ returns c =
       text = sym (none_left l.out l.p l.i r none) ∙ l.invariant.2;
     }
 
-pub put-same-spec : {M : Type 1} → statement M
-put-same-spec =
+pub put_same_spec : {M : Type 1} → statement M
+put_same_spec =
     tie.close
     (tie.spec
     invariant-loop

@@ -10,50 +10,50 @@ use Rattle.orders.proofs.Laws.{orders-none, orders-more}
 use Rattle.orders.proofs.total.Statement.{statement}
 use Rattle.orders.proofs.total.Tie as tie
 
-abbrev invariant-loop : tie.invariant-loop
+abbrev invariant-loop : tie.invariant-loop-i
 invariant-loop o k n₀ i₀ n i = (i ≤ k) × (n ≤ 65535 * i) × (n ≡ length (orders i o))
 
-abbrev decreases-loop : tie.decreases-loop
+abbrev decreases-loop : tie.decreases-loop-i
 decreases-loop o k n₀ i₀ n i = k - i
 
-loop-holds : tie.Need-loop-init invariant-loop decreases-loop
+loop-holds : tie.Need-loop-i-init invariant-loop decreases-loop
 loop-holds c = (omega arith, omega arith, sym (ap length (orders-none _)))
 
-mul-two-at : tie.Need-overflow-mul-two-at invariant-loop decreases-loop
+mul-two-at : tie.Need-overflow_mul-i invariant-loop decreases-loop
 mul-two-at c = omega arith
 
-add-two-at : tie.Need-overflow-add-two-at invariant-loop decreases-loop
+add-two-at : tie.Need-overflow_add-i invariant-loop decreases-loop
 add-two-at c = omega arith
 
-two-at-requires : tie.Need-two-at-requires invariant-loop decreases-loop
+two-at-requires : tie.Need-two_at-requires invariant-loop decreases-loop
 two-at-requires c κs = omega arith
 
-cast-n : tie.Need-overflow-cast-n invariant-loop decreases-loop
+cast-n : tie.Need-overflow_cast-n invariant-loop decreases-loop
 cast-n c = search rules
 
-add-n : tie.Need-overflow-add-n invariant-loop decreases-loop
+add-n : tie.Need-overflow_add-n invariant-loop decreases-loop
 add-n c = omega arith
 
-add-i : tie.Need-overflow-add-i invariant-loop decreases-loop
+add-i : tie.Need-overflow_add-i-in-loop-i invariant-loop decreases-loop
 add-i c = omega arith
 
-loop-less : tie.Need-loop-smaller invariant-loop decreases-loop
+loop-less : tie.Need-loop-i-smaller invariant-loop decreases-loop
 loop-less c = omega arith
 
-loop-again : tie.Need-loop-preserved invariant-loop decreases-loop
+loop-again : tie.Need-loop-i-preserved invariant-loop decreases-loop
 loop-again c =
-    let l = c.before.before.loop in
+    let l = c.before.before.loop-i in
     let a = c.before.before.before.before.args in
     (omega arith, omega arith, omega (arith, orders-more l.i a.o.now, l.invariant.2, c.two_at.ensures))
 
 returns : tie.Need-returns invariant-loop decreases-loop
 returns c =
-    let l = c.before.loop in
+    let l = c.before.loop-i in
     let end : l.i ≡ c.before.before.before.args.k = omega arith in
     l.invariant.2 ∙ rw end
 
-pub total-spec : {M : Type 1} → statement M
-total-spec =
+pub total_spec : {M : Type 1} → statement M
+total_spec =
     tie.close
     (tie.spec
     invariant-loop

@@ -10,5 +10,5 @@ use Rattle.phrases.proofs.claim.Tie as tie
 returns : tie.Need-returns
 returns c = (lines-differ, lines-one, covers, lengths-tell, lines-hold, room-holds)
 
-pub claim-spec : {M : Type 1} → statement M
-claim-spec = tie.close (tie.spec returns)
+pub claim_spec : {M : Type 1} → statement M
+claim_spec = tie.close (tie.spec returns)

@@ -13,7 +13,7 @@ places c = let a = c.args in lent a.store.now a.store2.now a.list.now a.list2.no
 -- The type of a row fixes the lengths of its arrays.
 shape : (c : tie.Start) → Shape c.args.row
 shape c =
-    let g = c.well-formed.0.1.1.1.1 in
+    let g = c.well_formed.0.1.1.1.1 in
     let row = c.args.row in
     record {
       views = sym (length-map row.views _) ∙ g.0.1.0.1;
@@ -27,16 +27,16 @@ turn-requires c κs =
     let s = c.before.before.before.before.before.before.before.before in
     (fit-ready s.args.row (places s) (shape s) s.requires.1, s.requires.1.full)
 
-same_length : tie.Need-same-length
+same_length : tie.Need-shape_of-store
 same_length c = search rules
 
-same-length-2 : tie.Need-same-length-2
+same-length-2 : tie.Need-shape_of-store2
 same-length-2 c = search rules
 
-same-length-3 : tie.Need-same-length-3
+same-length-3 : tie.Need-shape_of-list
 same-length-3 c = search rules
 
-same-length-4 : tie.Need-same-length-4
+same-length-4 : tie.Need-shape_of-list2
 same-length-4 c = search rules
 
 returns : tie.Need-returns
@@ -54,7 +54,7 @@ returns c =
     })
     t.turn.ensures
 
-pub attempt-spec : {M : Type 1} → statement M
-attempt-spec =
+pub attempt_spec : {M : Type 1} → statement M
+attempt_spec =
     tie.close
     (tie.spec turn-requires same_length same-length-2 same-length-3 same-length-4 returns)

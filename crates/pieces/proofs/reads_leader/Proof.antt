@@ -14,37 +14,37 @@ places c = let a = c.args in lent a.store.now a.store2.now a.list.now a.list2.no
 number-requires : tie.Need-number-requires
 number-requires c κs = search rules
 
-returns : tie.Need-returns
+returns : tie.Need-returns-then-number-eq2
 returns c =
     let s = c.before.before.before.before.before.before.before.before.before in
-    reads_none s.args.d (places s) s.args.notes.now (sym c.before.number.ensures ∙ c.if1.true) s.requires.0
+    reads_none s.args.d (places s) s.args.notes.now (sym c.before.number.ensures ∙ c.if-number-eq2.true) s.requires.0
 
 put-requires : tie.Need-put-requires
 put-requires c κs =
     let s = c.before.before.before.before.before.before.before.before.before.before.before.before.before.before in (keeps-read-leader, s.requires.0, s.requires.1)
 
-same_length : tie.Need-same-length
+same_length : tie.Need-shape_of-store
 same_length c = search rules
 
-same-length-2 : tie.Need-same-length-2
+same-length-2 : tie.Need-shape_of-store2
 same-length-2 c = search rules
 
-same-length-3 : tie.Need-same-length-3
+same-length-3 : tie.Need-shape_of-list
 same-length-3 c = search rules
 
-same-length-4 : tie.Need-same-length-4
+same-length-4 : tie.Need-shape_of-list2
 same-length-4 c = search rules
 
-same-length-5 : tie.Need-same-length-5
+same-length-5 : tie.Need-shape_of-notes
 same-length-5 c = search rules
 
-returns-2 : tie.Need-returns-2
+returns-2 : tie.Need-returns
 returns-2 c =
     let s = c.before.before.before.before.before.before.before.before.before.before.before.before.before.before.before.before.before.before.before.before.before.before.before.before.before in
-    reads-put s.args.d (places s) s.args.notes.now (λ e. c.before.before.before.before.before.before.before.before.before.before.before.before.before.before.before.before.if1.false (c.before.before.before.before.before.before.before.before.before.before.before.before.before.before.before.before.before.number.ensures ∙ e)) c.before.before.before.before.before.before.before.before.before.before.put.ensures
+    reads-put s.args.d (places s) s.args.notes.now (λ e. c.before.before.before.before.before.before.before.before.before.before.before.before.before.before.before.before.if-number-eq2.false (c.before.before.before.before.before.before.before.before.before.before.before.before.before.before.before.before.before.number.ensures ∙ e)) c.before.before.before.before.before.before.before.before.before.before.put.ensures
 
-pub reads-leader-spec : {M : Type 1} → statement M
-reads-leader-spec =
+pub reads_leader_spec : {M : Type 1} → statement M
+reads_leader_spec =
     tie.close
     (tie.spec
     number-requires

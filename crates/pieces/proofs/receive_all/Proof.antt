@@ -14,71 +14,71 @@ use borrow.Author.Rules.{rules}
 use Rattle.pieces.proofs.receive_all.Statement.{statement}
 use Rattle.pieces.proofs.receive_all.Tie as tie
 
-abbrev invariant-loop : tie.invariant-loop
+abbrev invariant-loop : tie.invariant-loop-i
 invariant-loop d store₀ store2₀ list₀ list2₀ b n row₀ ok₀ i₀ store store2 list list2 row ok i =
     (i ≤ n) × Fit row (lent store store2 list list2)
     × ((m : Draft Entry) → Plays m d.row d.ok (lent store₀ store2₀ list₀ list2₀)
     → Plays (times i (put entries (of 8 b)) m) row ok (lent store store2 list list2))
 
-abbrev decreases-loop : tie.decreases-loop
+abbrev decreases-loop : tie.decreases-loop-i
 decreases-loop d store₀ store2₀ list₀ list2₀ b n row₀ ok₀ i₀ store store2 list list2 row ok i = n - i
 
-loop-holds : tie.Need-loop-init invariant-loop decreases-loop
+loop-holds : tie.Need-loop-i-init invariant-loop decreases-loop
 loop-holds c =
     let s = c.before.before.before.before.before in
     (omega arith, s.requires, λ m k. plays-as (sym (times_none (put entries (of 8 s.args.b)) m)) k)
 
-attempt-requires : tie.Need-attempt-requires invariant-loop decreases-loop
+attempt-requires : tie.Need-attempt-x-requires invariant-loop decreases-loop
 attempt-requires c κs =
-    (keeps-receive c.before.before.before.before.before.before.before.before.before.before.before.args.b, c.before.before.before.before.before.loop.invariant.1)
+    (keeps-receive c.before.before.before.before.before.before.before.before.before.before.before.args.b, c.before.before.before.before.before.loop-i.invariant.1)
 
-add-i : tie.Need-overflow-add-i invariant-loop decreases-loop
+add-i : tie.Need-overflow_add-i invariant-loop decreases-loop
 add-i c =
-    record { fits = omega (arith, c.before.before.before.before.before.before.before.before.before.before.before.before.before.before.before.loop-test.true, c.before.before.before.before.before.before.before.before.before.before.before.before.before.before.before.before.before.before.before.before.before.before.ranges.n.fits) }
+    record { fits = omega (arith, c.before.before.before.before.before.before.before.before.before.before.before.before.before.before.before.loop-i-test.true, c.before.before.before.before.before.before.before.before.before.before.before.before.before.before.before.before.before.before.before.before.before.before.ranges.n.fits) }
 
-loop-less : tie.Need-loop-smaller invariant-loop decreases-loop
+loop-less : tie.Need-loop-i-smaller invariant-loop decreases-loop
 loop-less c =
-    omega (arith, c.before.before.before.before.before.before.before.before.before.before.before.before.before.before.before.loop-test.true)
+    omega (arith, c.before.before.before.before.before.before.before.before.before.before.before.before.before.before.before.loop-i-test.true)
 
-loop-again : tie.Need-loop-preserved invariant-loop decreases-loop
+loop-again : tie.Need-loop-i-preserved invariant-loop decreases-loop
 loop-again c =
-    let l = c.before.before.before.before.before.before.before.before.before.before.before.before.before.before.before.before.loop in
-    let t = c.before.before.before.before.before.before.before.before.before.before.attempt.ensures in (
-      omega (arith, c.before.before.before.before.before.before.before.before.before.before.before.before.before.before.before.loop-test.true),
+    let l = c.before.before.before.before.before.before.before.before.before.before.before.before.before.before.before.before.loop-i in
+    let t = c.before.before.before.before.before.before.before.before.before.before.attempt-x.ensures in (
+      omega (arith, c.before.before.before.before.before.before.before.before.before.before.before.before.before.before.before.loop-i-test.true),
       t.fit,
       λ m k. let f = put entries (of 8 c.before.before.before.before.before.before.before.before.before.before.before.before.before.before.before.before.before.before.before.before.before.before.args.b) in
           rw (add-one l.i) (plays-as (sym (times_more l.i f m)) (plays-put _ l.row _ t (times l.i f m) l.ok (l.invariant.2 m k))),
     )
 
-same_length : tie.Need-same-length invariant-loop decreases-loop
+same_length : tie.Need-shape_of-store invariant-loop decreases-loop
 same_length c =
-    let s = c.before.before.before.before.before.before.before in c.before.loop.invariant.1.full.store ∙ sym s.requires.full.store
+    let s = c.before.before.before.before.before.before.before in c.before.loop-i.invariant.1.full.store ∙ sym s.requires.full.store
 
-same-length-2 : tie.Need-same-length-2 invariant-loop decreases-loop
+same-length-2 : tie.Need-shape_of-store2 invariant-loop decreases-loop
 same-length-2 c =
-    let s = c.before.before.before.before.before.before.before in c.before.loop.invariant.1.full.store2 ∙ sym s.requires.full.store2
+    let s = c.before.before.before.before.before.before.before in c.before.loop-i.invariant.1.full.store2 ∙ sym s.requires.full.store2
 
-same-length-3 : tie.Need-same-length-3 invariant-loop decreases-loop
+same-length-3 : tie.Need-shape_of-list invariant-loop decreases-loop
 same-length-3 c =
-    let s = c.before.before.before.before.before.before.before in c.before.loop.invariant.1.full.list ∙ sym s.requires.full.list
+    let s = c.before.before.before.before.before.before.before in c.before.loop-i.invariant.1.full.list ∙ sym s.requires.full.list
 
-same-length-4 : tie.Need-same-length-4 invariant-loop decreases-loop
+same-length-4 : tie.Need-shape_of-list2 invariant-loop decreases-loop
 same-length-4 c =
-    let s = c.before.before.before.before.before.before.before in c.before.loop.invariant.1.full.list2 ∙ sym s.requires.full.list2
+    let s = c.before.before.before.before.before.before.before in c.before.loop-i.invariant.1.full.list2 ∙ sym s.requires.full.list2
 
 returns : tie.Need-returns invariant-loop decreases-loop
 returns c =
     let s = c.before.before.before.before.before.before.before in
-    let l = c.before.loop in
-    let e : l.i ≡ s.args.n = omega (arith, l.invariant.0, c.loop-test.false) in
+    let l = c.before.loop-i in
+    let e : l.i ≡ s.args.n = omega (arith, l.invariant.0, c.loop-i-test.false) in
     record {
       fit = l.invariant.1;
       count = refl;
       plays = λ m k. plays-as (ap (λ i. times i (put entries (of 8 s.args.b)) m) e) (l.invariant.2 m k);
     }
 
-pub receive-all-spec : {M : Type 1} → statement M
-receive-all-spec =
+pub receive_all_spec : {M : Type 1} → statement M
+receive_all_spec =
     tie.close
     (tie.spec
     invariant-loop

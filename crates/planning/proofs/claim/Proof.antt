@@ -14,5 +14,5 @@ runs = λ o real sts low. recovers entries o real sts low
 returns : tie.Need-returns
 returns c = (calls-recover calls-safe (follows-recover runs), follows-recover runs)
 
-pub claim-spec : {M : Type 1} → statement M
-claim-spec = tie.close (tie.spec returns)
+pub claim_spec : {M : Type 1} → statement M
+claim_spec = tie.close (tie.spec returns)

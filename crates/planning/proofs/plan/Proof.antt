@@ -15,87 +15,87 @@ abbrev places : tie.Start → Places
 places c = let a = c.args in lent a.store.now a.store2.now a.list.now a.list2.now
 
 -- Refusal 1 let the row and the places through.
-passed : (c : tie.Else1) → let s = c.before.before.before.before.before.before.before in valid s.args.row (places s) ≡ true
-passed c = sym c.before.fits2.ensures.0 ∙ not-false _ c.if1.false
+passed : (c : tie.Else-not-fits) → let s = c.before.before.before.before.before.before.before in valid s.args.row (places s) ≡ true
+passed c = sym c.before.fits.ensures.0 ∙ not-false _ c.if-not-fits.false
 
-full : (c : tie.Else1) → Full (places c.before.before.before.before.before.before.before)
+full : (c : tie.Else-not-fits) → Full (places c.before.before.before.before.before.before.before)
 full c = let s = c.before.before.before.before.before.before.before in valid-full s.args.row (places s) (passed c)
 
 fits-requires : tie.Need-fits-requires
 fits-requires c κs = search rules
 
-returns : tie.Need-returns
+returns : tie.Need-returns-then-not-fits
 returns c =
     let s = c.before.before.before.before.before.before.before in
-    plans-invalid s.args.row (places s) s.args.out.now (sym c.before.fits2.ensures.0 ∙ not-true _ c.if1.true)
+    plans-invalid s.args.row (places s) s.args.out.now (sym c.before.fits.ensures.0 ∙ not-true _ c.if-not-fits.true)
 
-returns-2 : tie.Need-returns-2
+returns-2 : tie.Need-returns-then-out-lt16512
 returns-2 c =
     let s = c.before.before.before.before.before.before.before.before in
-    plans-short s.args.row (places s) s.args.out.now (passed c.before) (omega (arith, c.if2.true))
+    plans-short s.args.row (places s) s.args.out.now (passed c.before) (omega (arith, c.if-out-lt16512.true))
 
-slice-aggregate-copy-words : tie.Need-slice-aggregate-copy-words
+slice-aggregate-copy-words : tie.Need-slice_bounds-copy_words-end
 slice-aggregate-copy-words c = search rules
 
-copy-words-requires : tie.Need-copy-words-requires
+copy-words-requires : tie.Need-copy_words-requires
 copy-words-requires c κs =
     (full c.before.before).store
 
-slice-aggregate-copy-halves : tie.Need-slice-aggregate-copy-halves
+slice-aggregate-copy-halves : tie.Need-slice_bounds-copy_halves-end
 slice-aggregate-copy-halves c = search rules
 
-copy-halves-requires : tie.Need-copy-halves-requires
+copy-halves-requires : tie.Need-copy_halves-requires
 copy-halves-requires c κs =
     (full c.before.before.before.before.before).store2
 
-slice-aggregate-copy-words-2 : tie.Need-slice-aggregate-copy-words-2
+slice-aggregate-copy-words-2 : tie.Need-slice_bounds-copy_words-end-2
 slice-aggregate-copy-words-2 c = search rules
 
-copy-words-requires-2 : tie.Need-copy-words-requires-2
+copy-words-requires-2 : tie.Need-copy_words-requires-2
 copy-words-requires-2 c κs =
     (full c.before.before.before.before.before.before.before.before).list
 
-slice-aggregate-copy-halves-2 : tie.Need-slice-aggregate-copy-halves-2
+slice-aggregate-copy-halves-2 : tie.Need-slice_bounds-copy_halves-end-2
 slice-aggregate-copy-halves-2 c = search rules
 
-copy-halves-requires-2 : tie.Need-copy-halves-requires-2
+copy-halves-requires-2 : tie.Need-copy_halves-requires-2
 copy-halves-requires-2 c κs =
     (full c.before.before.before.before.before.before.before.before.before.before.before).list2
 
-slice-aggregate-plan : tie.Need-slice-aggregate-plan
+slice-aggregate-plan : tie.Need-slice_bounds-plan-end
 slice-aggregate-plan c = search rules
 
-slice-aggregate-plan-2 : tie.Need-slice-aggregate-plan-2
+slice-aggregate-plan-2 : tie.Need-slice_bounds-plan-end-2
 slice-aggregate-plan-2 c = search rules
 
-slice-aggregate-plan-3 : tie.Need-slice-aggregate-plan-3
+slice-aggregate-plan-3 : tie.Need-slice_bounds-plan-end-3
 slice-aggregate-plan-3 c = search rules
 
-slice-aggregate-plan-4 : tie.Need-slice-aggregate-plan-4
+slice-aggregate-plan-4 : tie.Need-slice_bounds-plan-end-4
 slice-aggregate-plan-4 c = search rules
 
 plan-requires : tie.Need-plan-requires
 plan-requires c κs =
     let s = c.before.before.before.before.before.before.before.before.before.before.before.before.before.before.before.before.before.before.before.before.before.before.before.before.before in (
       copies-fit s.args.row (places s) _
-          (copied c.before.before.before.before.before.before.before.before.before.before.before.before.before.before.before.copy-words.ensures c.before.before.before.before.before.before.before.before.before.before.before.before.copy-halves.ensures c.before.before.before.before.before.before.before.before.before.copy-words2.ensures c.before.before.before.before.before.before.copy-halves2.ensures)
-          c.before.before.before.before.before.before.before.before.before.before.before.before.before.before.before.before.before.before.before.fits2.ensures.1 (passed c.before.before.before.before.before.before.before.before.before.before.before.before.before.before.before.before.before.before),
-      omega (arith, c.before.before.before.before.before.before.before.before.before.before.before.before.before.before.before.before.before.if2.false),
+          (copied c.before.before.before.before.before.before.before.before.before.before.before.before.before.before.before.copy_words.ensures c.before.before.before.before.before.before.before.before.before.before.before.before.copy_halves.ensures c.before.before.before.before.before.before.before.before.before.copy_words-2.ensures c.before.before.before.before.before.before.copy_halves-2.ensures)
+          c.before.before.before.before.before.before.before.before.before.before.before.before.before.before.before.before.before.before.before.fits.ensures.1 (passed c.before.before.before.before.before.before.before.before.before.before.before.before.before.before.before.before.before.before),
+      omega (arith, c.before.before.before.before.before.before.before.before.before.before.before.before.before.before.before.before.before.if-out-lt16512.false),
     )
 
-same_length : tie.Need-same-length
+same_length : tie.Need-shape_of-out
 same_length c = search rules
 
-returns-3 : tie.Need-returns-3
+returns-3 : tie.Need-returns
 returns-3 c =
     let s = c.before.before.before.before.before.before.before.before.before.before.before.before.before.before.before.before.before.before.before.before.before.before.before.before.before.before.before.before.before.before.before.before in
-    plans-list s.args.row (places s) s.args.out.now (passed c.before.before.before.before.before.before.before.before.before.before.before.before.before.before.before.before.before.before.before.before.before.before.before.before.before) (omega (arith, c.before.before.before.before.before.before.before.before.before.before.before.before.before.before.before.before.before.before.before.before.before.before.before.before.if2.false))
+    plans-list s.args.row (places s) s.args.out.now (passed c.before.before.before.before.before.before.before.before.before.before.before.before.before.before.before.before.before.before.before.before.before.before.before.before.before) (omega (arith, c.before.before.before.before.before.before.before.before.before.before.before.before.before.before.before.before.before.before.before.before.before.before.before.before.if-out-lt16512.false))
     (copies-give s.args.row (places s) _
-    (copied c.before.before.before.before.before.before.before.before.before.before.before.before.before.before.before.before.before.before.before.before.before.before.copy-words.ensures c.before.before.before.before.before.before.before.before.before.before.before.before.before.before.before.before.before.before.before.copy-halves.ensures c.before.before.before.before.before.before.before.before.before.before.before.before.before.before.before.before.copy-words2.ensures c.before.before.before.before.before.before.before.before.before.before.before.before.before.copy-halves2.ensures)
+    (copied c.before.before.before.before.before.before.before.before.before.before.before.before.before.before.before.before.before.before.before.before.before.before.copy_words.ensures c.before.before.before.before.before.before.before.before.before.before.before.before.before.before.before.before.before.before.before.copy_halves.ensures c.before.before.before.before.before.before.before.before.before.before.before.before.before.before.before.before.copy_words-2.ensures c.before.before.before.before.before.before.before.before.before.before.before.before.before.copy_halves-2.ensures)
     c.before.before.before.before.before.before.plan.ensures)
 
-pub plan-spec : {M : Type 1} → statement M
-plan-spec =
+pub plan_spec : {M : Type 1} → statement M
+plan_spec =
     tie.close
     (tie.spec
     fits-requires

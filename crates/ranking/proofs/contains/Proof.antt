@@ -9,14 +9,14 @@ use Rattle.ranking.proofs.contains.Tie as tie
 replica-requires : tie.Need-replica-requires
 replica-requires c κs = search rules
 
-returns : tie.Need-returns
-returns c = sym (bits_out _ _ (sym c.before.replica.ensures ∙ not-true _ c.if1.true))
+returns : tie.Need-returns-then-not-replica
+returns c = sym (bits_out _ _ (sym c.before.replica.ensures ∙ not-true _ c.if-not-replica.true))
 
 has-requires : tie.Need-has-requires
-has-requires c κs = replica-range _ (sym c.before.replica.ensures ∙ not-false _ c.if1.false)
+has-requires c κs = replica-range _ (sym c.before.replica.ensures ∙ not-false _ c.if-not-replica.false)
 
-returns-2 : tie.Need-returns-2
+returns-2 : tie.Need-returns
 returns-2 c = search rules
 
-pub contains-spec : {M : Type 1} → statement M
-contains-spec = tie.close (tie.spec replica-requires returns has-requires returns-2)
+pub contains_spec : {M : Type 1} → statement M
+contains_spec = tie.close (tie.spec replica-requires returns has-requires returns-2)

@@ -11,45 +11,45 @@ use Rattle.ranking.proofs.Laws.{under_all, count_below, count_none, count-le, by
 use Rattle.ranking.proofs.first.Statement.{statement}
 use Rattle.ranking.proofs.first.Tie as tie
 
-abbrev invariant-loop : tie.invariant-loop
+abbrev invariant-loop : tie.invariant-loop-left
 invariant-loop m n q₀ met₀ left₀ q met left =
     (left ≤ 8) × (met ≡ count_below (9 - left) (bits m)) × (bits q ≡ under (9 - left) (first_of n (bits m)))
 
-abbrev decreases-loop : tie.decreases-loop
+abbrev decreases-loop : tie.decreases-loop-left
 decreases-loop m n q₀ met₀ left₀ q met left = left
 
-loop-holds : tie.Need-loop-init invariant-loop decreases-loop
+loop-holds : tie.Need-loop-left-init invariant-loop decreases-loop
 loop-holds c = (search rules, sym (count_none _), under_none _)
 
-sub-b : tie.Need-overflow-sub-b invariant-loop decreases-loop
+sub-b : tie.Need-overflow_sub-b invariant-loop decreases-loop
 sub-b c = omega arith
 
-has-requires : tie.Need-has-requires invariant-loop decreases-loop
+has-requires : tie.Need-has-here-requires invariant-loop decreases-loop
 has-requires c κs = search rules
 
-put-requires : tie.Need-put-requires invariant-loop decreases-loop
+put-requires : tie.Need-put-q-requires invariant-loop decreases-loop
 put-requires c κs = search rules
 
-cast-met : tie.Need-overflow-cast-met invariant-loop decreases-loop
+cast-met : tie.Need-overflow_cast-met invariant-loop decreases-loop
 cast-met c = tt
 
-add-met : tie.Need-overflow-add-met invariant-loop decreases-loop
+add-met : tie.Need-overflow_add-met invariant-loop decreases-loop
 add-met c =
-    let l = c.before.before.before.loop in
+    let l = c.before.before.before.loop-left in
     let m = bits c.before.before.before.before.args.m in
-    omega (arith, l.invariant.1, count-le (9 - l.left) m, byte_le c.before.has.result)
+    omega (arith, l.invariant.1, count-le (9 - l.left) m, byte_le c.before.has-here.result)
 
-sub-left : tie.Need-overflow-sub-left invariant-loop decreases-loop
+sub-left : tie.Need-overflow_sub-left invariant-loop decreases-loop
 sub-left c = omega arith
 
-loop-less : tie.Need-loop-smaller invariant-loop decreases-loop
+loop-less : tie.Need-loop-left-smaller invariant-loop decreases-loop
 loop-less c = omega arith
 
-loop-again : tie.Need-loop-preserved invariant-loop decreases-loop
+loop-again : tie.Need-loop-left-preserved invariant-loop decreases-loop
 loop-again c =
-    let l = c.before.before.before.loop in
+    let l = c.before.before.before.loop-left in
     let a = c.before.before.before.before.args in
-    let h = c.before.has.ensures in
+    let h = c.before.has-here.ensures in
     let p = first_of a.n (bits a.m) in
     let b = 9 - l.left in
     let low : 1 ≤ b = omega arith in
@@ -57,13 +57,13 @@ loop-again c =
     let next : 9 - (l.left - 1) ≡ b + 1 = omega arith in (
       omega arith,
       rw (next, l.invariant.1, h) (count-more a.m b (search rules) low high),
-      rw next (gathered p b l.q _ _ low high l.invariant.2 c.put.ensures
+      rw next (gathered p b l.q _ _ low high l.invariant.2 c.put-q.ensures
           (rw (l.invariant.1, h) (sym (first-at a.m a.n b)))),
     )
 
 returns : tie.Need-returns invariant-loop decreases-loop
 returns c =
-    let l = c.before.loop in
+    let l = c.before.loop-left in
     let a = c.before.before.args in
     let end : l.left ≡ 0 = omega arith in
     l.invariant.2 ∙ rw end (under_all (first_of a.n (bits a.m)) (first_out a.m a.n))

@@ -10,14 +10,14 @@ use Rattle.ranking.proofs.without.Tie as tie
 replica-requires : tie.Need-replica-requires
 replica-requires c κs = search rules
 
-returns : tie.Need-returns
-returns c = without-out _ _ (sym c.before.replica.ensures ∙ not-true _ c.if1.true)
+returns : tie.Need-returns-then-not-replica
+returns c = without-out _ _ (sym c.before.replica.ensures ∙ not-true _ c.if-not-replica.true)
 
 remove-requires : tie.Need-remove-requires
-remove-requires c κs = replica-range _ (sym c.before.replica.ensures ∙ not-false _ c.if1.false)
+remove-requires c κs = replica-range _ (sym c.before.replica.ensures ∙ not-false _ c.if-not-replica.false)
 
-returns-2 : tie.Need-returns-2
+returns-2 : tie.Need-returns
 returns-2 c = search rules
 
-pub without-spec : {M : Type 1} → statement M
-without-spec = tie.close (tie.spec replica-requires returns remove-requires returns-2)
+pub without_spec : {M : Type 1} → statement M
+without_spec = tie.close (tie.spec replica-requires returns remove-requires returns-2)

@@ -5,21 +5,21 @@ use Rattle.records.specs.Bytes.{record_bytes}
 use Rattle.records.proofs.bytes.Statement.{statement}
 use Rattle.records.proofs.bytes.Tie as tie
 
-cast-t4 : tie.Need-overflow-cast-t4
+cast-t4 : tie.Need-overflow_cast-result
 cast-t4 c = search rules
 
-cast-t7 : tie.Need-overflow-cast-t7
+cast-t7 : tie.Need-overflow_cast-result-2
 cast-t7 c = search rules
 
-cast-t10 : tie.Need-overflow-cast-t10
+cast-t10 : tie.Need-overflow_cast-result-3
 cast-t10 c = search rules
 
-cast-t13 : tie.Need-overflow-cast-t13
+cast-t13 : tie.Need-overflow_cast-result-4
 cast-t13 c = search rules
 
 returns : tie.Need-returns
 unfolding record_bytes
 returns c = refl
 
-pub bytes-spec : {M : Type 1} → statement M
-bytes-spec = tie.close (tie.spec cast-t4 cast-t7 cast-t10 cast-t13 returns)
+pub bytes_spec : {M : Type 1} → statement M
+bytes_spec = tie.close (tie.spec cast-t4 cast-t7 cast-t10 cast-t13 returns)

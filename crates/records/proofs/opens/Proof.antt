@@ -12,5 +12,5 @@ replica-requires c κs = search rules
 returns : tie.Need-returns
 returns c = rw c.before.before.before.replica.ensures
 
-pub opens-spec : {M : Type 1} → statement M
-opens-spec = tie.close (tie.spec replica-requires returns)
+pub opens_spec : {M : Type 1} → statement M
+opens_spec = tie.close (tie.spec replica-requires returns)

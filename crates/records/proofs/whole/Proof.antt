@@ -6,5 +6,5 @@ use Rattle.records.proofs.whole.Tie as tie
 returns : tie.Need-returns
 returns c = refl
 
-pub whole-spec : {M : Type 1} → statement M
-whole-spec = tie.close (tie.spec returns)
+pub whole_spec : {M : Type 1} → statement M
+whole_spec = tie.close (tie.spec returns)

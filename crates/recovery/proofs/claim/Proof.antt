@@ -9,5 +9,5 @@ returns : tie.Need-returns
 unfolding RunsRecover
 returns c = λ o real sts low. recovers entries o real sts low
 
-pub claim-spec : {M : Type 1} → statement M
-claim-spec = tie.close (tie.spec returns)
+pub claim_spec : {M : Type 1} → statement M
+claim_spec = tie.close (tie.spec returns)

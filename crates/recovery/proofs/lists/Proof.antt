@@ -9,5 +9,5 @@ returns : tie.Need-returns
 unfolding AnyPlan
 returns c = λ s list e. any-plan entries s list e
 
-pub lists-spec : {M : Type 1} → statement M
-lists-spec = tie.close (tie.spec returns)
+pub lists_spec : {M : Type 1} → statement M
+lists_spec = tie.close (tie.spec returns)

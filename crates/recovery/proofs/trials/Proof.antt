@@ -6,5 +6,5 @@ use Rattle.recovery.proofs.trials.Tie as tie
 returns : tie.Need-returns
 returns c = trials-hold
 
-pub trials-spec : {M : Type 1} → statement M
-trials-spec = tie.close (tie.spec returns)
+pub trials_spec : {M : Type 1} → statement M
+trials_spec = tie.close (tie.spec returns)

@@ -8,22 +8,22 @@ use Rattle.running.proofs.play.Statement.{statement}
 use Rattle.running.proofs.play.Tie as tie
 
 -- The ways back: from the opening to the start, to the opening, to the walk.
-abbrev start : tie.After-begin → tie.Start
+abbrev start : tie.After-begin-row → tie.Start
 start c = c.before.before.before.before.before.before.before.before
 
-abbrev begun : tie.After-len2 → tie.After-begin
+abbrev begun : tie.After-len-2-1 → tie.After-begin-row
 begun c = c.before.before.before.before.before.before.before.before.before
 
-abbrev walked : tie.After-next → tie.After-walk
+abbrev walked : tie.After-next-1 → tie.After-walk-x
 walked c =
     let s = c.before.before.before.before.before.before.before.before.before.before.before.before in
     s.before.before.before.before.before.before
 
 -- The lengths that the opening's type fixes.
-shape : (c : tie.After-begin) → Shape c.begin.result
+shape : (c : tie.After-begin-row) → Shape c.begin-row.result
 shape c =
-    let r = c.begin.result in
-    let g = c.begin.type-inv.1.1.1.1 in
+    let r = c.begin-row.result in
+    let g = c.begin-row.type-inv.1.1.1.1 in
     record {
       views = sym (length-map r.views _) ∙ g.0.1.0.1;
       joined = sym (length-map r.joined _) ∙ g.1.0.1.0.1;
@@ -31,60 +31,60 @@ shape c =
       len = sym (length-map r.len _) ∙ g.1.1.1.0.1.0.1;
     }
 
-begin-requires : tie.Need-begin-requires
+begin-requires : tie.Need-begin-row-requires
 begin-requires c κs = search rules
 
-slice-write-answers : tie.Need-slice-write-answers
+slice-write-answers : tie.Need-bounds-answers-0
 slice-write-answers c = search rules
 
-slice-write-sets : tie.Need-slice-write-sets
+slice-write-sets : tie.Need-bounds-sets-0
 slice-write-sets c = search rules
 
-slice-aggregate-walk : tie.Need-slice-aggregate-walk
+slice-aggregate-walk : tie.Need-slice_bounds-walk-end
 slice-aggregate-walk c = search rules
 
-slice-aggregate-walk-2 : tie.Need-slice-aggregate-walk-2
+slice-aggregate-walk-2 : tie.Need-slice_bounds-walk-end-2
 slice-aggregate-walk-2 c = search rules
 
-slice-aggregate-walk-3 : tie.Need-slice-aggregate-walk-3
+slice-aggregate-walk-3 : tie.Need-slice_bounds-walk-end-3
 slice-aggregate-walk-3 c = sym (shape (begun c)).len
 
-walk-requires : tie.Need-walk-requires
+walk-requires : tie.Need-walk-x-requires
 walk-requires c κs =
     let b = begun c.before.before.before.before.before.before in
     let e = start b in
-    let ran = ran-none e.args.sheet.now b.begin.result b.begin.ensures _ e.pre.1 in
+    let ran = ran-none e.args.sheet.now b.begin-row.result b.begin-row.ensures _ e.pre.1 in
     (e.pre.0, shape b, ran e.args.answers.now e.args.sets.now e.pre.2 e.pre.3)
 
-same_length : tie.Need-same-length
+same_length : tie.Need-shape_of-store
 same_length c = search rules
 
-same-length-2 : tie.Need-same-length-2
+same-length-2 : tie.Need-shape_of-store2
 same-length-2 c = search rules
 
-same-length-3 : tie.Need-same-length-3
+same-length-3 : tie.Need-shape_of-list
 same-length-3 c = search rules
 
-same-length-4 : tie.Need-same-length-4
+same-length-4 : tie.Need-shape_of-list2
 same-length-4 c = search rules
 
-same-length-5 : tie.Need-same-length-5
+same-length-5 : tie.Need-shape_of-answers
 same-length-5 c =
     let w = walked c in
     let e = start (begun w.before.before.before.before.before.before.before) in
-    w.walk.kept.1.1.1.1.1.1.1.1.1.0 ∙ length-set e.args.answers.now 0 0
+    w.walk-x.kept.1.1.1.1.1.1.1.1.1.0 ∙ length-set e.args.answers.now 0 0
 
-same-length-6 : tie.Need-same-length-6
+same-length-6 : tie.Need-shape_of-sets
 same-length-6 c =
     let w = walked c in
     let e = start (begun w.before.before.before.before.before.before.before) in
-    w.walk.kept.1.1.1.1.1.1.1.1.1.1.0 ∙ length-set e.args.sets.now 0 0
+    w.walk-x.kept.1.1.1.1.1.1.1.1.1.1.0 ∙ length-set e.args.sets.now 0 0
 
 returns : tie.Need-returns
 returns c = search rules
 
-pub play-spec : {M : Type 1} → statement M
-play-spec =
+pub play_spec : {M : Type 1} → statement M
+play_spec =
     tie.close
     (tie.spec
     begin-requires

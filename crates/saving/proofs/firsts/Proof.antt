@@ -49,50 +49,50 @@ module _ (len : List ℕ) (count : ℕ) (eight : length len ≡ 8) where
     unfolding firsts_by
     starts-end h v e = sym (w.starts ∙ rw (drop_of_length-le len {i = i} (omega arith), h, e))
 
-abbrev invariant-loop : tie.invariant-loop
+abbrev invariant-loop : tie.invariant-loop-i
 invariant-loop count len all₀ k₀ i₀ all k i = (i ≤ 8) × (k ≤ 512 * i + 1) × Starting len count all k i
 
-abbrev decreases-loop : tie.decreases-loop
+abbrev decreases-loop : tie.decreases-loop-i
 decreases-loop count len all₀ k₀ i₀ all k i = 8 - i
 
 -- The type of an array fixes its length.
 eight : (c : tie.Start invariant-loop decreases-loop) → length c.args.t1 ≡ 8
 eight c = c.well-formed.0.1.0.1
 
-loop-holds : tie.Need-loop-init invariant-loop decreases-loop
+loop-holds : tie.Need-loop-i-init invariant-loop decreases-loop
 loop-holds c =
     let a = c.args in
     (omega arith, omega arith, starts-all a.t1 a.count (eight c) _ refl)
 
-mul-n : tie.Need-overflow-mul-n invariant-loop decreases-loop
+mul-n : tie.Need-offset_bounds-len-i invariant-loop decreases-loop
 mul-n c = search rules
 
-array-read-n : tie.Need-array-read-n invariant-loop decreases-loop
+array-read-n : tie.Need-bounds-len-i invariant-loop decreases-loop
 array-read-n c = omega arith
 
 start-requires : tie.Need-start-requires invariant-loop decreases-loop
 start-requires c κs = search rules
 
-mul-all : tie.Need-overflow-mul-all invariant-loop decreases-loop
+mul-all : tie.Need-offset_bounds-all-i invariant-loop decreases-loop
 mul-all c = search rules
 
-array-write-all : tie.Need-array-write-all invariant-loop decreases-loop
+array-write-all : tie.Need-bounds-all-i invariant-loop decreases-loop
 array-write-all c = omega arith
 
-add-k : tie.Need-overflow-add-k invariant-loop decreases-loop
+add-k : tie.Need-overflow_add-k invariant-loop decreases-loop
 add-k c =
-    omega (arith, c.before.before.before.requires (suc c.before.before.loop.i))
+    omega (arith, c.before.before.before.requires (suc c.before.before.loop-i.i))
 
-add-i : tie.Need-overflow-add-i invariant-loop decreases-loop
+add-i : tie.Need-overflow_add-i invariant-loop decreases-loop
 add-i c = omega arith
 
-loop-less : tie.Need-loop-smaller invariant-loop decreases-loop
+loop-less : tie.Need-loop-i-smaller invariant-loop decreases-loop
 loop-less c = omega arith
 
-loop-again : tie.Need-loop-preserved invariant-loop decreases-loop
+loop-again : tie.Need-loop-i-preserved invariant-loop decreases-loop
 loop-again c =
     let s = c.before.before.before in
-    let l = c.before.before.loop in (
+    let l = c.before.before.loop-i in (
       omega arith,
       omega (arith, s.requires (suc l.i)),
       starts-on s.args.t1 s.args.count (eight s) l.all l.k l.i l.invariant.2 (omega arith) _
@@ -102,18 +102,18 @@ loop-again c =
 start-requires-2 : tie.Need-start-requires-2 invariant-loop decreases-loop
 start-requires-2 c κs = search rules
 
-array-write-all-2 : tie.Need-array-write-all-2 invariant-loop decreases-loop
+array-write-all-2 : tie.Need-bounds-all-8 invariant-loop decreases-loop
 array-write-all-2 c = omega arith
 
 returns : tie.Need-returns invariant-loop decreases-loop
 returns c =
     let s = c.before.before.before in
-    let l = c.before.before.loop in
+    let l = c.before.before.loop-i in
     starts-end s.args.t1 s.args.count (eight s) l.all l.k l.i l.invariant.2 (omega arith) _
-    c.start2.ensures
+    c.start-2.ensures
 
-pub firsts-spec : {M : Type 1} → statement M
-firsts-spec =
+pub firsts_spec : {M : Type 1} → statement M
+firsts_spec =
     tie.close
     (tie.spec
     invariant-loop

@@ -13,16 +13,16 @@ use Rattle.saving.proofs.Putting.{Listing, left_from, all_left, log-room, logs-o
 use Rattle.saving.proofs.put_chains.Statement.{statement}
 use Rattle.saving.proofs.put_chains.Tie as tie
 
-abbrev invariant-loop : tie.invariant-loop
+abbrev invariant-loop : tie.invariant-loop-i
 invariant-loop out₀ store store2 len list list2 count k₀ i₀ out k i =
     (i ≤ 8) × Sized (nine_lists store store2 len list list2 count) len count
     × Listing (nine_lists store store2 len list list2 count) out₀ out k (left_from store store2 len list list2 count i)
 
-abbrev decreases-loop : tie.decreases-loop
+abbrev decreases-loop : tie.decreases-loop-i
 decreases-loop out₀ store store2 len list list2 count k₀ i₀ out k i = 8 - i
 
 -- At a board's turn its log has at most 512 entries, and there is room for its records.
-here : (c : tie.In-loop invariant-loop decreases-loop)
+here : (c : tie.In-loop-i invariant-loop decreases-loop)
     → let s = c.before.before.before.before.before.before.before.before in
     let n = get_or s.args.len.now c.before.loop.i 0 in
     (n ≤ 512) × (c.before.loop.k + n ≤ sum_by (s.args.len.now ++ (s.args.count ∷ [])) + 1)
@@ -40,7 +40,7 @@ here c =
 part_length : (xs : List ℕ) (n : ℕ) → length xs ≡ 512 → n ≤ 512 → length (take (n - 0) xs) ≡ n
 part_length xs n l h = let z : n - 0 ≡ n = omega arith in rw z (length-take-le n xs (omega arith))
 
-loop-holds : tie.Need-loop-init invariant-loop decreases-loop
+loop-holds : tie.Need-loop-i-init invariant-loop decreases-loop
 loop-holds c =
     let s = c.before.before.before.before.before.before in
     let a = s.args in
@@ -52,86 +52,86 @@ loop-holds c =
           a.out.now,
     )
 
-mul-n : tie.Need-overflow-mul-n invariant-loop decreases-loop
+mul-n : tie.Need-offset_bounds-len-i invariant-loop decreases-loop
 mul-n c = search rules
 
-shared-slice-read-n : tie.Need-shared-slice-read-n invariant-loop decreases-loop
+shared-slice-read-n : tie.Need-bounds-len-i invariant-loop decreases-loop
 shared-slice-read-n c = omega arith
 
-cast-n : tie.Need-overflow-cast-n invariant-loop decreases-loop
+cast-n : tie.Need-overflow_cast-n invariant-loop decreases-loop
 cast-n c = omega (arith, here c.before)
 
-put-log-requires : tie.Need-put-log-requires invariant-loop decreases-loop
+put-log-requires : tie.Need-put_log-requires invariant-loop decreases-loop
 put-log-requires c κs =
     let s = c.before.before.before.before.before.before.before.before.before.before in
     let r = here c.before.before in
-    let l = c.before.before.before.loop in
+    let l = c.before.before.before.loop-i in
     (s.requires.0, s.requires.1, omega arith, r.0, omega (arith, r), omega (arith, r, s.requires.7, l.invariant.2.long))
 
-add-k : tie.Need-overflow-add-k invariant-loop decreases-loop
+add-k : tie.Need-overflow_add-k invariant-loop decreases-loop
 add-k c = omega (arith, here c.before.before.before.before.before)
 
-add-i : tie.Need-overflow-add-i invariant-loop decreases-loop
+add-i : tie.Need-overflow_add-i invariant-loop decreases-loop
 add-i c = omega arith
 
-loop-less : tie.Need-loop-smaller invariant-loop decreases-loop
+loop-less : tie.Need-loop-i-smaller invariant-loop decreases-loop
 loop-less c = omega arith
 
-loop-again : tie.Need-loop-preserved invariant-loop decreases-loop
+loop-again : tie.Need-loop-i-preserved invariant-loop decreases-loop
 loop-again c =
     let s = c.before.before.before.before.before.before.before.before.before.before.before.before.before in
     let a = s.args in
-    let l = c.before.before.before.before.before.before.loop in (
+    let l = c.before.before.before.before.before.before.loop-i in (
       omega arith,
       l.invariant.1,
       logs-on a.store.now a.store2.now a.len.now a.list.now a.list2.now a.count
-          l.invariant.1 _ l.out l.k l.i l.invariant.2 (omega arith) _ c.before.before.put-log.ensures,
+          l.invariant.1 _ l.out l.k l.i l.invariant.2 (omega arith) _ c.before.before.put_log.ensures,
     )
 
-sub-put-chain : tie.Need-overflow-sub-put-chain invariant-loop decreases-loop
+sub-put-chain : tie.Need-slice_bounds-put_chain-count invariant-loop decreases-loop
 sub-put-chain c = omega arith
 
-part-put-chain-start : tie.Need-slice-bounds-put-chain-start invariant-loop decreases-loop
+part-put-chain-start : tie.Need-slice_bounds-put_chain-start invariant-loop decreases-loop
 part-put-chain-start c = omega arith
 
-part-put-chain-end : tie.Need-slice-bounds-put-chain-end invariant-loop decreases-loop
+part-put-chain-end : tie.Need-slice_bounds-put_chain-end invariant-loop decreases-loop
 part-put-chain-end c = omega arith
 
-sub-put-chain-2 : tie.Need-overflow-sub-put-chain-2 invariant-loop decreases-loop
+sub-put-chain-2 : tie.Need-slice_bounds-put_chain-count-2 invariant-loop decreases-loop
 sub-put-chain-2 c = omega arith
 
-part-put-chain-start-2 : tie.Need-slice-bounds-put-chain-start-2 invariant-loop decreases-loop
+part-put-chain-start-2 : tie.Need-slice_bounds-put_chain-start-2 invariant-loop decreases-loop
 part-put-chain-start-2 c = omega arith
 
-part-put-chain-end-2 : tie.Need-slice-bounds-put-chain-end-2 invariant-loop decreases-loop
+part-put-chain-end-2 : tie.Need-slice_bounds-put_chain-end-2 invariant-loop decreases-loop
 part-put-chain-end-2 c = omega arith
 
-put-chain-requires : tie.Need-put-chain-requires invariant-loop decreases-loop
+put-chain-requires : tie.Need-put_chain-requires invariant-loop decreases-loop
 put-chain-requires c κs =
     let s = c.before.before.before.before.before.before.before.before.before.before.before in
     let a = s.args in
-    let l = c.before.before.before.before.loop in
+    let l = c.before.before.before.before.loop-i in
     let v = part_length a.list.now a.count s.requires.4 s.requires.6 in
     let t = part_length a.list2.now a.count s.requires.5 s.requires.6 in
     let m = sum-most a.len.now a.count s.requires.2 s.requires.3 s.requires.6 in
     let r = receipts-room a.store.now a.store2.now a.len.now a.list.now a.list2.now a.count
-    l.invariant.1 _ l.out l.k l.i l.invariant.2 (omega (arith, c.before.before.before.loop-test.false)) in
+    l.invariant.1 _ l.out l.k l.i l.invariant.2 (omega (arith, c.before.before.before.loop-i-test.false)) in
     (omega (arith, v, s.requires.6), v ∙ sym t, omega (arith, v, r, m), omega (arith, v, r, s.requires.7, l.invariant.2.long))
 
-same_length : tie.Need-same-length invariant-loop decreases-loop
+same_length : tie.Need-shape_of-out invariant-loop decreases-loop
 same_length c = omega arith
 
 returns : tie.Need-returns invariant-loop decreases-loop
 returns c =
     let a = c.before.before.before.before.before.before.before.before.before.before.before.before.before.before.args in
-    let l = c.before.before.before.before.before.before.before.loop in
+    let l = c.before.before.before.before.before.before.before.loop-i in
     logs-end a.store.now a.store2.now a.len.now a.list.now a.list2.now a.count
     l.invariant.1 _ l.out l.k l.i l.invariant.2
-    (omega (arith, c.before.before.before.before.before.before.loop-test.false)) _
-    c.before.before.put-chain.ensures
+    (omega (arith, c.before.before.before.before.before.before.loop-i-test.false)) _
+    c.before.before.put_chain.ensures
 
-pub put-chains-spec : {M : Type 1} → statement M
-put-chains-spec =
+pub put_chains_spec : {M : Type 1} → statement M
+put_chains_spec =
     tie.close
     (tie.spec
     invariant-loop

@@ -11,60 +11,56 @@ use Rattle.seedline.proofs.answer.Tie as tie
 read-requires : tie.Need-read-requires
 read-requires c κs = search rules
 
-enum-known-seed : tie.Need-enum-known-seed
+enum-known-seed : tie.Need-enum_known-seed
 enum-known-seed c = search rules
 
-enum_told : tie.Need-enum-told
+enum_told : tie.Need-enum_told-1
 enum_told c = search rules
 
-slice-aggregate-put-bytes : tie.Need-slice-aggregate-put-bytes
-slice-aggregate-put-bytes c = search rules
-
-put-bytes-requires : tie.Need-put-bytes-requires
+put-bytes-requires : tie.Need-put_bytes-requires
 put-bytes-requires c κs = search rules
 
-same_length : tie.Need-same-length
+same_length : tie.Need-shape_of-out-in_default
 same_length c = search rules
 
-returns : tie.Need-returns
+returns : tie.Need-returns-in_default
 returns c =
     let t = c.before.before.before.before.before in
     let r = t.before.before in
     let start = r.before.before.before in
-    prints-refusal (subst (λ i. Read i start.args.input.now) t.enum_told.given.1 r.read.ensures)
-    c.before.before.put-bytes.ensures
+    prints-refusal (subst (λ i. Read i start.args.input.now) t.before.enum_told-1.given.1 r.before.read.ensures)
+    c.before.before.put_bytes.ensures
 
-cast-seed-sheet : tie.Need-overflow-cast-seed-sheet
+cast-seed-sheet : tie.Need-overflow_cast-count
 cast-seed-sheet c = search rules
 
-seed-sheet-requires : tie.Need-seed-sheet-requires
+seed-sheet-requires : tie.Need-seed_sheet-requires
 seed-sheet-requires c κs = search rules
 
-same-length-2 : tie.Need-same-length-2
+same-length-2 : tie.Need-shape_of-out
 same-length-2 c = search rules
 
-returns-2 : tie.Need-returns-2
+returns-2 : tie.Need-returns
 returns-2 c =
     let t = c.before.before.before.before in
     let r = t.before.before.before in
     let start = r.before.before.before in
-    let a = subst (λ i. Read i start.args.input.now) t.before.seed.given.1 r.read.ensures in
-    let v = t.before.seed.given.0 in
+    let a = subst (λ i. Read i start.args.input.now) t.before.seed-1.given.1 r.read.ensures in
+    let v = t.before.seed-1.given.0 in
     let s = v.0 in
     let n = v.1.0 in
     let q = count-range n a.count in
     prints-sheet a
     (made s n start.args.out.now q.0 q.1 (omega (arith, q.1, start.requires))
-    c.before.before.seed-sheet.ensures)
+    c.before.before.seed_sheet.ensures)
 
-pub answer-spec : {M : Type 1} → statement M
-answer-spec =
+pub answer_spec : {M : Type 1} → statement M
+answer_spec =
     tie.close
     (tie.spec
     read-requires
     enum-known-seed
     enum_told
-    slice-aggregate-put-bytes
     put-bytes-requires
     same_length
     returns

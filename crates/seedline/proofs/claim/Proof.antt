@@ -6,5 +6,5 @@ use Rattle.seedline.proofs.claim.Tie as tie
 returns : tie.Need-returns
 returns c = (lines-differ, lines-seen, lines-look, others-refused)
 
-pub claim-spec : {M : Type 1} → statement M
-claim-spec = tie.close (tie.spec returns)
+pub claim_spec : {M : Type 1} → statement M
+claim_spec = tie.close (tie.spec returns)

@@ -17,39 +17,39 @@ use Rattle.seedline.proofs.read.Statement.{statement}
 use Rattle.seedline.proofs.read.Tie as tie
 
 -- From the tests back to the numbers that were read.
-abbrev first : tie.After-number-at2 → tie.After-number-at
+abbrev first : tie.After-number_at-b → tie.After-number_at-a
 first c = c.before.before
 
-abbrev start : tie.After-number-at → tie.Start
+abbrev start : tie.After-number_at-a → tie.Start
 start c = c.before.before.before
 
-abbrev second : tie.Else5 → tie.After-number-at2
+abbrev second : tie.Else-n-gt4095 → tie.After-number_at-b
 second c = c.before.before.before
 
 -- From the comparison back to the line that was written.
-abbrev written : tie.After-same → tie.After-put-line
+abbrev written : tie.After-same → tie.After-put_line-k
 written c = c.before.before.before
 
-abbrev tested : tie.After-put-line → tie.Else5
+abbrev tested : tie.After-put_line-k → tie.Else-n-gt4095
 tested c = c.before.before
 
-returns : tie.Need-returns
-returns c = λ m n a. omega (arith, line-short a, c.if1.true)
+returns : tie.Need-returns-then-input-gt16
+returns c = λ m n a. omega (arith, line-short a, c.if-input-gt16.true)
 
-number-at-requires : tie.Need-number-at-requires
+number-at-requires : tie.Need-number_at-a-requires
 number-at-requires c κs = search rules
 
 -- Where the seed ends.
-end_of : (c : tie.After-number-at) → c.number_at.result.end ≡ length (digits_at (start c).args.input.now 0)
-end_of c = omega (arith, c.number_at.ensures.1)
+end_of : (c : tie.After-number_at-a) → c.number_at-a.result.end ≡ length (digits_at (start c).args.input.now 0)
+end_of c = omega (arith, c.number_at-a.ensures.1)
 
-returns-2 : tie.Need-returns-2
-returns-2 c = λ m n a. omega (arith, seed-within a _ (end_of c.before), c.if2.true)
+returns-2 : tie.Need-returns-then-from-input
+returns-2 c = λ m n a. omega (arith, seed-within a _ (end_of c.before), c.if-from-input.true)
 
-add-number-at : tie.Need-overflow-add-number-at
+add-number-at : tie.Need-overflow_add-from
 add-number-at c = search rules
 
-number-at-requires-2 : tie.Need-number-at-requires-2
+number-at-requires-2 : tie.Need-number_at-b-requires
 number-at-requires-2 c κs = search rules
 
 -- The numbers of an input that asks for a sheet.
@@ -64,76 +64,76 @@ module _ (c : tie.After-number-at2) {m n : ℕ} (a : Asks (start (first c)).args
       (start (first c)).args.input.now ≡ seed_line (first c).number_at.result.value c.number-at2.result.value
   line-is = line-back a _ _ seed-is count-is
 
-returns-3 : tie.Need-returns-3
-returns-3 c = λ m n a. omega (arith, seed-is c.before a, a.seed, c.if3.true)
+returns-3 : tie.Need-returns-then-s-gt4294967295
+returns-3 c = λ m n a. omega (arith, seed-is c.before a, a.seed, c.if-s-gt4294967295.true)
 
-returns-4 : tie.Need-returns-4
-returns-4 c = λ m n a. omega (arith, count-is c.before.before a, count-range n a.count, c.if4.true)
+returns-4 : tie.Need-returns-then-n-lt1
+returns-4 c = λ m n a. omega (arith, count-is c.before.before a, count-range n a.count, c.if-n-lt1.true)
 
-returns-5 : tie.Need-returns-5
-returns-5 c = λ m n a. omega (arith, count-is c.before.before.before a, count-range n a.count, c.if5.true)
+returns-5 : tie.Need-returns-then-n-gt4095
+returns-5 c = λ m n a. omega (arith, count-is c.before.before.before a, count-range n a.count, c.if-n-gt4095.true)
 
-slice-aggregate-put-line : tie.Need-slice-aggregate-put-line
+slice-aggregate-put-line : tie.Need-slice_bounds-put_line-end
 slice-aggregate-put-line c = search rules
 
-cast-put-line : tie.Need-overflow-cast-put-line
+cast-put-line : tie.Need-overflow_cast-s
 cast-put-line c = search rules
 
-cast-put-line-2 : tie.Need-overflow-cast-put-line-2
+cast-put-line-2 : tie.Need-overflow_cast-n
 cast-put-line-2 c = search rules
 
 -- The line of what was read has room aside.
-most : (c : tie.Else5) → let r = second c in
-    length (seed_line (first r).number_at.result.value r.number-at2.result.value) ≤ 16
+most : (c : tie.Else-n-gt4095) → let r = second c in
+    length (seed_line (first r).number_at-a.result.value r.number_at-b.result.value) ≤ 16
 most c =
     let r = second c in
-    line-most (first r).number_at.result.value r.number-at2.result.value
-    (omega (arith, c.before.before.if3.false)) c.if5.false
+    line-most (first r).number_at-a.result.value r.number_at-b.result.value
+    (omega (arith, c.before.before.if-s-gt4294967295.false)) c.if-n-gt4095.false
 
-put-line-requires : tie.Need-put-line-requires
+put-line-requires : tie.Need-put_line-k-requires
 put-line-requires c κs = most c.before
 
-short : (c : tie.After-put-line) → c.put-line.result ≤ 16
-short c = omega (arith, c.put-line.ensures.next, most (tested c))
+short : (c : tie.After-put_line-k) → c.put_line-k.result ≤ 16
+short c = omega (arith, c.put_line-k.ensures.next, most (tested c))
 
-array-share-prefix-line : tie.Need-array-share-prefix-line
+array-share-prefix-line : tie.Need-slice_bounds-line-end
 array-share-prefix-line c =
-    let w = c.before in omega (arith, short w, wrote-length w.put-line.ensures)
+    let w = c.before in omega (arith, short w, wrote-length w.put_line-k.ensures)
 
-slice-aggregate-same : tie.Need-slice-aggregate-same
+slice-aggregate-same : tie.Need-slice_bounds-same-end
 slice-aggregate-same c =
     let w = c.before.before in
-    sym (length-take-le _ _ (omega (arith, short w, wrote-length w.put-line.ensures)))
+    sym (length-take-le _ _ (omega (arith, short w, wrote-length w.put_line-k.ensures)))
 
 same-requires : tie.Need-same-requires
 same-requires c κs = search rules
 
 -- What stands aside is the line of what was read.
-aside : (c : tie.After-put-line) → let r = second (tested c) in
-    take c.put-line.result c.put-line.new.0
-    ≡ seed_line (first r).number_at.result.value r.number-at2.result.value
-aside c = read_back c.put-line.ensures (short c)
+aside : (c : tie.After-put_line-k) → let r = second (tested c) in
+    take c.put_line-k.result c.put_line-k.new.0
+    ≡ seed_line (first r).number_at-a.result.value r.number-at2.result.value
+aside c = read_back c.put_line-k.ensures (short c)
 
-returns-6 : tie.Need-returns-6
+returns-6 : tie.Need-returns-then-not-same
 returns-6 c = λ m n a.
     let w = written c.before in
     let e = line-is (second (tested w)) a ∙ sym (aside w) in
-    subst T (not-true c.before.same.result c.if6.true) (c.before.same.ensures.1 e)
+    subst T (not-true c.before.same.result c.if-not-same.true) (c.before.same.ensures.1 e)
 
-cast-t14 : tie.Need-overflow-cast-t14
+cast-t14 : tie.Need-overflow_cast-result
 cast-t14 c = search rules
 
-cast-t13 : tie.Need-overflow-cast-t13
+cast-t13 : tie.Need-overflow_cast-result-2
 cast-t13 c = search rules
 
-returns-7 : tie.Need-returns-7
+returns-7 : tie.Need-returns
 returns-7 c =
     let w = written c.before in
     let t = tested w in
     record {
-      line = c.before.same.ensures.0 (of-true {t = c.before.same.result} (not-false _ c.if6.false)) ∙ aside w;
-      seed = omega (arith, t.before.before.if3.left);
-      count = is-count (second t).number-at2.result.value t.before.if4.left t.if5.left;
+      line = c.before.same.ensures.0 (of-true {t = c.before.same.result} (not-false _ c.if-not-same.false)) ∙ aside w;
+      seed = omega (arith, t.before.before.if-s-gt4294967295.left);
+      count = is-count (second t).number_at-b.result.value t.before.if-n-lt1.left t.if-n-gt4095.left;
     }
 
 pub read_spec : {M : Type 1} → statement M

@@ -27,5 +27,5 @@ returns c = (
   trials-hold,
 )
 
-pub sample-spec : {M : Type 1} → statement M
-sample-spec = tie.close (tie.spec returns)
+pub sample_spec : {M : Type 1} → statement M
+sample_spec = tie.close (tie.spec returns)

@@ -17,7 +17,7 @@ places c = let a = c.args in lent a.store.now a.store2.now a.list.now a.list2.no
 -- The type of a row fixes the lengths of its arrays.
 shape : (c : tie.Start) → Shape c.args.row
 shape c =
-    let g = c.well-formed.0.1.1.1.1 in
+    let g = c.well_formed.0.1.1.1.1 in
     let row = c.args.row in
     record {
       views = sym (length-map row.views _) ∙ g.0.1.0.1;
@@ -30,37 +30,37 @@ abbrev start : tie.After-lengths → tie.Start
 start c = c.before.before.before.before.before
 
 -- The lengths fit, and then the row.
-full : (c : tie.Else1) → Full (places (start c.before))
+full : (c : tie.Else-not-lengths) → Full (places (start c.before))
 full c =
     let s = start c.before in
-    fits-full s.args.row (places s) (sym c.before.lengths.ensures ∙ not-false _ c.if1.false)
+    fits-full s.args.row (places s) (sym c.before.lengths.ensures ∙ not-false _ c.if-not-lengths.false)
 
-ranged : (c : tie.Else2) → in_range (outline_of (start c.before.before.before).args.row) ≡ true
-ranged c = sym c.before.in-range.ensures ∙ not-false _ c.if2.false
+ranged : (c : tie.Else-not-in_range) → in_range (outline_of (start c.before.before.before).args.row) ≡ true
+ranged c = sym c.before.in_range.ensures ∙ not-false _ c.if-not-in_range.false
 
 lengths-requires : tie.Need-lengths-requires
 lengths-requires c κs = search rules
 
-returns : tie.Need-returns
+returns : tie.Need-returns-then-not-lengths
 returns c =
     let s = start c.before in (
-      sym (bad-lengths s.args.row (places s) (sym c.before.lengths.ensures ∙ not-true _ c.if1.true)),
+      sym (bad-lengths s.args.row (places s) (sym c.before.lengths.ensures ∙ not-true _ c.if-not-lengths.true)),
       shape s,
     )
 
-in-range-requires : tie.Need-in-range-requires
+in-range-requires : tie.Need-in_range-requires
 in-range-requires c κs = search rules
 
-returns-2 : tie.Need-returns-2
+returns-2 : tie.Need-returns-then-not-in_range
 returns-2 c =
     let d = c.before.before in
     let s = start d.before in (
-      sym (bad-range s.args.row (places s) (sym d.before.lengths.ensures ∙ not-false _ d.if1.false)
-          (sym c.before.in-range.ensures ∙ not-true _ c.if2.true)),
+      sym (bad-range s.args.row (places s) (sym d.before.lengths.ensures ∙ not-false _ d.if-not-lengths.false)
+          (sym c.before.in_range.ensures ∙ not-true _ c.if-not-in_range.true)),
       shape s,
     )
 
-in-range-requires-2 : tie.Need-in-range-requires-2
+in-range-requires-2 : tie.Need-in_range-requires-2
 in-range-requires-2 c κs =
     let d = c.before.before in
     let s = start d.before in
@@ -68,17 +68,17 @@ in-range-requires-2 c κs =
     let r = ready s.args.row (shape s) (ranged c) in
     (f.store2, f.list2, r.short, r.issued)
 
-returns-3 : tie.Need-returns-3
+returns-3 : tie.Need-returns
 returns-3 c =
     let d = c.before.before.before in
     let s = start d.before in
     let a = s.args in (
-      c.in-range2.ensures a.store.now a.list.now (full d)
+      c.in_range-2.ensures a.store.now a.list.now (full d)
           ∙ sym (all-tests a.row (places s) (full d) (ranged c.before)),
       shape s,
     )
 
-pub fits-spec : {M : Type 1} → statement M
-fits-spec =
+pub fits_spec : {M : Type 1} → statement M
+fits_spec =
     tie.close
     (tie.spec lengths-requires returns in-range-requires returns-2 in-range-requires-2 returns-3)

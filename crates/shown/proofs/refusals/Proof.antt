@@ -7,5 +7,5 @@ returns : tie.Need-returns
 unfolding RefusalsHold
 returns c = tt
 
-pub refusals-spec : {M : Type 1} → statement M
-refusals-spec = tie.close (tie.spec returns)
+pub refusals_spec : {M : Type 1} → statement M
+refusals_spec = tie.close (tie.spec returns)

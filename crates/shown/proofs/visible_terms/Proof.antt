@@ -17,54 +17,54 @@ use Rattle.shown.proofs.visible_terms.Tie as tie
 abbrev places : tie.Start → Places
 places c = let a = c.args in lent a.store.now a.store2.now a.list.now a.list2.now
 
-abbrev start : tie.Else1 → tie.Start
+abbrev start : tie.Else-not-fits → tie.Start
 start c = c.before.before.before.before.before.before
 
-passed : (c : tie.Else1) → valid (start c).args.t1 (places (start c)) ≡ true
-passed c = sym c.before.fits2.ensures.0 ∙ not-false _ c.if1.false
+passed : (c : tie.Else-not-fits) → valid (start c).args.t1 (places (start c)) ≡ true
+passed c = sym c.before.fits.ensures.0 ∙ not-false _ c.if-not-fits.false
 
 fits-requires : tie.Need-fits-requires
 fits-requires c κs = search rules
 
-sub-result : tie.Need-overflow-sub-result
+sub-result : tie.Need-slice_bounds-result-count
 sub-result c = search rules
 
-part-result-start : tie.Need-slice-bounds-result-start
+part-result-start : tie.Need-slice_bounds-result-start
 part-result-start c = search rules
 
-part-result-end : tie.Need-slice-bounds-result-end
+part-result-end : tie.Need-slice_bounds-result-end
 part-result-end c = search rules
 
-returns : tie.Need-returns
+returns : tie.Need-returns-then-not-fits
 returns c =
     let s = c.before.before.before.before.before.before.before in
-    let e = sym c.before.before.fits2.ensures.0 ∙ not-true _ c.before.if1.true in
+    let e = sym c.before.before.fits.ensures.0 ∙ not-true _ c.before.if-not-fits.true in
     (rw e, rw e (from_start 2 s.args.list2.ptr))
 
-seat-requires : tie.Need-seat-requires
+seat-requires : tie.Need-seat-l-requires
 seat-requires c κs = search rules
 
-sub-i : tie.Need-overflow-sub-i
+sub-i : tie.Need-overflow_sub-i
 sub-i c = search rules
 
-cast-i : tie.Need-overflow-cast-i
+cast-i : tie.Need-overflow_cast-i
 cast-i c = search rules
 
-mul-n : tie.Need-overflow-mul-n
+mul-n : tie.Need-offset_bounds-row-i
 mul-n c = search rules
 
-element-copy-out-n : tie.Need-element-copy-out-n
+element-copy-out-n : tie.Need-bounds-row-i
 element-copy-out-n c = search rules
 
-visible-terms-requires : tie.Need-visible-terms-requires
+visible-terms-requires : tie.Need-visible_terms-requires
 visible-terms-requires c κs =
     let d = c.before.before.before.before in
     let s = start d in
     let row = s.args.t1 in
     let f = valid-full row (places s) (passed d) in
     let t = valid-range row (places s) (passed d) in
-    let r = ready row d.before.fits2.ensures.1 t in
-    let seat = c.before.seat in
+    let r = ready row d.before.fits.ensures.1 t in
+    let seat = c.before.seat-l in
     let n = short-at row.len seat.result r.short seat.ensures.0 in (
       f.store2,
       f.list2,
@@ -73,19 +73,19 @@ visible-terms-requires c κs =
       omega (arith, r.issued, n),
     )
 
-returns-2 : tie.Need-returns-2
+returns-2 : tie.Need-returns
 returns-2 c =
     let d = c.before.before.before.before.before in
     let s = start d in
     let row = s.args.t1 in
-    let seat = c.before.before.seat in (
-      c.visible-terms.ensures.0 ∙ shown-terms row (places s) (valid-full row (places s) (passed d)) seat.result
+    let seat = c.before.before.seat-l in (
+      c.visible_terms.ensures.0 ∙ shown-terms row (places s) (valid-full row (places s) (passed d)) seat.result
           (passed d) (leader-small row (valid-range row (places s) (passed d))) seat.ensures.2,
-      rw (passed d) c.visible-terms.ensures.1,
+      rw (passed d) c.visible_terms.ensures.1,
     )
 
-pub visible-terms-spec : {M : Type 1} → statement M
-visible-terms-spec =
+pub visible_terms_spec : {M : Type 1} → statement M
+visible_terms_spec =
     tie.close
     (tie.spec
     fits-requires

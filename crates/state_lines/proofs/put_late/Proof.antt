@@ -11,40 +11,32 @@ use Rattle.state_lines.proofs.put_late.Tie as tie
 abbrev text : Bool → Text
 text late = late_word late ++ newline
 
-slice-aggregate-put-bytes : tie.Need-slice-aggregate-put-bytes
-slice-aggregate-put-bytes c = search rules
+put-bytes-requires : tie.Need-put_bytes-requires
+put-bytes-requires c κs = case-fits text c.before.before.before.if-late.true _ c.before.before.before.before.requires
 
-put-bytes-requires : tie.Need-put-bytes-requires
-put-bytes-requires c κs = case-fits text c.before.before.if1.true _ c.before.before.before.before.requires
-
-same_length : tie.Need-same-length
+same_length : tie.Need-shape_of-out-then-late
 same_length c = search rules
 
-returns : tie.Need-returns
-returns c = let d = c.before.before in case-wrote text d.before.before.before.if1.true d.put-bytes.ensures
+returns : tie.Need-returns-then-late
+returns c = let d = c.before.before in case-wrote text d.before.before.before.before.if-late.true d.put_bytes.ensures
 
-slice-aggregate-put-bytes-2 : tie.Need-slice-aggregate-put-bytes-2
-slice-aggregate-put-bytes-2 c = search rules
+put-bytes-requires-2 : tie.Need-put_bytes-requires-2
+put-bytes-requires-2 c κs = case-fits text c.before.before.before.if-late.false _ c.before.before.before.before.requires
 
-put-bytes-requires-2 : tie.Need-put-bytes-requires-2
-put-bytes-requires-2 c κs = case-fits text c.before.before.if1.false _ c.before.before.before.before.requires
-
-same-length-2 : tie.Need-same-length-2
+same-length-2 : tie.Need-shape_of-out
 same-length-2 c = search rules
 
-returns-2 : tie.Need-returns-2
+returns-2 : tie.Need-returns
 returns-2 c =
-    let d = c.before.before in case-wrote text d.before.before.before.if1.false d.put-bytes2.ensures
+    let d = c.before.before in case-wrote text d.before.before.before.before.if-late.false d.put_bytes-2.ensures
 
-pub put-late-spec : {M : Type 1} → statement M
-put-late-spec =
+pub put_late_spec : {M : Type 1} → statement M
+put_late_spec =
     tie.close
     (tie.spec
-    slice-aggregate-put-bytes
     put-bytes-requires
     same_length
     returns
-    slice-aggregate-put-bytes-2
     put-bytes-requires-2
     same-length-2
     returns-2)

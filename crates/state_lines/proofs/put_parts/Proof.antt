@@ -20,51 +20,51 @@ abbrev text1 : tie.Start → Text
 text1 e = digits e.args.term ++ (space ++ text2 e)
 
 -- What was given at the start, from after the call j.
-abbrev start1 : tie.After-put-field → tie.Start
+abbrev start1 : tie.After-put_field-a → tie.Start
 start1 c = c.before.before.before
 
-abbrev start2 : tie.After-put-field2 → tie.Start
+abbrev start2 : tie.After-put_field-b → tie.Start
 start2 c = start1 c.before.before.before.before
 
-abbrev start3 : tie.After-put-field3 → tie.Start
+abbrev start3 : tie.After-put_field-c → tie.Start
 start3 c = start2 c.before.before.before.before
 
-put-field-requires : tie.Need-put-field-requires
+put-field-requires : tie.Need-put_field-a-requires
 unfolding view_text
 put-field-requires c κs = let e = c.before.before in fits_both _ (digits e.args.epoch) space (text1 e) e.requires
 
 -- The room that is left after the call j, then the need of the next.
-room1 : (c : tie.After-put-field) → c.put-field.result + length (text1 (start1 c)) ≤ length c.put-field.new.0
+room1 : (c : tie.After-put_field-a) → c.put_field-a.result + length (text1 (start1 c)) ≤ length c.put_field-a.new.0
 unfolding view_text
 room1 c =
     let e = start1 c in
-    rest_both (digits e.args.epoch) space (text1 e) c.put-field.ensures e.pre
+    rest_both (digits e.args.epoch) space (text1 e) c.put_field-a.ensures e.pre
 
-put-field-requires-2 : tie.Need-put-field-requires-2
+put-field-requires-2 : tie.Need-put_field-b-requires
 put-field-requires-2 c κs =
     let d = c.before.before.before in
     let e = start1 d in
     fits_both _ (digits e.args.term) space (text2 e) (room1 d)
 
-room2 : (c : tie.After-put-field2) → c.put-field2.result + length (text2 (start2 c)) ≤ length c.put-field2.new.0
+room2 : (c : tie.After-put_field-b) → c.put_field-b.result + length (text2 (start2 c)) ≤ length c.put_field-b.new.0
 room2 c =
     let e = start2 c in
-    rest_both (digits e.args.term) space (text2 e) c.put-field2.ensures
+    rest_both (digits e.args.term) space (text2 e) c.put_field-b.ensures
     (room1 c.before.before.before.before)
 
-put-field-requires-3 : tie.Need-put-field-requires-3
+put-field-requires-3 : tie.Need-put_field-c-requires
 put-field-requires-3 c κs =
     let d = c.before.before.before in
     let e = start2 d in
     fits_both _ (digits e.args.leader) space (text3 e) (room2 d)
 
-room3 : (c : tie.After-put-field3) → c.put-field3.result + length (text3 (start3 c)) ≤ length c.put-field3.new.0
+room3 : (c : tie.After-put_field-c) → c.put_field-c.result + length (text3 (start3 c)) ≤ length c.put_field-c.new.0
 room3 c =
     let e = start3 c in
-    rest_both (digits e.args.leader) space (text3 e) c.put-field3.ensures
+    rest_both (digits e.args.leader) space (text3 e) c.put_field-c.ensures
     (room2 c.before.before.before.before)
 
-put-members-requires : tie.Need-put-members-requires
+put-members-requires : tie.Need-put_members-requires
 put-members-requires c κs = room3 c.before.before.before
 
 returns : tie.Need-returns
@@ -74,15 +74,15 @@ returns c =
     let p2 = p3.before.before.before.before in
     let p1 = p2.before.before.before.before in
     let e = start1 p1 in
-    then-both (digits e.args.epoch) space p1.put-field.ensures
-    (then-both (digits e.args.term) space p2.put-field2.ensures
-    (then-both (digits e.args.leader) space p3.put-field3.ensures c.before.before.put-members.ensures))
+    then-both (digits e.args.epoch) space p1.put_field-a.ensures
+    (then-both (digits e.args.term) space p2.put_field-b.ensures
+    (then-both (digits e.args.leader) space p3.put_field-c.ensures c.before.before.put_members.ensures))
 
-same_length : tie.Need-same-length
+same_length : tie.Need-shape_of-out
 same_length c = wrote-length (returns c)
 
-pub put-parts-spec : {M : Type 1} → statement M
-put-parts-spec =
+pub put_parts_spec : {M : Type 1} → statement M
+put_parts_spec =
     tie.close
     (tie.spec
     put-field-requires

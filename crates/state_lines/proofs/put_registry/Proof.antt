@@ -9,7 +9,7 @@ use borrow.Author.Rules.{rules}
 use Rattle.state_lines.proofs.put_registry.Statement.{statement}
 use Rattle.state_lines.proofs.put_registry.Tie as tie
 
-abbrev start : tie.After-put-bytes → tie.Start
+abbrev start : tie.After-put_bytes-a → tie.Start
 start c = c.before.before.before.before.before
 
 -- The parts of the line.
@@ -22,29 +22,26 @@ view e = view_text (view_of e.args.r.view)
 abbrev last : tie.Start → Text
 last e = status_word (status_of e.args.r.status) ++ newline
 
-slice-aggregate-put-bytes : tie.Need-slice-aggregate-put-bytes
-slice-aggregate-put-bytes c = search rules
-
-put-bytes-requires : tie.Need-put-bytes-requires
+put-bytes-requires : tie.Need-put_bytes-a-requires
 unfolding registry_line
 put-bytes-requires c κs =
     let e = c.before.before.before.before in
     fits _ head (view e ++ (space ++ last e)) e.requires
 
-put-view-requires : tie.Need-put-view-requires
+put-view-requires : tie.Need-put_view-b-requires
 unfolding registry_line
 put-view-requires c κs =
     let a = c.before.before.before in
     let e = start a in
-    view-fits head (view e) (last e) a.put-bytes.ensures e.pre
+    view-fits head (view e) (last e) a.put_bytes-a.ensures e.pre
 
-put-status-requires : tie.Need-put-status-requires
+put-status-requires : tie.Need-put_status-requires
 unfolding registry_line
 put-status-requires c κs =
     let b = c.before.before.before in
     let a = b.before.before.before.before in
     let e = start a in
-    end_fits head (view e) (last e) a.put-bytes.ensures b.put_view.ensures e.pre
+    end_fits head (view e) (last e) a.put_bytes-a.ensures b.put_view-b.ensures e.pre
 
 returns : tie.Need-returns
 unfolding registry_line
@@ -52,17 +49,16 @@ returns c =
     let b = c.before.before.before.before.before.before in
     let a = b.before.before.before.before in
     let e = start a in
-    line_wrote head (view e) (last e) a.put-bytes.ensures b.put_view.ensures
-    c.before.before.put-status.ensures
+    line_wrote head (view e) (last e) a.put_bytes-a.ensures b.put_view-b.ensures
+    c.before.before.put_status.ensures
 
-same_length : tie.Need-same-length
+same_length : tie.Need-shape_of-out
 same_length c = wrote-length (returns c)
 
-pub put-registry-spec : {M : Type 1} → statement M
-put-registry-spec =
+pub put_registry_spec : {M : Type 1} → statement M
+put_registry_spec =
     tie.close
     (tie.spec
-    slice-aggregate-put-bytes
     put-bytes-requires
     put-view-requires
     put-status-requires

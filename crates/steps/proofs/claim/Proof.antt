@@ -10,5 +10,5 @@ returns : tie.Need-returns
 unfolding NamesHold
 returns c = (calls-safe, (λ a b v. refl), rows-equal, masks-fixed)
 
-pub claim-spec : {M : Type 1} → statement M
-claim-spec = tie.close (tie.spec returns)
+pub claim_spec : {M : Type 1} → statement M
+claim_spec = tie.close (tie.spec returns)

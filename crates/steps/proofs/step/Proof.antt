@@ -13,11 +13,11 @@ use Rattle.steps.proofs.step.Tie as tie
 abbrev places : tie.Start → Places
 places c = let a = c.args in lent a.store.now a.store2.now a.list.now a.list2.now
 
-abbrev start : tie.Else1 → tie.Start
+abbrev start : tie.Else-not-fits → tie.Start
 start c = c.before.before.before.before.before.before.before.before.before.before
 
-passed : (c : tie.Else1) → valid (start c).args.row (places (start c)) ≡ true
-passed c = sym c.before.fits2.ensures.0 ∙ not-false _ c.if1.false
+passed : (c : tie.Else-not-fits) → valid (start c).args.row (places (start c)) ≡ true
+passed c = sym c.before.fits.ensures.0 ∙ not-false _ c.if-not-fits.false
 
 fits-requires : tie.Need-fits-requires
 fits-requires c κs = search rules
@@ -25,46 +25,46 @@ fits-requires c κs = search rules
 refused-requires : tie.Need-refused-requires
 refused-requires c κs = search rules
 
-same_length : tie.Need-same-length
+same_length : tie.Need-shape_of-store-then-not-fits
 same_length c = search rules
 
-same-length-2 : tie.Need-same-length-2
+same-length-2 : tie.Need-shape_of-store2-then-not-fits
 same-length-2 c = search rules
 
-same-length-3 : tie.Need-same-length-3
+same-length-3 : tie.Need-shape_of-list-then-not-fits
 same-length-3 c = search rules
 
-same-length-4 : tie.Need-same-length-4
+same-length-4 : tie.Need-shape_of-list2-then-not-fits
 same-length-4 c = search rules
 
-returns : tie.Need-returns
+returns : tie.Need-returns-then-not-fits
 returns c =
     let s = c.before.before.before.before.before.before.before.before.before.before.before in
     did-refused _ s.args.row (places s)
-    (sym c.before.before.fits2.ensures.0 ∙ not-true _ c.before.if1.true) _
+    (sym c.before.before.fits.ensures.0 ∙ not-true _ c.before.if-not-fits.true) _
     c.refused.ensures.0 c.refused.ensures.1 c.refused.ensures.2
 
 turn-requires : tie.Need-turn-requires
 turn-requires c κs =
     let d = c.before.before.before.before in
     let s = start d in (
-      ready s.args.row d.before.fits2.ensures.1 (valid-range s.args.row (places s) (passed d)),
+      ready s.args.row d.before.fits.ensures.1 (valid-range s.args.row (places s) (passed d)),
       valid-full s.args.row (places s) (passed d),
     )
 
-same-length-5 : tie.Need-same-length-5
+same-length-5 : tie.Need-shape_of-store
 same-length-5 c = search rules
 
-same-length-6 : tie.Need-same-length-6
+same-length-6 : tie.Need-shape_of-store2
 same-length-6 c = search rules
 
-same-length-7 : tie.Need-same-length-7
+same-length-7 : tie.Need-shape_of-list
 same-length-7 c = search rules
 
-same-length-8 : tie.Need-same-length-8
+same-length-8 : tie.Need-shape_of-list2
 same-length-8 c = search rules
 
-returns-2 : tie.Need-returns-2
+returns-2 : tie.Need-returns
 returns-2 c =
     let t = c.before.before.before.before.before.before.before.before in
     let d = t.before.before.before.before.before in

@@ -7,27 +7,27 @@ use borrow.Author.Rules.{rules}
 use Rattle.steps_both.proofs.heard_at.Statement.{statement}
 use Rattle.steps_both.proofs.heard_at.Tie as tie
 
-returns : tie.Need-returns
+returns : tie.Need-returns-then-b-eq0
 returns c = search rules
 
-returns-2 : tie.Need-returns-2
+returns-2 : tie.Need-returns-then-b-gt8
 returns-2 c = let a = c.before.before.args in sym (get_or-eq_default (0 ∷ a.t1) 0 {n = a.b} (search rules))
 
-sub-i : tie.Need-overflow-sub-i
+sub-i : tie.Need-overflow_sub-i
 sub-i c = search rules
 
-cast-i : tie.Need-overflow-cast-i
+cast-i : tie.Need-overflow_cast-i
 cast-i c = search rules
 
-mul-result : tie.Need-overflow-mul-result
+mul-result : tie.Need-offset_bounds-heard-i
 mul-result c = search rules
 
-array-read-result : tie.Need-array-read-result
+array-read-result : tie.Need-bounds-heard-i
 array-read-result c = search rules
 
-returns-3 : tie.Need-returns-3
+returns-3 : tie.Need-returns
 returns-3 c = let a = c.before.before.args in sym (at-index 0 a.t1 a.b (search rules))
 
-pub heard-at-spec : {M : Type 1} → statement M
-heard-at-spec =
+pub heard_at_spec : {M : Type 1} → statement M
+heard_at_spec =
     tie.close (tie.spec returns returns-2 sub-i cast-i mul-result array-read-result returns-3)

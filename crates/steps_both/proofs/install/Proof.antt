@@ -18,80 +18,80 @@ use Rattle.steps_both.proofs.install.Statement.{statement}
 use Rattle.steps_both.proofs.install.Tie as tie
 
 -- the entry, where b is found, and those who do not rank above it
-abbrev entry : tie.After-may-install → tie.Start
+abbrev entry : tie.After-may_install-n → tie.Start
 entry c = c.before.before.before.before.before.before.before.before
 
-abbrev own : tie.After-may-install → tie.After-seat
+abbrev own : tie.After-may_install-n → tie.After-seat-k
 own c = c.before.before.before
 
-abbrev those : tie.After-may-install → tie.After-ranked-not-above
+abbrev those : tie.After-may_install-n → tie.After-ranked_not_above-p
 those c = c.before.before
 
 -- the checks made
-abbrev made : tie.After-may-install → List Check
+abbrev made : tie.After-may_install-n → List Check
 made c =
     let a = (entry c).args in
-    let k = (own c).seat.result in
-    install_checks a.r a.c.view a.c.stage (get_or a.c.heard (k - 1) 0) c.before.both.result k a.b
+    let k = (own c).seat-k.result in
+    install_checks a.r a.c.view a.c.stage (get_or a.c.before.before.before.before.before.heard-1 (k - 1) 0) c.before.both-fit.result k a.b
 
-seat-requires : tie.Need-seat-requires
+seat-requires : tie.Need-seat-k-requires
 seat-requires c κs = search rules
 
-sub-i : tie.Need-overflow-sub-i
+sub-i : tie.Need-overflow_sub-i
 sub-i c = search rules
 
-cast-i : tie.Need-overflow-cast-i
+cast-i : tie.Need-overflow_cast-i
 cast-i c = search rules
 
-mul-l : tie.Need-overflow-mul-l
+mul-l : tie.Need-offset_bounds-heard-i
 mul-l c = search rules
 
-array-read-l : tie.Need-array-read-l
+array-read-l : tie.Need-bounds-heard-i
 array-read-l c = search rules
 
-mul-ranked-not-above : tie.Need-overflow-mul-ranked-not-above
+mul-ranked-not-above : tie.Need-offset_bounds-joined-i
 mul-ranked-not-above c = search rules
 
-array-read-ranked-not-above : tie.Need-array-read-ranked-not-above
+array-read-ranked-not-above : tie.Need-bounds-joined-i
 array-read-ranked-not-above c = search rules
 
-ranked-not-above-requires : tie.Need-ranked-not-above-requires
+ranked-not-above-requires : tie.Need-ranked_not_above-p-requires
 ranked-not-above-requires c κs = search rules
 
-both-requires : tie.Need-both-requires
+both-requires : tie.Need-both-fit-requires
 both-requires c κs = search rules
 
-may-install-requires : tie.Need-may-install-requires
+may-install-requires : tie.Need-may_install-n-requires
 may-install-requires c κs = search rules
 
-returns : tie.Need-returns
+returns : tie.Need-returns-then-n-ne0
 returns c =
     let d = c.before in
     let a = (entry d).args in
-    let seat = (own d).seat.ensures.2 in
+    let seat = (own d).seat-k.ensures.2 in
     settles (install a.b) (made d) tt a.r a.c
-    (install-answer a.r a.c a.b _ _ _ seat (those d).ranked-not-above.ensures d.before.both.ensures) _
-    d.may-install.ensures refl (λ _. refl) (λ z. absurd (c.if1.true z)) (λ _. (refl, refl))
-    (λ z. absurd (c.if1.true z))
+    (install-answer a.r a.c a.b _ _ _ seat (those d).ranked_not_above-p.ensures d.before.both-fit.ensures) _
+    d.may_install-n.ensures refl (λ _. refl) (λ z. absurd (c.if-n-ne0.true z)) (λ _. (refl, refl))
+    (λ z. absurd (c.if-n-ne0.true z))
 
-raised-requires : tie.Need-raised-requires
+raised-requires : tie.Need-raised-e-requires
 raised-requires c κs = search rules
 
-returns-2 : tie.Need-returns-2
+returns-2 : tie.Need-returns
 returns-2 c =
     let d = c.before.before in
     let a = (entry d).args in
-    let seat = (own d).seat.ensures.2 in
+    let seat = (own d).seat-k.ensures.2 in
     settles (install a.b) (made d) tt a.r a.c
-    (install-answer a.r a.c a.b _ _ _ seat (those d).ranked-not-above.ensures d.before.both.ensures) _
-    d.may-install.ensures (sym c.before.if1.false) (λ h. absurd (h refl))
-    (λ _ h s. install-set a.r a.c a.b _ _ _ seat (those d).ranked-not-above.ensures
-    d.before.both.ensures (is_true (is_replica a.b) (h 1)))
+    (install-answer a.r a.c a.b _ _ _ seat (those d).ranked_not_above-p.ensures d.before.both-fit.ensures) _
+    d.may_install-n.ensures (sym c.before.if-n-ne0.false) (λ h. absurd (h refl))
+    (λ _ h s. install-set a.r a.c a.b _ _ _ seat (those d).ranked_not_above-p.ensures
+    d.before.both-fit.ensures (is_true (is_replica a.b) (h 1)))
     (λ h. absurd (h refl))
-    (λ _ h s. both-after a.r a.c _ c.raised.ensures (installed_view a.b) Waiting Leader (h 7))
+    (λ _ h s. both-after a.r a.c _ c.raised-e.ensures (installed_view a.b) Waiting Leader (h 7))
 
-pub install-spec : {M : Type 1} → statement M
-install-spec =
+pub install_spec : {M : Type 1} → statement M
+install_spec =
     tie.close
     (tie.spec
     seat-requires

@@ -6,14 +6,14 @@ use borrow.Author.Rules.{rules}
 use Rattle.steps_central.proofs.install.Statement.{statement}
 use Rattle.steps_central.proofs.install.Tie as tie
 
-install-requires : tie.Need-install-requires
+install-requires : tie.Need-install-a-requires
 install-requires c κs = search rules
 
 returns : tie.Need-returns
 returns c =
     let a = c.before.before.before.args in
     λ views joined len s. settles-govern (install a.b) a.g a.c views joined len s
-    (record { state = λ _. refl; places = refl }) _ c.before.before.install.ensures
+    (record { state = λ _. refl; places = refl }) _ c.before.before.install-a.ensures
 
-pub install-spec : {M : Type 1} → statement M
-install-spec = tie.close (tie.spec install-requires returns)
+pub install_spec : {M : Type 1} → statement M
+install_spec = tie.close (tie.spec install-requires returns)

@@ -7,11 +7,11 @@ use Rattle.steps_central.proofs.opened.Reads as reads
 use Rattle.steps_central.proofs.opened.Lts as lts
 use Rattle.members.proofs.single.Reads as single-Reads
 
-single-requires : tie.Need-single-requires
+single-requires : tie.Need-single-m-requires
 single-requires c κs = search rules
 
 returns : tie.Need-returns
-returns c = opened_with c.before.args.b _ c.single.ensures
+returns c = opened_with c.before.args.b _ c.single-m.ensures
 
-pub opened-spec : {M : Type 1} → statement M
-opened-spec = tie.close (tie.spec single-requires returns)
+pub opened_spec : {M : Type 1} → statement M
+opened_spec = tie.close (tie.spec single-requires returns)

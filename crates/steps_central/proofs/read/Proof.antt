@@ -7,39 +7,39 @@ use borrow.Author.Rules.{rules}
 use Rattle.steps_central.proofs.read.Statement.{statement}
 use Rattle.steps_central.proofs.read.Tie as tie
 
-seat-requires : tie.Need-seat-requires
+seat-requires : tie.Need-seat-k-requires
 seat-requires c κs = search rules
 
-sub-i : tie.Need-overflow-sub-i
+sub-i : tie.Need-overflow_sub-i
 sub-i c = search rules
 
-cast-i : tie.Need-overflow-cast-i
+cast-i : tie.Need-overflow_cast-i
 cast-i c = search rules
 
-mul-j : tie.Need-overflow-mul-j
+mul-j : tie.Need-offset_bounds-joined-i
 mul-j c = search rules
 
-shared-slice-read-j : tie.Need-shared-slice-read-j
+shared-slice-read-j : tie.Need-bounds-joined-i
 shared-slice-read-j c = search rules
 
-mul-n : tie.Need-overflow-mul-n
+mul-n : tie.Need-offset_bounds-len-i
 mul-n c = search rules
 
-shared-slice-read-n : tie.Need-shared-slice-read-n
+shared-slice-read-n : tie.Need-bounds-len-i
 shared-slice-read-n c = search rules
 
-read-requires : tie.Need-read-requires
+read-requires : tie.Need-read-a-requires
 read-requires c κs =
     short-at c.before.before.before.before.before.args.len.now _
-    c.before.before.before.before.before.requires.1 c.before.before.seat.ensures.0
+    c.before.before.before.before.before.requires.1 c.before.before.seat-k.ensures.0
 
 returns : tie.Need-returns
 returns c =
     let a = c.before.before.before.before.before.before.before.args in
     let p = c.before.before.before.before.before.before.before.requires in
-    let k = c.before.before.before.before.seat.ensures in
+    let k = c.before.before.before.before.seat-k.ensures in
     λ views. tells-govern (read a.b) a.g a.c views a.joined.now a.len.now p.1
-    (record { state = λ _. refl; places = refl }) (λ _. refl) _ c.before.read.ensures
+    (record { state = λ _. refl; places = refl }) (λ _. refl) _ c.before.read-a.ensures
     (λ acked issued q full t. let f = seated a.len.now p.1 _ k.0 a.g a.c views a.joined.now acked
     issued a.b k.2 q full t in (f.1, f.2))
 

@@ -6,7 +6,7 @@ use borrow.Author.Rules.{rules}
 use Rattle.steps_central.proofs.refresh_controller.Statement.{statement}
 use Rattle.steps_central.proofs.refresh_controller.Tie as tie
 
-refresh-controller-requires : tie.Need-refresh-controller-requires
+refresh-controller-requires : tie.Need-refresh_controller-a-requires
 refresh-controller-requires c κs = search rules
 
 returns : tie.Need-returns
@@ -14,7 +14,7 @@ returns c =
     let a = c.before.before.args in
     λ views joined len s. tells-govern refreshController a.g a.c views joined len s
     (record { state = λ _. refl; places = refl }) (λ _. refl) _
-    c.before.refresh-controller.ensures (λ _ _ _ _. refl)
+    c.before.refresh_controller-a.ensures (λ _ _ _ _. refl)
 
-pub refresh-controller-spec : {M : Type 1} → statement M
-refresh-controller-spec = tie.close (tie.spec refresh-controller-requires returns)
+pub refresh_controller_spec : {M : Type 1} → statement M
+refresh_controller_spec = tie.close (tie.spec refresh-controller-requires returns)

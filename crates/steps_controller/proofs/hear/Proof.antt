@@ -15,61 +15,61 @@ use Rattle.steps_controller.proofs.hear.Statement.{statement}
 use Rattle.steps_controller.proofs.hear.Tie as tie
 
 -- the entry, and where b is found
-abbrev entry : tie.After-may-hear → tie.Start
+abbrev entry : tie.After-may_hear-a → tie.Start
 entry c = c.before.before.before.before
 
-abbrev own : tie.After-may-hear → tie.After-seat
+abbrev own : tie.After-may_hear-a → tie.After-seat-k
 own c = c.before.before
 
 -- the checks made
-abbrev made : tie.After-may-hear → List Check
+abbrev made : tie.After-may_hear-a → List Check
 made c =
     let a = (entry c).args in
-    let k = (own c).seat.result in
+    let k = (own c).seat-k.result in
     hear_checks a.t1.view a.t1.stage (get_or a.t1.heard (k - 1) 0) a.e a.n k a.b
 
-seat-requires : tie.Need-seat-requires
+seat-requires : tie.Need-seat-k-requires
 seat-requires c κs = search rules
 
-sub-i : tie.Need-overflow-sub-i
+sub-i : tie.Need-overflow_sub-i
 sub-i c = search rules
 
-cast-i : tie.Need-overflow-cast-i
+cast-i : tie.Need-overflow_cast-i
 cast-i c = search rules
 
-mul-h : tie.Need-overflow-mul-h
+mul-h : tie.Need-offset_bounds-c-i
 mul-h c = search rules
 
-element-copy-out-h : tie.Need-element-copy-out-h
+element-copy-out-h : tie.Need-bounds-c-i
 element-copy-out-h c = search rules
 
-may-hear-requires : tie.Need-may-hear-requires
+may-hear-requires : tie.Need-may_hear-a-requires
 may-hear-requires c κs = search rules
 
-returns : tie.Need-returns
+returns : tie.Need-returns-then-a-ne0
 returns c =
     let d = c.before in
     let a = (entry d).args in
-    let seat = (own d).seat.ensures.2 in
+    let seat = (own d).seat-k.ensures.2 in
     tells (hear a.b) (made d) tt (HearKnown a.b a.e a.j a.n) a.t1
     (hear-answer a.t1 a.b _ a.n seat a.e a.j) _
-    d.may-hear.ensures refl (λ _. refl) (λ z. absurd (c.if1.true z))
+    d.may_hear-a.ensures refl (λ _. refl) (λ z. absurd (c.if-a-ne0.true z))
 
-heard-requires : tie.Need-heard-requires
+heard-requires : tie.Need-heard-d-requires
 heard-requires c κs = search rules
 
-returns-2 : tie.Need-returns-2
+returns-2 : tie.Need-returns
 returns-2 c =
     let d = c.before.before in
     let a = (entry d).args in
-    let seat = (own d).seat.ensures.2 in
+    let seat = (own d).seat-k.ensures.2 in
     tells (hear a.b) (made d) tt (HearKnown a.b a.e a.j a.n) a.t1
     (hear-answer a.t1 a.b _ a.n seat a.e a.j) _
-    d.may-hear.ensures (sym c.before.if1.false) (λ h. absurd (h refl))
-    (λ _. hear-after a.t1 c.heard.result _ a.n a.b seat _ a.e a.j c.heard.ensures)
+    d.may_hear-a.ensures (sym c.before.if-a-ne0.false) (λ h. absurd (h refl))
+    (λ _. hear-after a.t1 c.heard-d.result _ a.n a.b seat _ a.e a.j c.heard-d.ensures)
 
-pub hear-spec : {M : Type 1} → statement M
-hear-spec =
+pub hear_spec : {M : Type 1} → statement M
+hear_spec =
     tie.close
     (tie.spec
     seat-requires

@@ -5,25 +5,25 @@ use borrow.Author.Rules.{rules}
 use Rattle.steps_controller.proofs.heard.Statement.{statement}
 use Rattle.steps_controller.proofs.heard.Tie as tie
 
-sub-i : tie.Need-overflow-sub-i
+sub-i : tie.Need-overflow_sub-i
 sub-i c = search rules
 
-cast-i : tie.Need-overflow-cast-i
+cast-i : tie.Need-overflow_cast-i
 cast-i c = search rules
 
-add-lengths : tie.Need-overflow-add-lengths
+add-lengths : tie.Need-overflow_add-lengths
 add-lengths c = search rules
 
-mul-lengths : tie.Need-overflow-mul-lengths
+mul-lengths : tie.Need-offset_bounds-lengths-i
 mul-lengths c = search rules
 
-array-write-lengths : tie.Need-array-write-lengths
+array-write-lengths : tie.Need-bounds-lengths-i
 array-write-lengths c = search rules
 
-mul-joined : tie.Need-overflow-mul-joined
+mul-joined : tie.Need-offset_bounds-joined-i
 mul-joined c = search rules
 
-array-write-joined : tie.Need-array-write-joined
+array-write-joined : tie.Need-bounds-joined-i
 array-write-joined c = search rules
 
 returns : tie.Need-returns
@@ -32,8 +32,8 @@ returns c =
     let a = start.args in
     heard-left a.c a.g a.k a.n a.j start.requires.0 start.requires.1 (search rules) (search rules)
 
-pub heard-spec : {M : Type 1} → statement M
-heard-spec =
+pub heard_spec : {M : Type 1} → statement M
+heard_spec =
     tie.close
     (tie.spec
     sub-i

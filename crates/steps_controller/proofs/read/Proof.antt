@@ -15,58 +15,58 @@ use Rattle.steps_controller.proofs.read.Statement.{statement}
 use Rattle.steps_controller.proofs.read.Tie as tie
 
 -- the entry, and where b is found
-abbrev entry : tie.After-may-read → tie.Start
+abbrev entry : tie.After-may_read-a → tie.Start
 entry c = c.before.before.before.before
 
-abbrev own : tie.After-may-read → tie.After-seat
+abbrev own : tie.After-may_read-a → tie.After-seat-k
 own c = c.before.before
 
 -- the checks made
-abbrev made : tie.After-may-read → List Check
+abbrev made : tie.After-may_read-a → List Check
 made c =
     let a = (entry c).args in
-    let k = (own c).seat.result in
+    let k = (own c).seat-k.result in
     read_checks a.t1.view a.t1.stage (get_or a.t1.heard (k - 1) 0) a.j a.n k a.b
 
-seat-requires : tie.Need-seat-requires
+seat-requires : tie.Need-seat-k-requires
 seat-requires c κs = search rules
 
-sub-i : tie.Need-overflow-sub-i
+sub-i : tie.Need-overflow_sub-i
 sub-i c = search rules
 
-cast-i : tie.Need-overflow-cast-i
+cast-i : tie.Need-overflow_cast-i
 cast-i c = search rules
 
-mul-h : tie.Need-overflow-mul-h
+mul-h : tie.Need-offset_bounds-c-i
 mul-h c = search rules
 
-element-copy-out-h : tie.Need-element-copy-out-h
+element-copy-out-h : tie.Need-bounds-c-i
 element-copy-out-h c = search rules
 
-may-read-requires : tie.Need-may-read-requires
+may-read-requires : tie.Need-may_read-a-requires
 may-read-requires c κs = search rules
 
-returns : tie.Need-returns
+returns : tie.Need-returns-then-a-ne0
 returns c =
     let d = c.before in
     let a = (entry d).args in
-    let seat = (own d).seat.ensures.2 in
+    let seat = (own d).seat-k.ensures.2 in
     tells (read a.b) (made d) tt (ReadKnown a.b a.j a.n) a.t1
     (read_answer a.t1 a.b _ a.n seat a.j) _
-    d.may_read_lem.ensures refl (λ _. refl) (λ z. absurd (c.if1.true z))
+    d.may_read-a.ensures refl (λ _. refl) (λ z. absurd (c.if-a-ne0.true z))
 
-heard-requires : tie.Need-heard-requires
+heard-requires : tie.Need-heard-d-requires
 heard-requires c κs = search rules
 
-returns-2 : tie.Need-returns-2
+returns-2 : tie.Need-returns
 returns-2 c =
     let d = c.before.before in
     let a = (entry d).args in
-    let seat = (own d).seat.ensures.2 in
+    let seat = (own d).seat-k.ensures.2 in
     tells (read a.b) (made d) tt (ReadKnown a.b a.j a.n) a.t1
     (read_answer a.t1 a.b _ a.n seat a.j) _
-    d.may_read_lem.ensures (sym c.before.if1.false) (λ h. absurd (h refl))
-    (λ _. read-after a.t1 c.heard.result _ a.n a.b seat _ a.j c.heard.ensures)
+    d.may_read-a.ensures (sym c.before.if-a-ne0.false) (λ h. absurd (h refl))
+    (λ _. read-after a.t1 c.heard-d.result _ a.n a.b seat _ a.j c.heard-d.ensures)
 
 pub read_spec : {M : Type 1} → statement M
 read_spec =

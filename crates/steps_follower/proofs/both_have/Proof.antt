@@ -10,7 +10,7 @@ has-requires-2 : tie.Need-has-requires-2
 has-requires-2 c κs = search rules
 
 returns : tie.Need-returns
-returns c = rw (c.before.has.ensures, c.has2.ensures)
+returns c = rw (c.before.has.ensures, c.has-2.ensures)
 
-pub both-have-spec : {M : Type 1} → statement M
-both-have-spec = tie.close (tie.spec has-requires has-requires-2 returns)
+pub both_have_spec : {M : Type 1} → statement M
+both_have_spec = tie.close (tie.spec has-requires has-requires-2 returns)

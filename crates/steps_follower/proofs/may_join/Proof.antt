@@ -4,44 +4,44 @@ use borrow.Author.Rules.{rules}
 use Rattle.steps_follower.proofs.may_join.Statement.{statement}
 use Rattle.steps_follower.proofs.may_join.Tie as tie
 
-check-requires : tie.Need-check-requires
+check-requires : tie.Need-check-n11-requires
 check-requires c κs = search rules
 
-check-requires-2 : tie.Need-check-requires-2
+check-requires-2 : tie.Need-check-n10-requires
 check-requires-2 c κs = search rules
 
 has-requires : tie.Need-has-requires
 has-requires c κs = search rules
 
-check-requires-3 : tie.Need-check-requires-3
+check-requires-3 : tie.Need-check-n5-requires
 check-requires-3 c κs = search rules
 
 follows-requires : tie.Need-follows-requires
 follows-requires c κs = search rules
 
-check-requires-4 : tie.Need-check-requires-4
+check-requires-4 : tie.Need-check-n9-requires
 check-requires-4 c κs = search rules
 
 replica-requires : tie.Need-replica-requires
 replica-requires c κs = search rules
 
-check-requires-5 : tie.Need-check-requires-5
+check-requires-5 : tie.Need-check-requires
 check-requires-5 c κs = search rules
 
 returns : tie.Need-returns
 returns c =
-    c.check5.ensures ∙ rw (
+    c.check.ensures ∙ rw (
       c.before.replica.ensures,
-      c.before.before.check4.ensures,
+      c.before.before.check-n9.ensures,
       c.before.before.before.follows.ensures,
-      c.before.before.before.before.check3.ensures,
+      c.before.before.before.before.check-n5.ensures,
       c.before.before.before.before.before.has.ensures,
-      c.before.before.before.before.before.before.check2.ensures,
-      c.before.before.before.before.before.before.before.before.before.check.ensures,
+      c.before.before.before.before.before.before.check-n10.ensures,
+      c.before.before.before.before.before.before.before.before.before.check-n11.ensures,
     )
 
-pub may-join-spec : {M : Type 1} → statement M
-may-join-spec =
+pub may_join_spec : {M : Type 1} → statement M
+may_join_spec =
     tie.close
     (tie.spec
     check-requires

@@ -4,17 +4,17 @@ use borrow.Author.Rules.{rules}
 use Rattle.steps_follower.proofs.may_refresh.Statement.{statement}
 use Rattle.steps_follower.proofs.may_refresh.Tie as tie
 
-check-requires : tie.Need-check-requires
+check-requires : tie.Need-check-n12-requires
 check-requires c κs = search rules
 
 replica-requires : tie.Need-replica-requires
 replica-requires c κs = search rules
 
-check-requires-2 : tie.Need-check-requires-2
+check-requires-2 : tie.Need-check-requires
 check-requires-2 c κs = search rules
 
 returns : tie.Need-returns
-returns c = c.check2.ensures ∙ rw (c.before.replica.ensures, c.before.before.check.ensures)
+returns c = c.check.ensures ∙ rw (c.before.replica.ensures, c.before.before.check-n12.ensures)
 
-pub may-refresh-spec : {M : Type 1} → statement M
-may-refresh-spec = tie.close (tie.spec check-requires replica-requires check-requires-2 returns)
+pub may_refresh_spec : {M : Type 1} → statement M
+may_refresh_spec = tie.close (tie.spec check-requires replica-requires check-requires-2 returns)

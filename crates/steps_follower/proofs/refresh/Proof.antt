@@ -18,83 +18,83 @@ use Rattle.steps_follower.proofs.refresh.Statement.{statement}
 use Rattle.steps_follower.proofs.refresh.Tie as tie
 
 -- the entry, and where b is found
-abbrev entry : tie.After-may-refresh → tie.Start
+abbrev entry : tie.After-may_refresh-r → tie.Start
 entry c = c.before.before.before.before.before.before
 
-abbrev own : tie.After-may-refresh → tie.After-seat
+abbrev own : tie.After-may_refresh-r → tie.After-seat-k
 own c = c.before.before
 
-abbrev row : tie.After-may-refresh → Status → Controller → List View → ℕ → Cluster
+abbrev row : tie.After-may_refresh-r → Status → Controller → List View → ℕ → Cluster
 row c s k vs issued =
     row_of (record { view = (entry c).args.w; status = s }) k vs (entry c).args.joined.now
     (entry c).args.acked.now (entry c).args.len.now issued
 
 -- the checks
-answers : (c : tie.After-may-refresh) (s : Status) (k : Controller) (issued : ℕ) → c.may-refresh.result
+answers : (c : tie.After-may_refresh-r) (s : Status) (k : Controller) (issued : ℕ) → c.may_refresh-r.result
     ≡ answer_of (outline_of (row c s k (entry c).args.views issued)) (refresh (entry c).args.b)
 answers c s k issued =
-    c.may-refresh.ensures ∙ refresh-answer (row c s k (entry c).args.views issued) (entry c).args.b _
-    (own c).seat.ensures.2 _ c.before.view.ensures
+    c.may_refresh-r.ensures ∙ refresh-answer (row c s k (entry c).args.views issued) (entry c).args.b _
+    (own c).seat-k.ensures.2 _ c.before.view-v.ensures
 
 eight : (c : tie.Start) → length c.args.views ≡ 8
 eight c = search rules
 
-seat-requires : tie.Need-seat-requires
+seat-requires : tie.Need-seat-k-requires
 seat-requires c κs = search rules
 
-sub-i : tie.Need-overflow-sub-i
+sub-i : tie.Need-overflow_sub-i
 sub-i c = search rules
 
-cast-i : tie.Need-overflow-cast-i
+cast-i : tie.Need-overflow_cast-i
 cast-i c = search rules
 
-view-requires : tie.Need-view-requires
+view-requires : tie.Need-view-v-requires
 view-requires c κs = search rules
 
-may-refresh-requires : tie.Need-may-refresh-requires
+may-refresh-requires : tie.Need-may_refresh-r-requires
 may-refresh-requires c κs = search rules
 
-returns : tie.Need-returns
+returns : tie.Need-returns-then-r-ne0
 returns c =
     let a = (entry c.before).args in
     let p = (entry c.before).requires in
-    let i = (own c.before).seat.result - 1 in (
+    let i = (own c.before).seat-k.result - 1 in (
       search rules,
       λ s k issued q few full.
           subst (λ vs. Leaves (refresh a.b) (row c.before s k a.views issued) q
-          c.before.may-refresh.result 0 (row c.before s k vs issued) q)
-          (sym (ap (set a.views i) c.before.before.view.ensures ∙ set-idle no_view a.views i))
-          (turns-refused _ p.2 few q full _ _ (answers c.before s k issued) c.if1.true),
+          c.before.may_refresh-r.result 0 (row c.before s k vs issued) q)
+          (sym (ap (set a.views i) c.before.before.view-v.ensures ∙ set-idle no_view a.views i))
+          (turns-refused _ p.2 few q full _ _ (answers c.before s k issued) c.if-r-ne0.true),
     )
 
-lookup-requires : tie.Need-lookup-requires
+lookup-requires : tie.Need-lookup-n-requires
 lookup-requires c κs = search rules
 
-mul-j : tie.Need-overflow-mul-j
+mul-j : tie.Need-offset_bounds-joined-i
 mul-j c = search rules
 
-slice-read-j : tie.Need-slice-read-j
+slice-read-j : tie.Need-bounds-joined-i
 slice-read-j c = search rules
 
 joins-requires : tie.Need-joins-requires
 joins-requires c κs = search rules
 
-mul-joined : tie.Need-overflow-mul-joined
+mul-joined : tie.Need-offset_bounds-joined-i-2
 mul-joined c = search rules
 
-slice-write-joined : tie.Need-slice-write-joined
+slice-write-joined : tie.Need-bounds-joined-i-2
 slice-write-joined c = search rules
 
 counts-requires : tie.Need-counts-requires
 counts-requires c κs = search rules
 
-same_length : tie.Need-same-length
+same_length : tie.Need-shape_of-joined
 same_length c = search rules
 
-same-length-2 : tie.Need-same-length-2
+same-length-2 : tie.Need-shape_of-acked
 same-length-2 c = search rules
 
-returns-2 : tie.Need-returns-2
+returns-2 : tie.Need-returns
 returns-2 c =
     let d = c.before.before.before.before.before.before.before.before in
     let a = (entry d).args in
@@ -102,16 +102,16 @@ returns-2 c =
       search rules,
       λ s k issued q few full.
           turns-accepted (row d s k a.views issued) p.2 few q full _ _ _ _ _ (answers d s k issued)
-          c.before.before.before.before.before.before.before.if1.false bits_none
+          c.before.before.before.before.before.before.before.if-r-ne0.false bits_none
           (refresh-after (row d s k a.views issued) p.2 q full a.b _ _ _ _
-          c.before.before.counts.new.1.1.1.0 (own d).seat.ensures.2 d.before.view.ensures
-          c.before.before.before.before.before.before.lookup.ensures (eight (entry d)) p.0
+          c.before.before.counts.new.1.1.1.0 (own d).seat-k.ensures.2 d.before.view-v.ensures
+          c.before.before.before.before.before.before.lookup-n.ensures (eight (entry d)) p.0
           c.before.before.before.before.joins.ensures c.before.before.counts.ensures)
           p.2 few refl,
     )
 
-pub refresh-spec : {M : Type 1} → statement M
-refresh-spec =
+pub refresh_spec : {M : Type 1} → statement M
+refresh_spec =
     tie.close
     (tie.spec
     seat-requires

@@ -19,113 +19,113 @@ use Rattle.steps_leader.proofs.append.Statement.{statement}
 use Rattle.steps_leader.proofs.append.Tie as tie
 
 -- the entry, and where b is found
-abbrev entry : tie.After-may-append → tie.Start
+abbrev entry : tie.After-may_append-r → tie.Start
 entry c = c.before.before.before.before.before.before.before.before
 
-abbrev own : tie.After-may-append → tie.After-seat
+abbrev own : tie.After-may_append-r → tie.After-seat-k
 own c = c.before.before.before
 
 -- the answer, from where all is written
-abbrev answered : tie.After-slice-known7 → tie.Else1
+abbrev answered : tie.After-slice_known-7-1 → tie.Else-r-ne0
 answered c = c.before.before.before.before.before.before.before
 
-abbrev row : tie.After-may-append → Registry → Controller → List ℕ → ℕ → Cluster
+abbrev row : tie.After-may_append-r → Registry → Controller → List ℕ → ℕ → Cluster
 row c g k joined issued =
     row_of g k (entry c).args.views joined (entry c).args.acked.now (entry c).args.len.now issued
 
 -- the checks, and what their 0 says
-answers : (c : tie.After-may-append) (g : Registry) (k : Controller) (joined : List ℕ) (issued : ℕ)
-    → c.may-append.result ≡ answer_of (outline_of (row c g k joined issued))
+answers : (c : tie.After-may_append-r) (g : Registry) (k : Controller) (joined : List ℕ) (issued : ℕ)
+    → c.may_append-r.result ≡ answer_of (outline_of (row c g k joined issued))
     (append (entry c).args.b (entry c).args.value)
 answers c g k joined issued =
-    c.may-append.ensures ∙ append-answer (row c g k joined issued) (entry c).args.b _ (own c).seat.ensures.2
-    (entry c).args.value c.before.before.view.ensures
+    c.may_append-r.ensures ∙ append-answer (row c g k joined issued) (entry c).args.b _ (own c).seat-k.ensures.2
+    (entry c).args.value c.before.before.view-v.ensures
 
-room : (c : tie.After-may-append) → c.may-append.result ≡ 0
-    → get_or (entry c).args.len.now ((own c).seat.result - 1) 0 < 512
-room c e = append-room c.before.before.view.result _ (entry c).args.b c.may-append.ensures e
+room : (c : tie.After-may_append-r) → c.may_append-r.result ≡ 0
+    → get_or (entry c).args.len.now ((own c).seat-k.result - 1) 0 < 512
+room c e = append-room c.before.before.view-v.result _ (entry c).args.b c.may_append-r.ensures e
 
-seat-requires : tie.Need-seat-requires
+seat-requires : tie.Need-seat-k-requires
 seat-requires c κs = search rules
 
-sub-i : tie.Need-overflow-sub-i
+sub-i : tie.Need-overflow_sub-i
 sub-i c = search rules
 
-cast-i : tie.Need-overflow-cast-i
+cast-i : tie.Need-overflow_cast-i
 cast-i c = search rules
 
-view-requires : tie.Need-view-requires
+view-requires : tie.Need-view-v-requires
 view-requires c κs = search rules
 
-mul-n : tie.Need-overflow-mul-n
+mul-n : tie.Need-offset_bounds-len-i
 mul-n c = search rules
 
-slice-read-n : tie.Need-slice-read-n
+slice-read-n : tie.Need-bounds-len-i
 slice-read-n c = search rules
 
-may-append-requires : tie.Need-may-append-requires
+may-append-requires : tie.Need-may_append-r-requires
 may-append-requires c κs = search rules
 
-returns : tie.Need-returns
+returns : tie.Need-returns-then-r-ne0
 returns c g k joined issued list list2 few full =
     turns-refused (row c.before g k joined issued) (entry c.before).requires.1 few _ full _ _
-    (answers c.before g k joined issued) c.if1.true
+    (answers c.before g k joined issued) c.if-r-ne0.true
 
-append-entry-requires : tie.Need-append-entry-requires
+append-entry-requires : tie.Need-append_entry-requires
 append-entry-requires c κs =
     let d = c.before.before in
-    ((entry d.before).requires.2, (entry d.before).requires.3, search rules, search rules, room d.before d.if1.false)
+    ((entry d.before).requires.2, (entry d.before).requires.3, search rules, search rules, room d.before d.if-r-ne0.false)
 
-add-m : tie.Need-overflow-add-m
-add-m c = fits_next (room (answered c).before (answered c).if1.false)
+add-m : tie.Need-overflow_add-m
+add-m c = fits_next (room (answered c).before (answered c).if-r-ne0.false)
 
-mul-len : tie.Need-overflow-mul-len
+mul-len : tie.Need-offset_bounds-len-i-2
 mul-len c = search rules
 
-slice-write-len : tie.Need-slice-write-len
+slice-write-len : tie.Need-bounds-len-i-2
 slice-write-len c = search rules
 
-mul-acked : tie.Need-overflow-mul-acked
+mul-acked : tie.Need-overflow_mul-acked
 mul-acked c = search rules
 
-mul-acked-2 : tie.Need-overflow-mul-acked-2
+mul-acked-2 : tie.Need-offset_bounds-acked-i
 mul-acked-2 c = search rules
 
-slice-write-acked : tie.Need-slice-write-acked
+slice-write-acked : tie.Need-bounds-acked-i
 slice-write-acked c = search rules
 
-same_length : tie.Need-same-length
+same_length : tie.Need-shape_of-acked
 same_length c = search rules
 
-same-length-2 : tie.Need-same-length-2
+same-length-2 : tie.Need-shape_of-len
 same-length-2 c = search rules
 
-same-length-3 : tie.Need-same-length-3
+same-length-3 : tie.Need-shape_of-store
 same-length-3 c = search rules
 
-same-length-4 : tie.Need-same-length-4
+same-length-4 : tie.Need-shape_of-store2
 same-length-4 c = search rules
 
-returns-2 : tie.Need-returns-2
+returns-2 : tie.Need-returns
 returns-2 c g k joined issued list list2 few full =
     let d = (answered c).before in
-    let z = (answered c).if1.false in
+    let z = (answered c).if-r-ne0.false in
     let a = (entry d).args in
     let p = (entry d).pre in
-    let h = (own d).seat.ensures in
+    let h = (own d).seat-k.ensures in
     let e = answers d g k joined issued in
     let r = row d g k joined issued in
     let q = lent a.store.now a.store2.now list list2 in
-    let s = c.before.before.before.before.append-entry.ensures in
+    let s = c.before.before.before.before.append_entry.ensures in
     let w = (λ i. lent (s.0 i) (s.1 i) list list2)
-    ∙ append_places r q a.b a.value _ h.2 d.before.before.view.ensures
+    ∙ append_places r q a.b a.value _ h.2 d.before.before.view-v.ensures
     (zero-accepted (outline_of r) (append a.b a.value) (sym e ∙ z)) in
     turns-accepted r p.1 few q full _ _ _ _ _ e z bits_none
     (append-after r p.1 q full a.b a.value _ h.2 p.0 _ w)
     (len_short a.len.now p.1 _ _ h.0 h.1 (omega (arith, room d z))) few w
 
-pub append-spec : {M : Type 1} → statement M
-append-spec =
+pub append_spec : {M : Type 1} → statement M
+append_spec =
     tie.close
     (tie.spec
     seat-requires

@@ -10,7 +10,7 @@ replica-requires-2 : tie.Need-replica-requires-2
 replica-requires-2 c κs = search rules
 
 returns : tie.Need-returns
-returns c = rw (c.before.replica.ensures, c.replica2.ensures)
+returns c = rw (c.before.replica.ensures, c.replica-2.ensures)
 
-pub two-spec : {M : Type 1} → statement M
-two-spec = tie.close (tie.spec replica-requires replica-requires-2 returns)
+pub two_spec : {M : Type 1} → statement M
+two_spec = tie.close (tie.spec replica-requires replica-requires-2 returns)

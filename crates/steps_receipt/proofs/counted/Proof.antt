@@ -14,39 +14,39 @@ use Rattle.refinement.proofs.Turning.{counted-more}
 use Rattle.steps_receipt.proofs.counted.Statement.{statement}
 use Rattle.steps_receipt.proofs.counted.Tie as tie
 
-abbrev invariant-loop : tie.invariant-loop
+abbrev invariant-loop : tie.invariant-loop-x
 invariant-loop acked b n q₀ x₀ q x = (1 ≤ x) × (x ≤ 9) × (bits q ≡ under x (counted_above (at_pair acked b) n))
 
-abbrev decreases-loop : tie.decreases-loop
+abbrev decreases-loop : tie.decreases-loop-x
 decreases-loop acked b n q₀ x₀ q x = 9 - x
 
-loop-holds : tie.Need-loop-init invariant-loop decreases-loop
+loop-holds : tie.Need-loop-x-init invariant-loop decreases-loop
 loop-holds c = (search rules, search rules, under_none _)
 
-pair-requires : tie.Need-pair-requires invariant-loop decreases-loop
+pair-requires : tie.Need-pair-i-requires invariant-loop decreases-loop
 pair-requires c κs = search rules
 
-mul-put : tie.Need-overflow-mul-put invariant-loop decreases-loop
+mul-put : tie.Need-offset_bounds-acked-i invariant-loop decreases-loop
 mul-put c = search rules
 
-shared-slice-read-put : tie.Need-shared-slice-read-put invariant-loop decreases-loop
+shared-slice-read-put : tie.Need-bounds-acked-i invariant-loop decreases-loop
 shared-slice-read-put c = search rules
 
-put-requires : tie.Need-put-requires invariant-loop decreases-loop
+put-requires : tie.Need-put-q-requires invariant-loop decreases-loop
 put-requires c κs = search rules
 
-add-x : tie.Need-overflow-add-x invariant-loop decreases-loop
+add-x : tie.Need-overflow_add-x invariant-loop decreases-loop
 add-x c = search rules
 
-loop-less : tie.Need-loop-smaller invariant-loop decreases-loop
+loop-less : tie.Need-loop-x-smaller invariant-loop decreases-loop
 loop-less c = search rules
 
-loop-again : tie.Need-loop-preserved invariant-loop decreases-loop
+loop-again : tie.Need-loop-x-preserved invariant-loop decreases-loop
 loop-again c =
-    let l = c.before.before.before.before.loop in
+    let l = c.before.before.before.before.loop-x in
     let a = c.before.before.before.before.before.before.args in
-    let e = c.put.ensures ∙ ap (λ i. upd (bits l.q) l.x (ltb a.n (get_or a.acked.now i 0)))
-    c.before.before.pair.ensures in (
+    let e = c.put-q.ensures ∙ ap (λ i. upd (bits l.q) l.x (ltb a.n (get_or a.acked.now i 0)))
+    c.before.before.pair-i.ensures in (
       search rules,
       search rules,
       counted-more a.acked.now a.b a.n l.x l.q _ (search rules)
@@ -55,7 +55,7 @@ loop-again c =
 
 returns : tie.Need-returns invariant-loop decreases-loop
 returns c =
-    let l = c.before.loop in
+    let l = c.before.loop-x in
     let e : l.x ≡ 9 = omega arith in
     rw e at l.invariant.2
 

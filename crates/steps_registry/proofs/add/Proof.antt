@@ -10,40 +10,40 @@ use Rattle.steps_registry.proofs.add.Statement.{statement}
 use Rattle.steps_registry.proofs.add.Tie as tie
 
 -- the entry, and where b is found
-abbrev entry : tie.After-may-add → tie.Start
+abbrev entry : tie.After-may_add-n → tie.Start
 entry c = c.before.before.before
 
-abbrev own : tie.After-may-add → tie.After-seat
+abbrev own : tie.After-may_add-n → tie.After-seat-k
 own c = c.before
 
-seat-requires : tie.Need-seat-requires
+seat-requires : tie.Need-seat-k-requires
 seat-requires c κs = search rules
 
-may-add-requires : tie.Need-may-add-requires
+may-add-requires : tie.Need-may_add-n-requires
 may-add-requires c κs = search rules
 
-returns : tie.Need-returns
+returns : tie.Need-returns-then-n-ne0
 returns c =
     let d = c.before in
     let a = (entry d).args in
-    let seat = (own d).seat.ensures.2 in
+    let seat = (own d).seat-k.ensures.2 in
     rules (add a.b) (add_checks a.r _ a.b) tt a.r (add-answer a.r a.b _ seat) _
-    d.may_add.ensures refl (λ _. refl) (λ z. absurd (c.if1.taken z))
+    d.may_add-n.ensures refl (λ _. refl) (λ z. absurd (c.if-n-ne0.taken z))
 
-raised-requires : tie.Need-raised-requires
+raised-requires : tie.Need-raised-e-requires
 raised-requires c κs = search rules
 
-insert-requires : tie.Need-insert-requires
+insert-requires : tie.Need-insert-m-requires
 insert-requires c κs = search rules
 
-returns-2 : tie.Need-returns-2
+returns-2 : tie.Need-returns
 returns-2 c =
     let d = c.before.before.before in
     let a = (entry d).args in
-    let seat = (own d).seat.ensures.2 in
+    let seat = (own d).seat-k.ensures.2 in
     rules (add a.b) (add_checks a.r _ a.b) tt a.r (add-answer a.r a.b _ seat) _
-    d.may_add.ensures (sym c.before.before.if1.left) (λ h. absurd (h refl))
-    (λ _ h s. add-after a.r _ c.before.raised.ensures a.b _ _ seat c.insert.ensures h)
+    d.may_add-n.ensures (sym c.before.before.if-n-ne0.left) (λ h. absurd (h refl))
+    (λ _ h s. add-after a.r _ c.before.raised-e.ensures a.b _ _ seat c.insert-m.ensures h)
 
 pub add_spec : {M : Type 1} → statement M
 add_spec =

@@ -10,38 +10,38 @@ use Rattle.steps_registry.proofs.change.Statement.{statement}
 use Rattle.steps_registry.proofs.change.Tie as tie
 
 -- the entry
-abbrev entry : tie.After-may-change → tie.Start
+abbrev entry : tie.After-may_change-n → tie.Start
 entry c = c.before.before
 
-may-change-requires : tie.Need-may-change-requires
+may-change-requires : tie.Need-may_change-n-requires
 may-change-requires c κs = search rules
 
-returns : tie.Need-returns
+returns : tie.Need-returns-then-n-ne0
 returns c =
     let r = (entry c.before).args.r in
     rules change_leader (change_checks r) tt r (change-answer r) _
-    c.before.may-change.ensures refl (λ _. refl) (λ z. absurd (c.if1.taken z))
+    c.before.may_change-n.ensures refl (λ _. refl) (λ z. absurd (c.if-n-ne0.taken z))
 
-raised-requires : tie.Need-raised-requires
+raised-requires : tie.Need-raised-e-requires
 raised-requires c κs = search rules
 
-without-requires : tie.Need-without-requires
+without-requires : tie.Need-without-m-requires
 without-requires c κs = search rules
 
-succession-requires : tie.Need-succession-requires
+succession-requires : tie.Need-succession-s-requires
 succession-requires c κs = search rules
 
-returns-2 : tie.Need-returns-2
+returns-2 : tie.Need-returns
 returns-2 c =
     let d = c.before.before.before.before in
     let r = (entry d).args.r in
     rules change_leader (change_checks r) tt r (change-answer r) _
-    d.may-change.ensures (sym c.before.before.before.if1.left) (λ h. absurd (h refl))
-    (λ _. change-after r _ c.before.before.raised.ensures _ c.succession.result
-    c.before.without.ensures c.succession.ensures)
+    d.may_change-n.ensures (sym c.before.before.before.if-n-ne0.left) (λ h. absurd (h refl))
+    (λ _. change-after r _ c.before.before.raised-e.ensures _ c.succession-s.result
+    c.before.without-m.ensures c.succession-s.ensures)
 
-pub change-spec : {M : Type 1} → statement M
-change-spec =
+pub change_spec : {M : Type 1} → statement M
+change_spec =
     tie.close
     (tie.spec
     may-change-requires

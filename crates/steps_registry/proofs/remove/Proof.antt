@@ -10,51 +10,51 @@ use Rattle.steps_registry.proofs.remove.Statement.{statement}
 use Rattle.steps_registry.proofs.remove.Tie as tie
 
 -- the entry, and where b is found
-abbrev entry : tie.After-may-remove → tie.Start
+abbrev entry : tie.After-may_remove-n → tie.Start
 entry c = c.before.before.before
 
-abbrev own : tie.After-may-remove → tie.After-seat
+abbrev own : tie.After-may_remove-n → tie.After-seat-k
 own c = c.before
 
-seat-requires : tie.Need-seat-requires
+seat-requires : tie.Need-seat-k-requires
 seat-requires c κs = search rules
 
-may-remove-requires : tie.Need-may-remove-requires
+may-remove-requires : tie.Need-may_remove-n-requires
 may-remove-requires c κs = search rules
 
-returns : tie.Need-returns
+returns : tie.Need-returns-then-n-ne0
 returns c =
     let d = c.before in
     let a = (entry d).args in
-    let seat = (own d).seat.ensures.2 in
+    let seat = (own d).seat-k.ensures.2 in
     rules (remove a.b) (remove_checks a.r _ a.b) tt a.r (remove-answer a.r a.b _ seat) _
-    d.may-remove.ensures refl (λ _. refl) (λ z. absurd (c.if1.taken z))
+    d.may_remove-n.ensures refl (λ _. refl) (λ z. absurd (c.if-n-ne0.taken z))
 
-raised-requires : tie.Need-raised-requires
+raised-requires : tie.Need-raised-e-requires
 raised-requires c κs = search rules
 
-remove-requires : tie.Need-remove-requires
+remove-requires : tie.Need-remove-m-requires
 remove-requires c κs = search rules
 
 size-requires : tie.Need-size-requires
 size-requires c κs = search rules
 
-status-left-requires : tie.Need-status-left-requires
+status-left-requires : tie.Need-status_left-s-requires
 status-left-requires c κs = search rules
 
-returns-2 : tie.Need-returns-2
+returns-2 : tie.Need-returns
 returns-2 c =
     let d = c.before.before.before.before.before in
     let a = (entry d).args in
-    let seat = (own d).seat.ensures.2 in
+    let seat = (own d).seat-k.ensures.2 in
     rules (remove a.b) (remove_checks a.r _ a.b) tt a.r (remove-answer a.r a.b _ seat) _
-    d.may-remove.ensures (sym c.before.before.before.before.if1.left) (λ h. absurd (h refl))
-    (λ _ h s. remove-after a.r _ c.before.before.before.raised.ensures a.b _ _ seat _
-    c.status-left.result c.before.before.remove.ensures
-    c.before.size.ensures c.status-left.ensures h)
+    d.may_remove-n.ensures (sym c.before.before.before.before.if-n-ne0.left) (λ h. absurd (h refl))
+    (λ _ h s. remove-after a.r _ c.before.before.before.raised-e.ensures a.b _ _ seat _
+    c.status_left-s.result c.before.before.remove-m.ensures
+    c.before.size.ensures c.status_left-s.ensures h)
 
-pub remove-spec : {M : Type 1} → statement M
-remove-spec =
+pub remove_spec : {M : Type 1} → statement M
+remove_spec =
     tie.close
     (tie.spec
     seat-requires

@@ -5,17 +5,17 @@ use borrow.Author.Rules.{rules}
 use Rattle.steps_registry.proofs.succession.Statement.{statement}
 use Rattle.steps_registry.proofs.succession.Tie as tie
 
-size-requires : tie.Need-size-requires
+size-requires : tie.Need-size-n-requires
 size-requires c κs = search rules
 
-lowest-requires : tie.Need-lowest-requires
+lowest-requires : tie.Need-lowest-l-requires
 lowest-requires c κs = search rules
 
-returns : tie.Need-returns
-returns c = rw (eq-eqb _ _ (sym c.before.before.size.ensures ∙ c.before.if1.true), c.lowest.ensures)
+returns : tie.Need-returns-then-n-eq1
+returns c = rw (eq-eqb _ _ (sym c.before.before.size-n.ensures ∙ c.before.if-n-eq1.true), c.lowest-l.ensures)
 
-returns-2 : tie.Need-returns-2
-returns-2 c = rw (ne_eqb _ _ (λ e. c.if1.false (c.before.size.ensures ∙ e)))
+returns-2 : tie.Need-returns
+returns-2 c = rw (ne_eqb _ _ (λ e. c.if-n-eq1.false (c.before.size-n.ensures ∙ e)))
 
-pub succession-spec : {M : Type 1} → statement M
-succession-spec = tie.close (tie.spec size-requires lowest-requires returns returns-2)
+pub succession_spec : {M : Type 1} → statement M
+succession_spec = tie.close (tie.spec size-requires lowest-requires returns returns-2)

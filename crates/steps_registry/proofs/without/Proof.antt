@@ -12,18 +12,18 @@ use Rattle.steps_registry.proofs.without.Tie as tie
 replica-requires : tie.Need-replica-requires
 replica-requires c κs = search rules
 
-returns : tie.Need-returns
+returns : tie.Need-returns-then-not-replica
 returns c =
     let a = c.before.before.args in
-    let out = sym c.before.replica.ensures ∙ not-true _ c.if1.true in
+    let out = sym c.before.replica.ensures ∙ not-true _ c.if-not-replica.true in
     sym (upd-idle (bits a.m) a.l false (bits_out a.m a.l out))
 
 remove-requires : tie.Need-remove-requires
 remove-requires c κs =
-    replica-range c.before.before.args.l (sym c.before.replica.ensures ∙ not-false _ c.if1.false)
+    replica-range c.before.before.args.l (sym c.before.replica.ensures ∙ not-false _ c.if-not-replica.false)
 
-returns-2 : tie.Need-returns-2
+returns-2 : tie.Need-returns
 returns-2 c = search rules
 
-pub without-spec : {M : Type 1} → statement M
-without-spec = tie.close (tie.spec replica-requires returns remove-requires returns-2)
+pub without_spec : {M : Type 1} → statement M
+without_spec = tie.close (tie.spec replica-requires returns remove-requires returns-2)

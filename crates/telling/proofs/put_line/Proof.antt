@@ -21,68 +21,65 @@ abbrev text1 : tie.Start → Text
 text1 e = word ": " ++ text2 e
 
 -- What was given at the start, from after the call j.
-abbrev start1 : tie.After-put-head → tie.Start
+abbrev start1 : tie.After-put_head-p → tie.Start
 start1 c = c.before.before.before.before.before
 
-abbrev start2 : tie.After-put-bytes → tie.Start
+abbrev start2 : tie.After-put_bytes-q → tie.Start
 start2 c = start1 c.before.before.before.before.before
 
-abbrev start3 : tie.After-put-verdict → tie.Start
+abbrev start3 : tie.After-put_verdict-e → tie.Start
 start3 c = start2 c.before.before.before.before
 
 -- The step by whose phrases the answer is told.
-placed : (c : tie.After-place) → (c.place.result ≡ place (record_of c.before.before.before.args.r)) ×
-    (c.place.result < 17)
-placed c = c.place.ensures
+placed : (c : tie.After-place-k) → (c.place-k.result ≡ place (record_of c.before.before.before.args.r)) ×
+    (c.place-k.result < 17)
+placed c = c.place-k.ensures
 
-told : (c : tie.After-put-verdict)
+told : (c : tie.After-put_verdict-e)
     → let e = start3 c in
-    Wrote c.before.before.before.before.put-bytes.new.0 c.before.before.before.before.put-bytes.result
-    (verdict_text (place (record_of e.args.r)) e.args.a) c.put-verdict.new.0 c.put-verdict.result
+    Wrote c.before.before.before.before.put_bytes-q.new.0 c.before.before.before.before.put_bytes-q.result
+    (verdict_text (place (record_of e.args.r)) e.args.a) c.put_verdict-e.new.0 c.put_verdict-e.result
 told c =
     let p = placed c.before.before.before.before.before.before.before.before.before.before.before in
-    wrote_as (ap (λ k. verdict_text k (start3 c).args.a) p.0) c.put-verdict.ensures
+    wrote_as (ap (λ k. verdict_text k (start3 c).args.a) p.0) c.put_verdict-e.ensures
 
 -- The room that is left after it.
-room1 : (c : tie.After-put-head) → c.put-head.result + length (text1 (start1 c)) ≤ length c.put-head.new.0
+room1 : (c : tie.After-put_head-p) → c.put_head-p.result + length (text1 (start1 c)) ≤ length c.put_head-p.new.0
 unfolding line
 room1 c =
     let e = start1 c in
-    rest (head_text (record_of e.args.r)) (text1 e) c.put-head.ensures e.pre.1
+    rest (head_text (record_of e.args.r)) (text1 e) c.put_head-p.ensures e.pre.1
 
-room2 : (c : tie.After-put-bytes) → c.put-bytes.result + length (text2 (start2 c)) ≤ length c.put-bytes.new.0
+room2 : (c : tie.After-put_bytes-q) → c.put_bytes-q.result + length (text2 (start2 c)) ≤ length c.put_bytes-q.new.0
 room2 c =
     let d = c.before.before.before.before.before in
-    rest (word ": ") (text2 (start2 c)) c.put-bytes.ensures (room1 d)
+    rest (word ": ") (text2 (start2 c)) c.put_bytes-q.ensures (room1 d)
 
-room3 : (c : tie.After-put-verdict) → c.put-verdict.result + 1 ≤ length c.put-verdict.new.0
+room3 : (c : tie.After-put_verdict-e) → c.put_verdict-e.result + 1 ≤ length c.put_verdict-e.new.0
 room3 c =
     let d = c.before.before.before.before in
     let e = start3 c in
     rest (verdict_text (place (record_of e.args.r)) e.args.a) newline (told c) (room2 d)
 
-is-well-formed-requires : tie.Need-is-well-formed-requires
+is-well-formed-requires : tie.Need-is_well_formed-w-requires
 is-well-formed-requires c κs = search rules
 
-place-requires : tie.Need-place-requires
+place-requires : tie.Need-place-k-requires
 place-requires c κs = search rules
 
-put-head-requires : tie.Need-put-head-requires
+put-head-requires : tie.Need-put_head-p-requires
 unfolding line
 put-head-requires c κs =
     let w = c.before.before in
     let e = w.before.before in
-    (w.is-well-formed.ensures, fits e.args.at (head_text (record_of e.args.r)) (text1 e) e.requires.1)
+    (w.is_well_formed-w.ensures, fits e.args.at (head_text (record_of e.args.r)) (text1 e) e.requires.1)
 
-slice-aggregate-put-bytes : tie.Need-slice-aggregate-put-bytes
-slice-aggregate-put-bytes c = search rules
-
-put-bytes-requires : tie.Need-put-bytes-requires
+put-bytes-requires : tie.Need-put_bytes-q-requires
 put-bytes-requires c κs =
     let d = c.before.before.before.before in
     fits _ (word ": ") (text2 (start1 d)) (room1 d)
 
-put-verdict-requires : tie.Need-put-verdict-requires
+put-verdict-requires : tie.Need-put_verdict-e-requires
 put-verdict-requires c κs =
     let d = c.before.before.before in
     let e = start2 d in
@@ -97,10 +94,10 @@ put-verdict-requires c κs =
       ),
     )
 
-put-byte-requires : tie.Need-put-byte-requires
+put-byte-requires : tie.Need-put_byte-requires
 put-byte-requires c κs = byte _ (room3 c.before.before.before)
 
-same_length : tie.Need-same-length
+same_length : tie.Need-shape_of-out
 same_length c = search rules
 
 returns : tie.Need-returns
@@ -110,16 +107,15 @@ returns c =
     let w3 = w4.before.before.before.before in
     let w2 = w3.before.before.before.before in
     let w1 = w2.before.before.before.before.before in
-    then w1.put-head.ensures (then w2.put-bytes.ensures (then (told w3) w4.put_byte.ensures))
+    then w1.before.put_head-p.ensures (then w2.put_bytes-q.ensures (then (told w3) w4.put_byte.ensures))
 
-pub put-line-spec : {M : Type 1} → statement M
-put-line-spec =
+pub put_line_spec : {M : Type 1} → statement M
+put_line_spec =
     tie.close
     (tie.spec
     is-well-formed-requires
     place-requires
     put-head-requires
-    slice-aggregate-put-bytes
     put-bytes-requires
     put-verdict-requires
     put-byte-requires

@@ -12,32 +12,32 @@ use borrow.Author.Rules.{rules}
 use Rattle.telling.proofs.put_raw.Statement.{statement}
 use Rattle.telling.proofs.put_raw.Tie as tie
 
-bytes-requires : tie.Need-bytes-requires
+bytes-requires : tie.Need-bytes-b-requires
 bytes-requires c κs = search rules
 
-put-lead-requires : tie.Need-put-lead-requires
+put-lead-requires : tie.Need-put_lead-p-requires
 unfolding raw_text
 put-lead-requires c κs =
     let e = c.before.before.before in
     (omega arith, fits _ (lead_text no_step) (hexes (record_bytes (record_of e.args.r))) e.requires)
 
-slice-aggregate-put-hexes : tie.Need-slice-aggregate-put-hexes
+slice-aggregate-put-hexes : tie.Need-slice_bounds-put_hexes-end
 slice-aggregate-put-hexes c = search rules
 
-put-hexes-requires : tie.Need-put-hexes-requires
+put-hexes-requires : tie.Need-put_hexes-requires
 unfolding raw_text
 put-hexes-requires c κs =
     let w = c.before.before.before.before in
     let b = w.before.before in
     let e = b.before.before in
-    let q = ap (λ s. length (hexes s)) b.bytes.ensures in
+    let q = ap (λ s. length (hexes s)) b.bytes-b.ensures in
     omega (
       arith,
       q,
-      rest (lead_text no_step) (hexes (record_bytes (record_of e.args.r))) w.put-lead.ensures e.requires,
+      rest (lead_text no_step) (hexes (record_bytes (record_of e.args.r))) w.put_lead-p.ensures e.requires,
     )
 
-same_length : tie.Need-same-length
+same_length : tie.Need-shape_of-out
 same_length c = search rules
 
 returns : tie.Need-returns
@@ -46,10 +46,10 @@ returns c =
     let v = c.before.before in
     let w = v.before.before.before.before.before in
     let b = w.before.before in
-    then w.put-lead.ensures (wrote_as (ap hexes b.bytes.ensures) v.put-hexes.ensures)
+    then w.put_lead-p.ensures (wrote_as (ap hexes b.bytes-b.ensures) v.put_hexes.ensures)
 
-pub put-raw-spec : {M : Type 1} → statement M
-put-raw-spec =
+pub put_raw_spec : {M : Type 1} → statement M
+put_raw_spec =
     tie.close
     (tie.spec
     bytes-requires

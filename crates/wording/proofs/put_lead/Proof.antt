@@ -8,22 +8,22 @@ use borrow.Author.Rules.{rules}
 use Rattle.wording.proofs.put_lead.Statement.{statement}
 use Rattle.wording.proofs.put_lead.Tie as tie
 
-mul-put-piece : tie.Need-overflow-mul-put-piece
+mul-put-piece : tie.Need-overflow_mul-k
 mul-put-piece c = search rules
 
-put-piece-requires : tie.Need-put-piece-requires
+put-piece-requires : tie.Need-put_piece-requires
 put-piece-requires c κs =
     let e = c.before.before in
     (omega (arith, e.requires.0), omega (arith, e.requires.1, ap length (lead-piece e.args.k e.requires.0)))
 
-same_length : tie.Need-same-length
+same_length : tie.Need-shape_of-out
 same_length c = search rules
 
 returns : tie.Need-returns
 returns c =
     let w = c.before.before in
     let e = w.before.before.before in
-    wrote_as (lead-piece e.args.k e.requires.0) w.put-piece.ensures
+    wrote_as (lead-piece e.args.k e.requires.0) w.put_piece.ensures
 
-pub put-lead-spec : {M : Type 1} → statement M
-put-lead-spec = tie.close (tie.spec mul-put-piece put-piece-requires same_length returns)
+pub put_lead_spec : {M : Type 1} → statement M
+put_lead_spec = tie.close (tie.spec mul-put-piece put-piece-requires same_length returns)

@@ -7,41 +7,38 @@ use borrow.Author.Rules.{rules}
 use Rattle.wording.proofs.put_phrase.Statement.{statement}
 use Rattle.wording.proofs.put_phrase.Tie as tie
 
-mul-a : tie.Need-overflow-mul-a
+mul-a : tie.Need-offset_bounds-i
 mul-a c = search rules
 
-array-read-a : tie.Need-array-read-a
+array-read-a : tie.Need-bounds-i
 array-read-a c = search rules
 
-add-e : tie.Need-overflow-add-e
+add-e : tie.Need-overflow_add-e
 add-e c = search rules
 
-mul-e : tie.Need-overflow-mul-e
+mul-e : tie.Need-offset_bounds-i-2
 mul-e c = search rules
 
-array-read-e : tie.Need-array-read-e
+array-read-e : tie.Need-bounds-i-2
 array-read-e c = search rules
 
-slice-aggregate-put-part : tie.Need-slice-aggregate-put-part
-slice-aggregate-put-part c = search rules
-
-put-part-requires : tie.Need-put-part-requires
+put-part-requires : tie.Need-put_part-requires
 put-part-requires c κs =
     let e = c.before.before.before in
     let p = phrase-part e.args.i e.requires.0 in
     (p.low, p.high, omega (arith, e.requires.1, part_length p))
 
-same_length : tie.Need-same-length
+same_length : tie.Need-shape_of-out
 same_length c = search rules
 
 returns : tie.Need-returns
 returns c =
     let w = c.before.before in
     let e = w.before.before.before.before in
-    wrote_as (phrase-part e.args.i e.requires.0).is w.put-part.ensures
+    wrote_as (phrase-part e.args.i e.requires.0).is w.put_part.ensures
 
-pub put-phrase-spec : {M : Type 1} → statement M
-put-phrase-spec =
+pub put_phrase_spec : {M : Type 1} → statement M
+put_phrase_spec =
     tie.close
     (tie.spec
     mul-a
@@ -49,7 +46,6 @@ put-phrase-spec =
     add-e
     mul-e
     array-read-e
-    slice-aggregate-put-part
     put-part-requires
     same_length
     returns)

@@ -12,5 +12,5 @@ either-requires c κs = search rules
 returns : tie.Need-returns
 returns c = cc
 
-pub named-spec : {M : Type 1} → statement M
-named-spec = tie.close (tie.spec choosing-requires either-requires returns)
+pub named_spec : {M : Type 1} → statement M
+named_spec = tie.close (tie.spec choosing-requires either-requires returns)

@@ -3,7 +3,7 @@ use borrow.Author.Rules.{rules}
 use Rattle.cluster.proofs.ranges.reads.Statement.{statement}
 use Rattle.cluster.proofs.ranges.reads.Tie as tie
 
-number-requires : tie.Need-number-requires
+number-requires : tie.Need-number-k-requires
 number-requires c κs = search rules
 
 either-requires : tie.Need-either-requires
@@ -15,5 +15,5 @@ either-requires-2 c κs = search rules
 returns : tie.Need-returns
 returns c = cc
 
-pub reads-spec : {M : Type 1} → statement M
-reads-spec = tie.close (tie.spec number-requires either-requires either-requires-2 returns)
+pub reads_spec : {M : Type 1} → statement M
+reads_spec = tie.close (tie.spec number-requires either-requires either-requires-2 returns)

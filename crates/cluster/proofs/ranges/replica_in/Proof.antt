@@ -10,64 +10,64 @@ use Rattle.cluster.proofs.ranges.replica_in.Tie as tie
 abbrev start : tie.After-counts → tie.Start
 start c = c.before.before.before.before.before.before.before.before.before
 
-sub-i : tie.Need-sub-i
+sub-i : tie.Need-overflow_sub-i
 sub-i c = search rules
 
-cast-i : tie.Need-cast-i
+cast-i : tie.Need-overflow_cast-i
 cast-i c = search rules
 
-mul-n : tie.Need-mul-n
+mul-n : tie.Need-offset_bounds-lens-i
 mul-n c = search rules
 
-array-read-n : tie.Need-array-read-n
+array-read-n : tie.Need-bounds-lens-i
 array-read-n c = search rules
 
-mul-j : tie.Need-mul-j
+mul-j : tie.Need-offset_bounds-joins-i
 mul-j c = search rules
 
-array-read-j : tie.Need-array-read-j
+array-read-j : tie.Need-bounds-joins-i
 array-read-j c = search rules
 
-mul-v : tie.Need-mul-v
+mul-v : tie.Need-offset_bounds-views-i
 mul-v c = search rules
 
-array-copy-out-v : tie.Need-array-copy-out-v
+array-copy-out-v : tie.Need-bounds-views-i
 array-copy-out-v c = search rules
 
-mul-h : tie.Need-mul-h
+mul-h : tie.Need-offset_bounds-heard-i
 mul-h c = search rules
 
-array-read-h : tie.Need-array-read-h
+array-read-h : tie.Need-bounds-heard-i
 array-read-h c = search rules
 
-mul-k : tie.Need-mul-k
+mul-k : tie.Need-offset_bounds-joined-i
 mul-k c = search rules
 
-array-read-k : tie.Need-array-read-k
+array-read-k : tie.Need-bounds-joined-i
 array-read-k c = search rules
 
 counts-requires : tie.Need-counts-requires
 counts-requires c κs = search rules
 
-both-requires : tie.Need-both-requires
+both-requires : tie.Need-both-t5-requires
 both-requires c κs = search rules
 
-both-requires-2 : tie.Need-both-requires-2
+both-requires-2 : tie.Need-both-t4-requires
 both-requires-2 c κs = search rules
 
-both-requires-3 : tie.Need-both-requires-3
+both-requires-3 : tie.Need-both-t3-requires
 both-requires-3 c κs = search rules
 
 epoch-requires : tie.Need-epoch-requires
 epoch-requires c κs = search rules
 
-both-requires-4 : tie.Need-both-requires-4
+both-requires-4 : tie.Need-both-t2-requires
 both-requires-4 c κs = search rules
 
 view-requires : tie.Need-view-requires
 view-requires c κs = search rules
 
-both-requires-5 : tie.Need-both-requires-5
+both-requires-5 : tie.Need-both-requires
 both-requires-5 c κs = search rules
 
 returns : tie.Need-returns
@@ -80,15 +80,15 @@ returns c =
     let row = e.args.row in
     let i = e.args.b - 1 in
     replica-tests row e.args.b e.pre.0 _
-    (and_is c.both5.ensures c.before.view.ensures
-    (and_is t2.both4.ensures t2.before.epoch.ensures
-    (and-rest (leb (get_or row.len i 0) 512) t3.both3.ensures
-    (and-rest (leb (get_or row.controller.heard i 0) 513) t4.both2.ensures
-    (and-rest (leb (get_or row.controller.joined i 0) 4000) t5.both.ensures
+    (and_is c.both.ensures c.before.view.ensures
+    (and_is t2.both-t2.ensures t2.before.epoch.ensures
+    (and-rest (leb (get_or row.len i 0) 512) t3.both-t3.ensures
+    (and-rest (leb (get_or row.controller.heard i 0) 513) t4.both-t4.ensures
+    (and-rest (leb (get_or row.controller.joined i 0) 4000) t5.both-t5.ensures
     t5.before.counts.ensures)))))
 
-pub replica-in-spec : {M : Type 1} → statement M
-replica-in-spec =
+pub replica_in_spec : {M : Type 1} → statement M
+replica_in_spec =
     tie.close
     (tie.spec
     sub-i

@@ -8,16 +8,16 @@ use Rattle.hub.proofs.Lending.{lends, hear-told}
 use Rattle.hub.proofs.copied.hear.Statement.{statement}
 use Rattle.hub.proofs.copied.hear.Tie as tie
 
-report-requires : tie.Need-report-requires
+report-requires : tie.Need-report-ok-requires
 report-requires c κs = search rules
 
-length-requires : tie.Need-length-requires
+length-requires : tie.Need-length-l-requires
 length-requires c κs = search rules
 
-hear-requires : tie.Need-hear-requires
+hear-requires : tie.Need-hear-a-requires
 hear-requires c κs = search rules
 
-check-requires : tie.Need-check-requires
+check-requires : tie.Need-check-n-requires
 check-requires c κs = search rules
 
 ended-requires : tie.Need-ended-requires
@@ -26,15 +26,15 @@ ended-requires c κs = search rules
 returns : tie.Need-returns
 returns c =
     let a = c.before.before.before.before.before.before.args in
-    let ok = c.before.before.before.before.before.report.ensures in
-    let l = c.before.before.before.before.length.ensures in
+    let ok = c.before.before.before.before.before.report-ok.ensures in
+    let l = c.before.before.before.before.length-l.ensures in
     lends (hear a.x.board) (λ s. refl) (λ m. refl) a.c
     (HearKnown a.x.board a.x.epoch a.x.joined _) _ _
-    c.before.before.before.hear.ensures refl (report_fits a.c a.x) (Reported a.x)
-    (hear-told a.c a.x _ l.1) _ (c.before.check.ensures ∙ rw ok) _ c.ended.ensures.0
+    c.before.before.before.hear-a.ensures refl (report_fits a.c a.x) (Reported a.x)
+    (hear-told a.c a.x _ l.1) _ (c.before.check-n.ensures ∙ rw ok) _ c.ended.ensures.0
     c.ended.ensures.1 c.ended.ensures.2
 
-pub hear-spec : {M : Type 1} → statement M
-hear-spec =
+pub hear_spec : {M : Type 1} → statement M
+hear_spec =
     tie.close
     (tie.spec report-requires length-requires hear-requires check-requires ended-requires returns)

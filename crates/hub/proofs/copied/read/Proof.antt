@@ -8,16 +8,16 @@ use Rattle.hub.proofs.Lending.{lends, read_told}
 use Rattle.hub.proofs.copied.read.Statement.{statement}
 use Rattle.hub.proofs.copied.read.Tie as tie
 
-report-requires : tie.Need-report-requires
+report-requires : tie.Need-report-ok-requires
 report-requires c κs = search rules
 
-length-requires : tie.Need-length-requires
+length-requires : tie.Need-length-l-requires
 length-requires c κs = search rules
 
-read-requires : tie.Need-read-requires
+read-requires : tie.Need-read-a-requires
 read-requires c κs = search rules
 
-check-requires : tie.Need-check-requires
+check-requires : tie.Need-check-n-requires
 check-requires c κs = search rules
 
 ended-requires : tie.Need-ended-requires
@@ -26,11 +26,11 @@ ended-requires c κs = search rules
 returns : tie.Need-returns
 returns c =
     let a = c.before.before.before.before.before.before.args in
-    let ok = c.before.before.before.before.before.report.ensures in
-    let l = c.before.before.before.before.length.ensures in
+    let ok = c.before.before.before.before.before.report-ok.ensures in
+    let l = c.before.before.before.before.length-l.ensures in
     lends (read a.x.board) (λ s. refl) (λ m. refl) a.c (ReadKnown a.x.board a.x.joined _) _ _
-    c.before.before.before.read.ensures refl (report_fits a.c a.x) (Reported a.x)
-    (read_told a.c a.x _ l.1) _ (c.before.check.ensures ∙ rw ok) _ c.ended.ensures.0
+    c.before.before.before.read-a.ensures refl (report_fits a.c a.x) (Reported a.x)
+    (read_told a.c a.x _ l.1) _ (c.before.check-n.ensures ∙ rw ok) _ c.ended.ensures.0
     c.ended.ensures.1 c.ended.ensures.2
 
 pub read_spec : {M : Type 1} → statement M

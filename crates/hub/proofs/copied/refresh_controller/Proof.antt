@@ -9,13 +9,13 @@ use Rattle.hub.proofs.Lending.{lends}
 use Rattle.hub.proofs.copied.refresh_controller.Statement.{statement}
 use Rattle.hub.proofs.copied.refresh_controller.Tie as tie
 
-news-requires : tie.Need-news-requires
+news-requires : tie.Need-news-ok-requires
 news-requires c κs = search rules
 
-refresh-controller-requires : tie.Need-refresh-controller-requires
+refresh-controller-requires : tie.Need-refresh_controller-a-requires
 refresh-controller-requires c κs = search rules
 
-check-requires : tie.Need-check-requires
+check-requires : tie.Need-check-n-requires
 check-requires c κs = search rules
 
 ended-requires : tie.Need-ended-requires
@@ -24,14 +24,14 @@ ended-requires c κs = search rules
 returns : tie.Need-returns
 returns c =
     let a = c.before.before.before.before.before.args in
-    let ok = c.before.before.before.before.news.ensures in
+    let ok = c.before.before.before.before.news-ok.ensures in
     lends refreshController (λ s. refl) (λ m. refl) a.c (λ s. s.registry ≡ registry_of a.g) _ _
-    c.before.before.before.refresh-controller.ensures refl (registry_fits a.g && controller_fits a.c)
+    c.before.before.before.refresh_controller-a.ensures refl (registry_fits a.g && controller_fits a.c)
     (λ s. s.registry ≡ registry_of a.g)
-    (λ s t k. k) _ (c.before.check.ensures ∙ rw ok) _ c.ended.ensures.0
+    (λ s t k. k) _ (c.before.check-n.ensures ∙ rw ok) _ c.ended.ensures.0
     c.ended.ensures.1 c.ended.ensures.2
 
-pub refresh-controller-spec : {M : Type 1} → statement M
-refresh-controller-spec =
+pub refresh_controller_spec : {M : Type 1} → statement M
+refresh_controller_spec =
     tie.close
     (tie.spec news-requires refresh-controller-requires check-requires ended-requires returns)

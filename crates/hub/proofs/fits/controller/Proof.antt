@@ -11,27 +11,27 @@ reads-requires c κs = search rules
 hearings-requires : tie.Need-hearings-requires
 hearings-requires c κs = search rules
 
-both-requires : tie.Need-both-requires
+both-requires : tie.Need-both-t-requires
 both-requires c κs = search rules
 
 view-requires : tie.Need-view-requires
 view-requires c κs = search rules
 
-both-requires-2 : tie.Need-both-requires-2
+both-requires-2 : tie.Need-both-requires
 both-requires-2 c κs = search rules
 
 returns : tie.Need-returns
 returns c =
-    c.both2.ensures
+    c.both.ensures
     ∙ rw (
       c.before.view.ensures,
-      c.before.before.both.ensures,
+      c.before.before.both-t.ensures,
       c.before.before.before.before.reads.ensures,
       c.before.before.before.hearings.ensures,
     )
     (controller-fits c.before.before.before.before.before.before.before.before.args.c)
 
-pub controller-spec : {M : Type 1} → statement M
-controller-spec =
+pub controller_spec : {M : Type 1} → statement M
+controller_spec =
     tie.close
     (tie.spec reads-requires hearings-requires both-requires view-requires both-requires-2 returns)

@@ -14,59 +14,59 @@ use Rattle.cluster.proofs.Ranging.{rest, rest-none, rest_more, rest_all}
 use Rattle.hub.proofs.fits.hearings.Statement.{statement}
 use Rattle.hub.proofs.fits.hearings.Tie as tie
 
-abbrev invariant-loop : tie.invariant-loop
+abbrev invariant-loop : tie.invariant-loop-b
 invariant-loop heard joined ok₀ b₀ ok b =
     (b ≤ 8) × (ok ≡ rest (λ x. every (leb (at 0 heard x) 513 ∷ leb (at 0 joined x) 4000 ∷ [])) b)
 
-abbrev decreases-loop : tie.decreases-loop
+abbrev decreases-loop : tie.decreases-loop-b
 decreases-loop heard joined ok₀ b₀ ok b = b
 
-loop-holds : tie.Need-loop-init invariant-loop decreases-loop
+loop-holds : tie.Need-loop-b-init invariant-loop decreases-loop
 loop-holds c = (search rules, rest-none _)
 
-sub-i : tie.Need-overflow-sub-i invariant-loop decreases-loop
+sub-i : tie.Need-overflow_sub-i invariant-loop decreases-loop
 sub-i c = search rules
 
-mul-n : tie.Need-overflow-mul-n invariant-loop decreases-loop
+mul-n : tie.Need-offset_bounds-heard-i invariant-loop decreases-loop
 mul-n c = search rules
 
-array-read-n : tie.Need-array-read-n invariant-loop decreases-loop
+array-read-n : tie.Need-bounds-heard-i invariant-loop decreases-loop
 array-read-n c = search rules
 
-mul-j : tie.Need-overflow-mul-j invariant-loop decreases-loop
+mul-j : tie.Need-offset_bounds-joined-i invariant-loop decreases-loop
 mul-j c = search rules
 
-array-read-j : tie.Need-array-read-j invariant-loop decreases-loop
+array-read-j : tie.Need-bounds-joined-i invariant-loop decreases-loop
 array-read-j c = search rules
 
-both-requires : tie.Need-both-requires invariant-loop decreases-loop
+both-requires : tie.Need-both-t-requires invariant-loop decreases-loop
 both-requires c κs = search rules
 
-both-requires-2 : tie.Need-both-requires-2 invariant-loop decreases-loop
+both-requires-2 : tie.Need-both-ok-requires invariant-loop decreases-loop
 both-requires-2 c κs = search rules
 
-sub-b : tie.Need-overflow-sub-b invariant-loop decreases-loop
+sub-b : tie.Need-overflow_sub-b invariant-loop decreases-loop
 sub-b c = search rules
 
-loop-less : tie.Need-loop-smaller invariant-loop decreases-loop
+loop-less : tie.Need-loop-b-smaller invariant-loop decreases-loop
 loop-less c = search rules
 
-loop-again : tie.Need-loop-preserved invariant-loop decreases-loop
+loop-again : tie.Need-loop-b-preserved invariant-loop decreases-loop
 loop-again c =
     let a = c.before.before.before.before.args in
-    let l = c.before.before.before.loop in
+    let l = c.before.before.before.loop-b in
     let h = at-index 0 a.t1 l.b (search rules) in
     let j = at-index 0 a.t2 l.b (search rules) in (
       search rules,
       rest_more _ l.b _ l.invariant.1 _ (search rules) (search rules)
-          (c.both2.ensures ∙ rw (c.before.both.ensures, h, j, and-true (leb (get_or a.t2 (l.b - 1) 0) 4000))),
+          (c.both-ok.ensures ∙ rw (c.before.both-t.ensures, h, j, and-true (leb (get_or a.t2 (l.b - 1) 0) 4000))),
     )
 
 returns : tie.Need-returns invariant-loop decreases-loop
-returns c = rest_all _ _ _ c.before.loop.invariant.1 c.loop-test.false
+returns c = rest_all _ _ _ c.before.loop-b.invariant.1 c.loop-b-test.false
 
-pub hearings-spec : {M : Type 1} → statement M
-hearings-spec =
+pub hearings_spec : {M : Type 1} → statement M
+hearings_spec =
     tie.close
     (tie.spec
     invariant-loop

@@ -4,10 +4,10 @@ use borrow.Author.Rules.{rules}
 use Rattle.hub.proofs.fits.leader.Statement.{statement}
 use Rattle.hub.proofs.fits.leader.Tie as tie
 
-number-requires : tie.Need-number-requires
+number-requires : tie.Need-number-k-requires
 number-requires c κs = search rules
 
-either-requires : tie.Need-either-requires
+either-requires : tie.Need-either-t-requires
 either-requires c κs = search rules
 
 report-requires : tie.Need-report-requires
@@ -20,10 +20,10 @@ returns : tie.Need-returns
 returns c =
     c.both.ensures ∙ rw (
       c.before.report.ensures,
-      c.before.before.either.ensures,
-      c.before.before.before.before.before.number.ensures,
+      c.before.before.either-t.ensures,
+      c.before.before.before.before.before.number-k.ensures,
     ) refl
 
-pub leader-spec : {M : Type 1} → statement M
-leader-spec =
+pub leader_spec : {M : Type 1} → statement M
+leader_spec =
     tie.close (tie.spec number-requires either-requires report-requires both-requires returns)

@@ -16,5 +16,5 @@ both-requires c κs = search rules
 returns : tie.Need-returns
 returns c = c.both.ensures ∙ rw (c.before.before.registry.ensures, c.before.controller.ensures)
 
-pub news-spec : {M : Type 1} → statement M
-news-spec = tie.close (tie.spec registry-requires controller-requires both-requires returns)
+pub news_spec : {M : Type 1} → statement M
+news_spec = tie.close (tie.spec registry-requires controller-requires both-requires returns)

@@ -19,5 +19,5 @@ returns c =
     c.both.ensures ∙ rw (c.before.before.view.ensures, c.before.named.ensures)
     (registry-fits c.before.before.before.before.args.g)
 
-pub registry-spec : {M : Type 1} → statement M
-registry-spec = tie.close (tie.spec view-requires named-requires both-requires returns)
+pub registry_spec : {M : Type 1} → statement M
+registry_spec = tie.close (tie.spec view-requires named-requires both-requires returns)

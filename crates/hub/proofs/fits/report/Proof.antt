@@ -16,5 +16,5 @@ both-requires c κs = search rules
 returns : tie.Need-returns
 returns c = c.both.ensures ∙ rw (c.before.before.controller.ensures, c.before.tells.ensures)
 
-pub report-spec : {M : Type 1} → statement M
-report-spec = tie.close (tie.spec controller-requires tells-requires both-requires returns)
+pub report_spec : {M : Type 1} → statement M
+report_spec = tie.close (tie.spec controller-requires tells-requires both-requires returns)
