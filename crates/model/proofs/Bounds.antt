@@ -318,8 +318,9 @@ module _ (𝓔 : Entries) where
 
   pub run-bounds : {L : ℕ → ℕ} {s : State Entry} → Inv L s → Bounds s → (sts : List Step) → Bounds (run 𝓔 s sts)
   unfolding run
-  run-bounds i k [] = k
-  run-bounds i k (st ∷ sts) = run-bounds (step_keeps 𝓔 i st).inv (step-bounds i k st) sts
+  run-bounds {L = L} {s = s} i k [] = k
+  run-bounds {L = L} {s = s} i k (st ∷ sts) =
+      run-bounds {L = (step_keeps 𝓔 i st).history} (step_keeps 𝓔 i st).inv (step-bounds i k st) sts
 
   pub in-range : (o : Opening) → T (can_open o) → (sts : List Step) → T (in_range (outline (after 𝓔 o sts)))
   in-range o real sts =

@@ -111,9 +111,9 @@ module _ (𝓔 : Entries) (P : 𝓔.Entry → Type 0) (Q : ℕ → Type 0)
   run-made : {L : ℕ → ℕ} {s : State Entry} → Inv L s → Bounds s → Kept P s
       → (sts : List Step) → All (λ st. Brings Q (writes st)) sts → Kept P (run 𝓔 s sts)
   unfolding run
-  run-made i k m [] w = m
-  run-made i k m (st ∷ sts) w =
-      run-made (step_keeps 𝓔 i st).inv (step-bounds 𝓔 i k st) (step-made i k m st w.0) sts w.1
+  run-made {L = L} {s = s} i k m [] w = m
+  run-made {L = L} {s = s} i k m (st ∷ sts) w =
+      run-made {L = (step_keeps 𝓔 i st).history} (step_keeps 𝓔 i st).inv (step-bounds 𝓔 i k st) (step-made i k m st w.0) sts w.1
 
   pub all_made : (o : Opening) → T (can_open o) → (sts : List Step) → All (λ st. Brings Q (writes st)) sts
       → Kept P (after 𝓔 o sts)

@@ -120,10 +120,10 @@ module _ (𝓔 : Entries) where
 
   pub run-keeps : {L : ℕ → ℕ} {s : State Entry} → Inv L s → (sts : List Step) → Later L s (run 𝓔 s sts)
   unfolding run
-  run-keeps {s} i [] = later i (omega arith)
-  run-keeps {s} i (st ∷ sts) =
+  run-keeps {L = L} {s = s} i [] = later i (omega arith)
+  run-keeps {L = L} {s = s} i (st ∷ sts) =
       let k = step_keeps i st in
-      let m = run-keeps k.inv sts in
+      let m = run-keeps {L = k.history} k.inv sts in
       record {
         history = m.history;
         inv = m.inv;
