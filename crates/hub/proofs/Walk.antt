@@ -158,7 +158,7 @@ module _ (G : Declared) (GL : LL.Laws G) (GP : Plains (fields G)) (GC : LL.Copya
         abbrev passed : Cited.Ghost
         passed = ((tt, tt, tt, (h, (n, tt)), (mach h ∷ [], (mach_g n ∷ [], tt))), tt)
 
-        goes : Is Ctl.the_row h (mach h ∷ []) → ent 𝓤 (sem 𝓛 ftrue) (Cited.pre passed)
+        goes : Is Ctl.the_row h (mach h ∷ []) → ent 𝓤 (sem 𝓛 ftrue) (Cited.requires passed)
         goes is =
             qed 𝓛 (‵ ftrue ∷ []) ∵ nothing ! $ owned ! (row G) (Is (row G)) ((LL.makes G GP) 𝓛) n _ n-is $ fjoin ! $
             owned ! Ctl.the_row (Is Ctl.the_row) ((LL.makes Ctl.the_type Ctl'.the_plain) 𝓛) h _ is $ fjoin
@@ -220,7 +220,7 @@ module _ (G : Declared) (GL : LL.Laws G) (GP : Plains (fields G)) (GC : LL.Copya
                 (from ! (stop !))
                 (init ! 7 refl ((LL.lawful Ctl.the_type Ctl'.the_laws 𝓛).typed h _ g).0) $
                 -- [true; the cell; own; the open borrow; obs; auth; n's; _4; ..]
-                move ! (5 ∷ []) $ use1 𝓛 (raw (Cited.pre passed)) (goes g) $
+                move ! (5 ∷ []) $ use1 𝓛 (raw (Cited.requires passed)) (goes g) $
                 calls_at ! fm Cited known passed
                 (and_then ! (load ! (from ! (stop !)) (look ! 7 refl))
                 (and_then ! (load ! (from ! (stop !)) (look ! 11 refl)) (no_more !))) (λ w.

@@ -178,7 +178,7 @@ module _ (G : Declared) (GL : LL.Laws G) (GP : Plains (fields G)) (GC : LL.Copya
           abbrev passed : Cited.Ghost
           passed = (((α ∷ [], tt), (full_share, tt), tt, arg, (vptr b 0 ∷ [], (mach_g n ∷ [], tt))), tt)
 
-          goes : ent 𝓤 (sep 𝓤 (A.lft (α ∷ []) full_share) (mean 𝓛 ref)) (Cited.pre passed)
+          goes : ent 𝓤 (sep 𝓤 (A.lft (α ∷ []) full_share) (mean 𝓛 ref)) (Cited.requires passed)
           goes =
               qed 𝓛 (‵ (flft (α ∷ []) full_share) ∷ ref ∷ []) ∵ nothing ! $ move ! (1 ∷ 0 ∷ []) $ join ! $
               nothing ! $ owned ! (row G) (Is (row G)) (LL.makes G GP 𝓛) n _ n-is $ fjoin ! $
@@ -235,7 +235,7 @@ module _ (G : Declared) (GL : LL.Laws G) (GP : Plains (fields G)) (GC : LL.Copya
               lft_new ! tt (λ α. move ! (1 ∷ []) $
               use1 𝓛 (later (some (λ (δ : GName). ref α l₃ δ ⊛ aside α l₃ δ)))
               (lends_ref 𝓛 Ctl.the_row (named 0) (α ∷ []) h l₃ 0) $ await ! tt $ pick ! (λ δ. split ! $
-              move ! (2 ∷ 0 ∷ []) $ use2 𝓛 (raw (Cited.pre (passed α l₃ δ))) (goes α l₃ δ) $
+              move ! (2 ∷ 0 ∷ []) $ use2 𝓛 (raw (Cited.requires (passed α l₃ δ))) (goes α l₃ δ) $
               -- [what the call asks; what the lender keeps; _6; …; _5; …; _4; …; the end of _3; _2; …; _1; …; ..]
               calls_at ! fm Cited known (passed α l₃ δ) (and_then ! (load ! (from ! (stop !)) (look ! 4 refl))
               (and_then ! (load ! (from ! (stop !)) (look ! 9 refl)) (no_more !))) (λ w.

@@ -12,7 +12,7 @@ use borrow.Author.Tests.{ne_eqb}
 use Rattle.model.specs.Prelude.{upd}
 use Rattle.model.specs.Members.{is_replica, size}
 use Rattle.model.specs.State.{outline, Entries, View, Status, normal, waiting, Stage, Registry, Controller, State, Opening, can_open, opened, is_choosing, stage_number, stage_for, zeros}
-use Rattle.model.specs.Steps.{Step, append, commit, add, remove, change_leader, refresh, join, receive, acknowledge, refreshController, read_leader, read, set_normal, hear, install, malformed, checks, next, accepted, step, heard_of, succeeded, vacated}
+use Rattle.model.specs.Steps.{Step, append, commit, add, remove, change_leader, refresh, join, receive, acknowledge, refresh_controller, read_leader, read, set_normal, hear, install, malformed, checks, next, accepted, step, heard_of, succeeded, vacated}
 use Rattle.model.specs.Runs.{run}
 use Rattle.model.specs.Claim.{after}
 use Rattle.model.specs.Ranges.{in_range}
@@ -237,7 +237,7 @@ module _ (𝓔 : Entries) where
             k.logs.acked;
       };
     }
-    bounds-keep refreshController h = record {
+    bounds-keep refresh_controller h = record {
       registry = k.registry;
       replicas = k.replicas;
       logs = k.logs;

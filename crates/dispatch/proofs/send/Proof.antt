@@ -5,7 +5,7 @@ use Prim.Native.Nat.{ℕ}
 use native.Mathlib.Omega.{arith}
 use lib.Dec.{eqb, eqb→eq}
 use borrow.Author.Rules.{rules}
-use Rattle.model.specs.Steps.{append, commit, add, remove, change_leader, refresh, join, receive, acknowledge, refreshController, read_leader, read, set_normal, hear, install}
+use Rattle.model.specs.Steps.{append, commit, add, remove, change_leader, refresh, join, receive, acknowledge, refresh_controller, read_leader, read, set_normal, hear, install}
 use Rattle.model.proofs.Tests.{by-test, ne-fact}
 use Rattle.records.specs.Record.{record_of}
 use Rattle.refinement.specs.Refinement.{Places, lent}
@@ -175,7 +175,7 @@ returns-2 c =
     let d = appended c in
     let z = d.before.before.before.before.before.before.before in
     let a = (start z).args in
-    let p = (start z).pre in
+    let p = (start z).requires in
     rw d.before.before.before.before.before.before.in-1.keys2
     (sends-kept (by-board _ (places z) _ _ (λ b. append b a.r.value) a.r.board a.r.other a.r.spare 0 _
     d.before.before.before.before.before.board-b.ensures (λ m. refl)
@@ -191,7 +191,7 @@ returns-3 c =
     rw c.before.before.before.in-5.keys3
     (sends-kept (alone-taken _ (places z) _ _ change_leader a.r.board a.r.other a.r.spare a.r.value
     c.before.before.bare.ensures c.before.if-bare.true
-    (c.change-s.ensures a.t3 a.joined.now a.len.now p.0.short a.acked.now a.issued (places z)
+    (c.change-s.ensures a.views a.joined.now a.len.now p.0.short a.acked.now a.issued (places z)
     p.0.issued p.1)))
 
 returns-4 : tie.Need-returns-else-bare
@@ -236,7 +236,7 @@ returns-6 c =
     rw c.before.before.in-12.keys5
     (sends-kept (by-board _ (places z) _ _ read a.r.board a.r.other a.r.spare a.r.value _
     c.before.board-b-in-12.ensures (λ m. refl) (λ m. refl)
-    (c.read-s.ensures a.t3 a.acked.now a.issued (places z) p.0.issued p.1)))
+    (c.read-s.ensures a.views a.acked.now a.issued (places z) p.0.issued p.1)))
 
 returns-7 : tie.Need-returns-then-bare-2
 returns-7 c =
@@ -246,7 +246,7 @@ returns-7 c =
     rw c.before.before.before.in-13.keys6
     (sends-kept (alone-taken _ (places z) _ _ set_normal a.r.board a.r.other a.r.spare a.r.value
     c.before.before.bare-in-13.ensures c.before.if-bare-2.true
-    (c.set_normal-s.ensures a.t3 a.joined.now a.len.now p.0.short a.acked.now a.issued
+    (c.set_normal-s.ensures a.views a.joined.now a.len.now p.0.short a.acked.now a.issued
     (places z) p.0.issued p.1)))
 
 returns-8 : tie.Need-returns-else-bare-2
@@ -294,7 +294,7 @@ returns-10 c =
     rw c.before.if-step-eq3.true (sends-kept
     (by-board _ (places z) _ _ add a.r.board a.r.other a.r.spare a.r.value _
     c.before.before.before.board-b-in-2-to-4.ensures (λ m. refl) (λ m. refl)
-    (c.add-s.ensures a.t3 a.joined.now a.len.now p.0.short a.acked.now a.issued (places z)
+    (c.add-s.ensures a.views a.joined.now a.len.now p.0.short a.acked.now a.issued (places z)
     p.0.issued p.1)))
 
 returns-11 : tie.Need-returns-else-step-eq3
@@ -305,7 +305,7 @@ returns-11 c =
     rw (four c.before) (sends-kept
     (by-board _ (places z) _ _ remove a.r.board a.r.other a.r.spare a.r.value _
     c.before.before.before.board-b-in-2-to-4.ensures (λ m. refl) (λ m. refl)
-    (c.remove-s.ensures a.t3 a.joined.now a.len.now p.0.short a.acked.now a.issued (places z)
+    (c.remove-s.ensures a.views a.joined.now a.len.now p.0.short a.acked.now a.issued (places z)
     p.0.issued p.1)))
 
 same-length-16 : tie.Need-shape_of-joined-then-step-eq6
@@ -322,7 +322,7 @@ returns-12 c =
     let d = refreshed c in
     let z = d.before.before.before.before.before.before.before.before.before.before in
     let a = (start z).args in
-    let p = (start z).pre in
+    let p = (start z).requires in
     rw d.before.before.before.before.if-step-eq6.taken (record {
       place = d.refresh-x.ensures.0;
       leaves =
@@ -350,7 +350,7 @@ returns-13 c =
     let d = joined c in
     let z = d.before.before.before.before.before.before.before.before.before.before.before in
     let a = (start z).args in
-    let p = (start z).pre in
+    let p = (start z).requires in
     rw d.before.before.before.if-step-eq7.taken
     (sends-kept (by-board _ (places z) _ _ join
     a.r.board a.r.other a.r.spare a.r.value _
@@ -376,7 +376,7 @@ returns-14 c =
     let d = received c in
     let z = d.before.before.before.before.before.before.before.before.before.before.before in
     let a = (start z).args in
-    let p = (start z).pre in
+    let p = (start z).requires in
     rw (eight d.before.before.before.before.before)
     (sends-kept (by-board _ (places z) _ _ receive a.r.board a.r.other a.r.spare a.r.value _
     d.before.before.before.before.before.before.board-b-in-6-to-8.ensures (λ m. refl)
@@ -390,9 +390,9 @@ returns-15 c =
     let a = (start z).args in
     let p = (start z).requires in
     rw c.before.if-step-eq10.true (sends-kept
-    (alone-taken _ (places z) _ _ refreshController a.r.board a.r.other a.r.spare a.r.value
+    (alone-taken _ (places z) _ _ refresh_controller a.r.board a.r.other a.r.spare a.r.value
     c.before.before.before.bare-in-10-to-11.ensures c.before.before.if-bare-3.true
-    (c.refresh_controller-s.ensures a.t3 a.joined.now a.len.now p.0.short a.acked.now a.issued
+    (c.refresh_controller-s.ensures a.views a.joined.now a.len.now p.0.short a.acked.now a.issued
     (places z) p.0.issued p.1)))
 
 same-length-27 : tie.Need-shape_of-len-else-step-eq10
@@ -416,7 +416,7 @@ returns-17 c =
     let n = number z in
     by-test (eqb n 10)
     (λ t. rw (eqb→eq n 10 t) (sends-kept
-    (alone-refused _ (places z) _ _ refreshController a.r.board a.r.other a.r.spare a.r.value
+    (alone-refused _ (places z) _ _ refresh_controller a.r.board a.r.other a.r.spare a.r.value
     c.before.bare-in-10-to-11.ensures c.if-bare-3.false (malformed-leaves _ p.0 (places z) p.1))))
     (λ t. rw (eleven c.before.before (ne-fact n 10 t))
     (sends-kept (alone-refused _ (places z) _ _ read_leader a.r.board a.r.other a.r.spare a.r.value
@@ -446,7 +446,7 @@ returns-19 c =
     rw (fifteen c.before) (sends-kept
     (by-board _ (places z) _ _ install a.r.board a.r.other a.r.spare a.r.value _
     c.before.before.board-b-in-14-to-15.ensures (λ m. refl) (λ m. refl)
-    (c.install-s.ensures a.t3 a.joined.now a.len.now p.0.short a.acked.now a.issued (places z)
+    (c.install-s.ensures a.views a.joined.now a.len.now p.0.short a.acked.now a.issued (places z)
     p.0.issued p.1)))
 
 returns-20 : tie.Need-returns-else-step-lt16

@@ -13,7 +13,7 @@ use Rattle.guiding.proofs.plan_sheet.Tie as tie
 
 -- Refusal 2 let the sheet through.
 passed : (c : tie.Else-not-is_sheet) → is_sheet c.before.before.before.before.args.sheet.now ≡ true
-passed c = sym c.before.is_sheet.ensures ∙ not-false _ c.if-not-is_sheet.false
+passed c = sym c.before.is_sheet.ensures ∙ c.if-not-is_sheet.false
 
 -- The lengths that the row's type fixes.
 shape : (c : tie.After-play-row) → Shape c.play-row.result
@@ -33,7 +33,7 @@ is-sheet-requires c κs = search rules
 returns : tie.Need-returns-then-not-is_sheet
 returns c =
     let s = c.before.before.before.before in
-    no-sheet s.args.sheet.now s.args.out.now (sym c.before.is_sheet.ensures ∙ not-true _ c.if-not-is_sheet.true)
+    no-sheet s.args.sheet.now s.args.out.now (sym c.before.is_sheet.ensures ∙ c.if-not-is_sheet.true)
 
 returns-2 : tie.Need-returns-then-out-lt16512
 returns-2 c =

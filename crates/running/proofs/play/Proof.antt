@@ -53,8 +53,8 @@ walk-requires : tie.Need-walk-x-requires
 walk-requires c κs =
     let b = begun c.before.before.before.before.before.before in
     let e = start b in
-    let ran = ran-none e.args.sheet.now b.begin-row.result b.begin-row.ensures _ e.pre.1 in
-    (e.pre.0, shape b, ran e.args.answers.now e.args.sets.now e.pre.2 e.pre.3)
+    let ran = ran-none e.args.sheet.now b.begin-row.result b.begin-row.ensures _ e.requires.1 in
+    (e.requires.0, shape b, ran e.args.answers.now e.args.sets.now e.requires.2 e.requires.3)
 
 same_length : tie.Need-shape_of-store
 same_length c = search rules

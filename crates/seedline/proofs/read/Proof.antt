@@ -110,7 +110,7 @@ same-requires c κs = search rules
 
 -- What stands aside is the line of what was read.
 aside : (c : tie.After-put_line-k) → let r = second (tested c) in
-    take c.put_line-k.result c.put_line-k.new.0
+    take c.put_line-k.result c.put_line-k.new.out
     ≡ seed_line (first r).number_at-a.result.value r.number-at2.result.value
 aside c = read_back c.put_line-k.ensures (short c)
 
@@ -131,7 +131,7 @@ returns-7 c =
     let w = written c.before in
     let t = tested w in
     record {
-      line = c.before.same.ensures.0 (of-true {t = c.before.same.result} (not-false _ c.if-not-same.false)) ∙ aside w;
+      line = c.before.same.ensures.0 (of-true {t = c.before.same.result} (c.if-not-same.false)) ∙ aside w;
       seed = omega (arith, t.before.before.if-s-gt4294967295.left);
       count = is-count (second t).number_at-b.result.value t.before.if-n-lt1.left t.if-n-gt4095.left;
     }

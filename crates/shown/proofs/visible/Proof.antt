@@ -21,7 +21,7 @@ abbrev start : tie.Else-not-fits → tie.Start
 start c = c.before.before.before.before.before.before
 
 passed : (c : tie.Else-not-fits) → valid (start c).args.t1 (places (start c)) ≡ true
-passed c = sym c.before.fits.ensures.0 ∙ not-false _ c.if-not-fits.false
+passed c = sym c.before.fits.ensures.0 ∙ c.if-not-fits.false
 
 fits-requires : tie.Need-fits-requires
 fits-requires c κs = search rules
@@ -38,8 +38,8 @@ part-result-end c = search rules
 returns : tie.Need-returns-then-not-fits
 returns c =
     let s = c.before.before.before.before.before.before.before in
-    let e = sym c.before.before.fits.ensures.0 ∙ not-true _ c.before.if-not-fits.true in
-    (rw e, rw e (from_start 4 s.args.list.ptr))
+    let e = sym c.before.before.fits.ensures.0 ∙ c.before.if-not-fits.true in
+    (rw e, rw e (from_start 4 s.args.list.ref_ptr))
 
 seat-requires : tie.Need-seat-l-requires
 seat-requires c κs = search rules

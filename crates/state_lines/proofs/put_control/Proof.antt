@@ -33,7 +33,7 @@ unfolding control_line
 put-view-requires c κs =
     let a = c.before.before.before in
     let e = start a in
-    view-fits head (view e) (last e) a.put_bytes-a.ensures e.pre
+    view-fits head (view e) (last e) a.put_bytes-a.ensures e.requires
 
 put-stage-requires : tie.Need-put_stage-requires
 unfolding control_line
@@ -41,7 +41,7 @@ put-stage-requires c κs =
     let b = c.before.before.before in
     let a = b.before.before.before.before in
     let e = start a in
-    end_fits head (view e) (last e) a.put_bytes-a.ensures b.put_view-b.ensures e.pre
+    end_fits head (view e) (last e) a.put_bytes-a.ensures b.put_view-b.ensures e.requires
 
 returns : tie.Need-returns
 unfolding control_line

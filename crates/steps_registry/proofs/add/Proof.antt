@@ -5,7 +5,7 @@ use Rattle.cluster.proofs.Steps.{rules}
 use Rattle.steps_registry.specs.Checks.{add_checks}
 use Rattle.steps_registry.proofs.Answers.{add-answer}
 use Rattle.steps_registry.proofs.Afters.{add-after}
-use borrow.Author.Rules.{rules}
+use borrow.Author.Rules.{rules as search_rules}
 use Rattle.steps_registry.proofs.add.Statement.{statement}
 use Rattle.steps_registry.proofs.add.Tie as tie
 
@@ -17,10 +17,10 @@ abbrev own : tie.After-may_add-n → tie.After-seat-k
 own c = c.before
 
 seat-requires : tie.Need-seat-k-requires
-seat-requires c κs = search rules
+seat-requires c κs = search search_rules
 
 may-add-requires : tie.Need-may_add-n-requires
-may-add-requires c κs = search rules
+may-add-requires c κs = search search_rules
 
 returns : tie.Need-returns-then-n-ne0
 returns c =
@@ -31,10 +31,10 @@ returns c =
     d.may_add-n.ensures refl (λ _. refl) (λ z. absurd (c.if-n-ne0.taken z))
 
 raised-requires : tie.Need-raised-e-requires
-raised-requires c κs = search rules
+raised-requires c κs = search search_rules
 
 insert-requires : tie.Need-insert-m-requires
-insert-requires c κs = search rules
+insert-requires c κs = search search_rules
 
 returns-2 : tie.Need-returns
 returns-2 c =

@@ -5,7 +5,7 @@ use Rattle.cluster.proofs.Steps.{rules}
 use Rattle.steps_registry.specs.Checks.{change_checks}
 use Rattle.steps_registry.proofs.Answers.{change-answer}
 use Rattle.steps_registry.proofs.Afters.{change-after}
-use borrow.Author.Rules.{rules}
+use borrow.Author.Rules.{rules as search_rules}
 use Rattle.steps_registry.proofs.change.Statement.{statement}
 use Rattle.steps_registry.proofs.change.Tie as tie
 
@@ -14,7 +14,7 @@ abbrev entry : tie.After-may_change-n → tie.Start
 entry c = c.before.before
 
 may-change-requires : tie.Need-may_change-n-requires
-may-change-requires c κs = search rules
+may-change-requires c κs = search search_rules
 
 returns : tie.Need-returns-then-n-ne0
 returns c =
@@ -23,13 +23,13 @@ returns c =
     c.before.may_change-n.ensures refl (λ _. refl) (λ z. absurd (c.if-n-ne0.taken z))
 
 raised-requires : tie.Need-raised-e-requires
-raised-requires c κs = search rules
+raised-requires c κs = search search_rules
 
 without-requires : tie.Need-without-m-requires
-without-requires c κs = search rules
+without-requires c κs = search search_rules
 
 succession-requires : tie.Need-succession-s-requires
-succession-requires c κs = search rules
+succession-requires c κs = search search_rules
 
 returns-2 : tie.Need-returns
 returns-2 c =

@@ -5,7 +5,7 @@ use Rattle.cluster.proofs.Steps.{rules}
 use Rattle.steps_registry.specs.Checks.{remove_checks}
 use Rattle.steps_registry.proofs.Answers.{remove-answer}
 use Rattle.steps_registry.proofs.Afters.{remove-after}
-use borrow.Author.Rules.{rules}
+use borrow.Author.Rules.{rules as search_rules}
 use Rattle.steps_registry.proofs.remove.Statement.{statement}
 use Rattle.steps_registry.proofs.remove.Tie as tie
 
@@ -17,10 +17,10 @@ abbrev own : tie.After-may_remove-n → tie.After-seat-k
 own c = c.before
 
 seat-requires : tie.Need-seat-k-requires
-seat-requires c κs = search rules
+seat-requires c κs = search search_rules
 
 may-remove-requires : tie.Need-may_remove-n-requires
-may-remove-requires c κs = search rules
+may-remove-requires c κs = search search_rules
 
 returns : tie.Need-returns-then-n-ne0
 returns c =
@@ -31,16 +31,16 @@ returns c =
     d.may_remove-n.ensures refl (λ _. refl) (λ z. absurd (c.if-n-ne0.taken z))
 
 raised-requires : tie.Need-raised-e-requires
-raised-requires c κs = search rules
+raised-requires c κs = search search_rules
 
 remove-requires : tie.Need-remove-m-requires
-remove-requires c κs = search rules
+remove-requires c κs = search search_rules
 
 size-requires : tie.Need-size-requires
-size-requires c κs = search rules
+size-requires c κs = search search_rules
 
 status-left-requires : tie.Need-status_left-s-requires
-status-left-requires c κs = search rules
+status-left-requires c κs = search search_rules
 
 returns-2 : tie.Need-returns
 returns-2 c =
