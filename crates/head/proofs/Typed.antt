@@ -15,7 +15,7 @@ use Rattle.cluster.specs.contracts.Cluster.{the_row}
 use Rattle.head.proofs.Back.{Sized}
 
 masks-fit : (vs : List View) (us : List Val)
-    → shadow (each the_field.row.Denot the_field.row.own_val (map the_field.into vs) us)
+    → shadow (each the_field.row.Denot the_field.row.own_val vs us)
     → (i : ℕ) → (get_or vs i no_view).members < 256
 masks-fit [] us s i = omega arith
 masks-fit (v ∷ vs) [] s i = absurd s
@@ -35,11 +35,11 @@ sized row us s h =
     let told = controller.1.1.1.1 in
     let g = s.1.1.1.1 in
     record {
-      views = sym (length-map row.views _) ∙ g.0.1.0.1;
-      joined = sym (length-map row.joined _) ∙ g.1.0.1.0.1;
-      acked = sym (length-map row.acked _) ∙ g.1.1.0.1.0.1;
-      heard = sym (length-map row.controller.heard _) ∙ told.0.1.0.1;
-      heard_joined = sym (length-map row.controller.joined _) ∙ told.1.0.1.0.1;
+      views = g.0.1.0.1;
+      joined = g.1.0.1.0.1;
+      acked = g.1.1.0.1.0.1;
+      heard = told.0.1.0.1;
+      heard_joined = told.1.0.1.0.1;
       registry_mask = registry.1.1.0.1.1.1.1.1.0.1;
       controller_mask = controller.1.1.0.1.1.1.1.1.0.1;
       view_mask = masks-at row.views (masks-fit row.views g.0.0 g.0.1.1);

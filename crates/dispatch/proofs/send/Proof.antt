@@ -282,7 +282,7 @@ returns-9 c =
     let t = d.before.before.before.before.before.before.before in
     let z = t.before.before.before.before in
     let a = (start z).args in
-    rw t.if4.taken
+    rw t.if4.true
     (sends-kept (by-board _ (places z) _ _ commit a.r.board a.r.other a.r.spare a.r.value _
     t.before.board4.ensures (λ m. refl) (λ m. refl) (d.commit-x.ensures a.g a.c a.joined.now)))
 
@@ -323,7 +323,7 @@ returns-12 c =
     let z = d.before.before.before.before.before.before.before.before.before.before in
     let a = (start z).args in
     let p = (start z).requires in
-    rw d.before.before.before.before.if-step-eq6.taken (record {
+    rw d.before.before.before.before.if-step-eq6.true (record {
       place = d.refresh-x.ensures.0;
       leaves =
           by-board _ (places z) _ _ refresh a.r.board a.r.other a.r.spare a.r.value _
@@ -351,7 +351,7 @@ returns-13 c =
     let z = d.before.before.before.before.before.before.before.before.before.before.before in
     let a = (start z).args in
     let p = (start z).requires in
-    rw d.before.before.before.if-step-eq7.taken
+    rw d.before.before.before.if-step-eq7.true
     (sends-kept (by-board _ (places z) _ _ join
     a.r.board a.r.other a.r.spare a.r.value _
     d.before.before.before.before.before.board-b-in-6-to-8.ensures (λ m. refl)

@@ -21,10 +21,10 @@ shape c =
     let r = c.play-row.result in
     let g = c.play-row.type-inv.1.1.1.1 in
     record {
-      views = sym (length-map r.views _) ∙ g.0.1.0.1;
-      joined = sym (length-map r.joined _) ∙ g.1.0.1.0.1;
-      acked = sym (length-map r.acked _) ∙ g.1.1.0.1.0.1;
-      len = sym (length-map r.len _) ∙ g.1.1.1.0.1.0.1;
+      views = g.0.1.0.1;
+      joined = g.1.0.1.0.1;
+      acked = g.1.1.0.1.0.1;
+      len = g.1.1.1.0.1.0.1;
     }
 
 is-sheet-requires : tie.Need-is_sheet-requires

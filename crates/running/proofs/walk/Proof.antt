@@ -86,13 +86,13 @@ add-answers : tie.Need-overflow_add-answers invariant-loop decreases-loop
 add-answers c = omega (arith, small (turn (sent c)))
 
 slice-write-answers : tie.Need-bounds-answers-k invariant-loop decreases-loop
-slice-write-answers c = let t = turn (sent c) in omega (arith, small t, t.before.loop.inv.2.room)
+slice-write-answers c = let t = turn (sent c) in omega (arith, small t, t.before.loop.invariant.2.room)
 
 add-sets : tie.Need-overflow_add-sets invariant-loop decreases-loop
 add-sets c = omega (arith, small (turn (sent c)))
 
 slice-write-sets : tie.Need-bounds-sets-k invariant-loop decreases-loop
-slice-write-sets c = let t = turn (sent c) in omega (arith, small t, t.before.loop.inv.2.set_room)
+slice-write-sets c = let t = turn (sent c) in omega (arith, small t, t.before.loop.invariant.2.set_room)
 
 mul-views : tie.Need-offset_bounds-views-i invariant-loop decreases-loop
 mul-views c = search rules
@@ -100,7 +100,7 @@ mul-views c = search rules
 array-set-from-views : tie.Need-bounds-views-i invariant-loop decreases-loop
 array-set-from-views c =
     let x = sent c.before in
-    omega (arith, x.send-x.ensures.place, (turn x).before.loop-k.inv.1.views)
+    omega (arith, x.send-x.ensures.place, (turn x).before.loop-k.invariant.1.views)
 
 add-k : tie.Need-overflow_add-k-in-loop-k invariant-loop decreases-loop
 add-k c = omega (arith, small (turn (sent c.before.before.before)))
@@ -117,7 +117,7 @@ loop-again c =
     let l = d.loop-k in
     let h = l.inv.2 in
     let same = x.send-x.kept.1.1.1.1 in (
-      omega (arith, t.loop-k-test.taken),
+      omega (arith, t.loop-k-test.true),
       record {
         views = length-set l.views _ _ ∙ l.inv.1.views;
         joined = same.0 ∙ l.inv.1.joined;

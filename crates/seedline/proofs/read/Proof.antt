@@ -132,8 +132,8 @@ returns-7 c =
     let t = tested w in
     record {
       line = c.before.same.ensures.0 (of-true {t = c.before.same.result} (c.if-not-same.false)) ∙ aside w;
-      seed = omega (arith, t.before.before.if-s-gt4294967295.left);
-      count = is-count (second t).number_at-b.result.value t.before.if-n-lt1.left t.if-n-gt4095.left;
+      seed = omega (arith, t.before.before.if-s-gt4294967295.false);
+      count = is-count (second t).number_at-b.result.value t.before.if-n-lt1.false t.if-n-gt4095.false;
     }
 
 pub read_spec : {M : Type 1} → statement M

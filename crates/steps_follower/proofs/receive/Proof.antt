@@ -124,8 +124,8 @@ slice-write-len : tie.Need-bounds-len-i-2
 slice-write-len c =
     omega (
       arith,
-      (own (answered c).before).seat.ensures.0,
-      (own (answered c).before).seat.ensures.1,
+      (own (answered c).before).seat-k.ensures.0,
+      (own (answered c).before).seat-k.ensures.1,
       (entry (answered c).before).requires.2.eight,
     )
 

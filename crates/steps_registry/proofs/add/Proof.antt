@@ -28,7 +28,7 @@ returns c =
     let a = (entry d).args in
     let seat = (own d).seat-k.ensures.2 in
     rules (add a.b) (add_checks a.r _ a.b) tt a.r (add-answer a.r a.b _ seat) _
-    d.may_add-n.ensures refl (λ _. refl) (λ z. absurd (c.if-n-ne0.taken z))
+    d.may_add-n.ensures refl (λ _. refl) (λ z. absurd (c.if-n-ne0.true z))
 
 raised-requires : tie.Need-raised-e-requires
 raised-requires c κs = search search_rules
@@ -42,7 +42,7 @@ returns-2 c =
     let a = (entry d).args in
     let seat = (own d).seat-k.ensures.2 in
     rules (add a.b) (add_checks a.r _ a.b) tt a.r (add-answer a.r a.b _ seat) _
-    d.may_add-n.ensures (sym c.before.before.if-n-ne0.left) (λ h. absurd (h refl))
+    d.may_add-n.ensures (sym c.before.before.if-n-ne0.false) (λ h. absurd (h refl))
     (λ _ h s. add-after a.r _ c.before.raised-e.ensures a.b _ _ seat c.insert-m.ensures h)
 
 pub add_spec : {M : Type 1} → statement M

@@ -20,7 +20,7 @@ returns : tie.Need-returns-then-n-ne0
 returns c =
     let r = (entry c.before).args.r in
     rules change_leader (change_checks r) tt r (change-answer r) _
-    c.before.may_change-n.ensures refl (λ _. refl) (λ z. absurd (c.if-n-ne0.taken z))
+    c.before.may_change-n.ensures refl (λ _. refl) (λ z. absurd (c.if-n-ne0.true z))
 
 raised-requires : tie.Need-raised-e-requires
 raised-requires c κs = search search_rules
@@ -36,7 +36,7 @@ returns-2 c =
     let d = c.before.before.before.before in
     let r = (entry d).args.r in
     rules change_leader (change_checks r) tt r (change-answer r) _
-    d.may_change-n.ensures (sym c.before.before.before.if-n-ne0.left) (λ h. absurd (h refl))
+    d.may_change-n.ensures (sym c.before.before.before.if-n-ne0.false) (λ h. absurd (h refl))
     (λ _. change-after r _ c.before.before.raised-e.ensures _ c.succession-s.result
     c.before.without-m.ensures c.succession-s.ensures)
 

@@ -28,7 +28,7 @@ returns c =
     let a = (entry d).args in
     let seat = (own d).seat-k.ensures.2 in
     rules (remove a.b) (remove_checks a.r _ a.b) tt a.r (remove-answer a.r a.b _ seat) _
-    d.may_remove-n.ensures refl (λ _. refl) (λ z. absurd (c.if-n-ne0.taken z))
+    d.may_remove-n.ensures refl (λ _. refl) (λ z. absurd (c.if-n-ne0.true z))
 
 raised-requires : tie.Need-raised-e-requires
 raised-requires c κs = search search_rules
@@ -48,7 +48,7 @@ returns-2 c =
     let a = (entry d).args in
     let seat = (own d).seat-k.ensures.2 in
     rules (remove a.b) (remove_checks a.r _ a.b) tt a.r (remove-answer a.r a.b _ seat) _
-    d.may_remove-n.ensures (sym c.before.before.before.before.if-n-ne0.left) (λ h. absurd (h refl))
+    d.may_remove-n.ensures (sym c.before.before.before.before.if-n-ne0.false) (λ h. absurd (h refl))
     (λ _ h s. remove-after a.r _ c.before.before.before.raised-e.ensures a.b _ _ seat _
     c.status_left-s.result c.before.before.remove-m.ensures
     c.before.size.ensures c.status_left-s.ensures h)
