@@ -120,9 +120,9 @@ module _ (𝓔 : Entries) (b : ℕ) where
       → (term (run 𝓔 s sts) ≡ term s → BarredIn s)
       → BarredIn (run 𝓔 s sts)
   unfolding run
-  barred i [] out k = k refl
-  barred {s} i (st ∷ sts) out k =
-      barred (step_keeps 𝓔 i st).inv sts
+  barred {L = L} {s = s} i [] out k = k refl
+  barred {L = L} {s = s} i (st ∷ sts) out k =
+      barred {L = (step_keeps 𝓔 i st).history} (step_keeps 𝓔 i st).inv sts
       (λ begun p. out (st ∷ begun) (record { rest = p.rest; is = ap (λ l. st ∷ l) p.is }))
       (λ e. by-test (accepted (outline s) st)
       (λ c. let q : step 𝓔 s st ≡ next 𝓔 s st = rw (is_true (accepted (outline s) st) c) in

@@ -377,7 +377,7 @@ returns-14 c =
     let z = d.before.before.before.before.before.before.before.before.before.before.before in
     let a = (start z).args in
     let p = (start z).requires in
-    rw (eight d.before.before.before.before.before)
+    rw (eight d.before.before.before.before)
     (sends-kept (by-board _ (places z) _ _ receive a.r.board a.r.other a.r.spare a.r.value _
     d.before.before.before.before.before.before.board-b-in-6-to-8.ensures (λ m. refl)
     (λ m. refl)
@@ -403,7 +403,7 @@ returns-16 c =
     let z = c.before.before.before.before.before.before.before.before.before in
     let a = (start z).args in
     let p = (start z).requires in
-    rw (eleven c.before.before.before.before.before c.before.if-step-eq10.false)
+    rw (eleven c.before.before.before.before c.before.if-step-eq10.false)
     (sends-kept (alone-taken _ (places z) _ _ read_leader a.r.board a.r.other a.r.spare a.r.value
     c.before.before.before.bare-in-10-to-11.ensures c.before.before.if-bare-3.true
     (c.read_leader-s.ensures a.joined.now a.acked.now a.issued (places z) p.0.issued p.1)))

@@ -42,7 +42,7 @@ room0 e =
 
 -- What was given at the start, from after the call j.
 abbrev start1 : tie.After-put_bytes-a → tie.Start
-start1 c = c.before.before.before.before.before.before
+start1 c = c.before.before.before.before.before.before.before
 
 abbrev start2 : tie.After-put_number-b → tie.Start
 start2 c = start1 c.before.before.before.before
@@ -52,7 +52,7 @@ start3 c = start2 c.before.before.before.before
 
 put-bytes-requires : tie.Need-put_bytes-a-requires
 put-bytes-requires c κs =
-    let e = c.before.before.before.before.before in fits _ (word "receipts ") (text1 e) (room0 e)
+    let e = c.before.before.before.before.before in fits _ (word "receipts ") (text1 e.before) (room0 e.before)
 
 -- The room that is left after the call j, then the need of the next.
 room1 : (c : tie.After-put_bytes-a) → c.put_bytes-a.result + length (text1 (start1 c)) ≤ length c.put_bytes-a.new.out

@@ -33,7 +33,7 @@ encode-requires c κs = search rules
 
 -- From the opening's record back to the tests, and to the start.
 abbrev tested : tie.After-encode-at → tie.Else-sheet-count
-tested c = c.before.before.before
+tested c = c.before.before.before.before
 
 abbrev start : tie.Else-sheet-count → tie.Start
 start c = c.before.before.before.before

@@ -16,7 +16,7 @@ abbrev places : tie.Start → Places
 places s = let a = s.args in lent a.store.now a.store2.now a.list.now a.list2.now
 
 abbrev start : tie.After-lengths → tie.Start
-start c = c.before.before.before.before.before.before.before.before.before.before.before
+start c = c.before.before.before.before.before.before.before
 
 -- Past refusal 1, and past 3.
 lengths-fit : (d : tie.Else-not-lengths) → lengths_fit (places (start d.before)) ≡ true

@@ -57,7 +57,7 @@ decreases-loop count len all₀ k₀ i₀ all k i = 8 - i
 
 -- The type of an array fixes its length.
 eight : (c : tie.Start invariant-loop decreases-loop) → length c.args.len ≡ 8
-eight c = c.well-formed.0.1.0.1
+eight c = c.well_formed.0.1.0.1
 
 loop-holds : tie.Need-loop-i-init invariant-loop decreases-loop
 loop-holds c =

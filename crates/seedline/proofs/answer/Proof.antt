@@ -28,7 +28,7 @@ returns c =
     let t = c.before.before.before.before.before in
     let r = t.before.before in
     let start = r.before.before.before in
-    prints-refusal (subst (λ i. Read i start.args.input.now) t.before.enum_told-1.given.1 r.before.read.ensures)
+    prints-refusal (subst (λ i. Read i start.args.input.now) c.in_default.is r.before.read.ensures)
     c.before.before.put_bytes.ensures
 
 cast-seed-sheet : tie.Need-overflow_cast-count
@@ -45,7 +45,7 @@ returns-2 c =
     let t = c.before.before.before.before in
     let r = t.before.before.before in
     let start = r.before.before.before in
-    let a = subst (λ i. Read i start.args.input.now) t.before.seed-1.given.1 r.read.ensures in
+    let a = subst (λ i. Read i start.args.input.now) c.in-Asked.is r.read.ensures in
     let v = t.before.seed-1.given.0 in
     let s = v.0 in
     let n = v.1.0 in

@@ -28,7 +28,7 @@ text1 e = digits e.args.b ++ (space ++ text2 e)
 
 -- What was given at the start, from after the call j.
 abbrev start1 : tie.After-put_bytes-p0 → tie.Start
-start1 c = c.before.before.before.before
+start1 c = c.before.before.before.before.before
 
 abbrev start2 : tie.After-put_field-p1 → tie.Start
 start2 c = start1 c.before.before.before.before
@@ -44,7 +44,7 @@ start5 c = start4 c.before.before.before.before
 
 put-bytes-requires : tie.Need-put_bytes-p0-requires
 unfolding board_text
-put-bytes-requires c κs = let e = c.before.before.before in fits _ (word "board ") (text1 e) e.requires
+put-bytes-requires c κs = let e = c.before.before.before in fits _ (word "board ") (text1 e.before) e.requires
 
 -- The room that is left after the call j, then the need of the next.
 room1 : (c : tie.After-put_bytes-p0) → c.put_bytes-p0.result + length (text1 (start1 c)) ≤ length c.put_bytes-p0.new.out

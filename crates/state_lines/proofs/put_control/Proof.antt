@@ -10,7 +10,7 @@ use Rattle.state_lines.proofs.put_control.Statement.{statement}
 use Rattle.state_lines.proofs.put_control.Tie as tie
 
 abbrev start : tie.After-put_bytes-a → tie.Start
-start c = c.before.before.before.before.before
+start c = c.before.before.before.before.before.before
 
 -- The parts of the line.
 abbrev head : Text
@@ -26,7 +26,7 @@ put-bytes-requires : tie.Need-put_bytes-a-requires
 unfolding control_line
 put-bytes-requires c κs =
     let e = c.before.before.before.before in
-    fits _ head (view e ++ (space ++ last e)) e.requires
+    fits _ head (view e.before ++ (space ++ last e.before)) e.requires
 
 put-view-requires : tie.Need-put_view-b-requires
 unfolding control_line

@@ -14,7 +14,7 @@ abbrev places : tie.Start → Places
 places c = let a = c.args in lent a.store.now a.store2.now a.list.now a.list2.now
 
 abbrev start : tie.Else-not-fits → tie.Start
-start c = c.before.before.before.before.before.before.before.before.before.before
+start c = c.before.before.before.before.before.before
 
 passed : (c : tie.Else-not-fits) → valid (start c).args.row (places (start c)) ≡ true
 passed c = sym c.before.fits.ensures.0 ∙ c.if-not-fits.false

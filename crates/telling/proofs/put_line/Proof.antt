@@ -25,7 +25,7 @@ abbrev start1 : tie.After-put_head-p → tie.Start
 start1 c = c.before.before.before.before.before
 
 abbrev start2 : tie.After-put_bytes-q → tie.Start
-start2 c = start1 c.before.before.before.before.before
+start2 c = start1 c.before.before.before.before.before.before
 
 abbrev start3 : tie.After-put_verdict-e → tie.Start
 start3 c = start2 c.before.before.before.before
@@ -40,7 +40,7 @@ told : (c : tie.After-put_verdict-e)
     Wrote c.before.before.before.before.put_bytes-q.new.out c.before.before.before.before.put_bytes-q.result
     (verdict_text (place (record_of e.args.r)) e.args.a) c.put_verdict-e.new.out c.put_verdict-e.result
 told c =
-    let p = placed c.before.before.before.before.before.before.before.before.before.before.before in
+    let p = placed c.before.before.before.before.before.before.before.before.before.before.before.before in
     wrote_as (ap (λ k. verdict_text k (start3 c).args.a) p.0) c.put_verdict-e.ensures
 
 -- The room that is left after it.
@@ -53,7 +53,7 @@ room1 c =
 room2 : (c : tie.After-put_bytes-q) → c.put_bytes-q.result + length (text2 (start2 c)) ≤ length c.put_bytes-q.new.out
 room2 c =
     let d = c.before.before.before.before.before in
-    rest (word ": ") (text2 (start2 c)) c.put_bytes-q.ensures (room1 d)
+    rest (word ": ") (text2 (start2 c)) c.put_bytes-q.ensures (room1 d.before)
 
 room3 : (c : tie.After-put_verdict-e) → c.put_verdict-e.result + 1 ≤ length c.put_verdict-e.new.out
 room3 c =
@@ -77,13 +77,13 @@ put-head-requires c κs =
 put-bytes-requires : tie.Need-put_bytes-q-requires
 put-bytes-requires c κs =
     let d = c.before.before.before.before in
-    fits _ (word ": ") (text2 (start1 d)) (room1 d)
+    fits _ (word ": ") (text2 (start1 d.before)) (room1 d.before)
 
 put-verdict-requires : tie.Need-put_verdict-e-requires
 put-verdict-requires c κs =
     let d = c.before.before.before in
     let e = start2 d in
-    let p = placed d.before.before.before.before.before.before.before in (
+    let p = placed d.before.before.before.before.before.before.before.before in (
       p.1,
       e.requires.0,
       omega (
