@@ -141,9 +141,11 @@ returns-then-step-eq10 c =
     let a = c.args in
     let p = c.requires in
     let places = lent a.store.now a.store2.now a.list.now a.list2.now in
-    rw c.if-step-eq10.true (sends-kept (alone-taken _ places _ _ refresh_controller a.r.board a.r.other a.r.spare a.r.value
+    rw c.if-step-eq10.true (sends-kept
+    (alone-taken _ places _ _ refresh_controller a.r.board a.r.other a.r.spare a.r.value
     c.bare-in-10-to-11.ensures c.if-bare-3.true
-    (c.refresh_controller-s.ensures a.views a.joined.now a.len.now p.0.short a.acked.now a.issued places p.0.issued p.1)))
+    (c.refresh_controller-s.ensures a.views a.joined.now a.len.now p.0.short a.acked.now a.issued
+    places p.0.issued p.1)))
 
 pub returns-else-step-eq10 : goal.returns-else-step-eq10
 returns-else-step-eq10 c =
