@@ -95,8 +95,8 @@ returns c =
     let p2 = p3.before.before.before.before in
     let p1 = p2.before.before.before.before in
     let e = start1 p1 in
-    let w = c.before.before.put_byte in
-    subst (λ t. Wrote e.args.out.now e.args.at t w.new.0 w.result)
+    let w = c.put_byte in
+    subst (λ t. Wrote e.args.out.now e.args.at t w.new.out w.result)
     (sym (receipts-is (all e) e.args.n (enough e)))
     (then p1.put_bytes-a.ensures (then p2.put_number-b.ensures (then p3.put_entries-c.ensures w.ensures)))
 
