@@ -12,7 +12,7 @@ use Rattle.guiding.proofs.plan_image.Tie as tie
 shape : (c : tie.After-load-x) → Shape c.load-x.result.row
 shape c =
     let r = c.load-x.result.row in
-    let g = c.load-x.type-inv.1.1.1.0.1.1.1.1 in
+    let g = c.load-x.type_inv.1.1.1.0.1.1.1.1 in
     record {
       views = g.0.1.0.1;
       joined = g.1.0.1.0.1;

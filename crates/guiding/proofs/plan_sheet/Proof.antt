@@ -19,7 +19,7 @@ passed c = sym c.before.is_sheet.ensures ∙ c.if-not-is_sheet.false
 shape : (c : tie.After-play-row) → Shape c.play-row.result
 shape c =
     let r = c.play-row.result in
-    let g = c.play-row.type-inv.1.1.1.1 in
+    let g = c.play-row.type_inv.1.1.1.1 in
     record {
       views = g.0.1.0.1;
       joined = g.1.0.1.0.1;

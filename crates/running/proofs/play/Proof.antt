@@ -23,7 +23,7 @@ walked c =
 shape : (c : tie.After-begin-row) → Shape c.begin-row.result
 shape c =
     let r = c.begin-row.result in
-    let g = c.begin-row.type-inv.1.1.1.1 in
+    let g = c.begin-row.type_inv.1.1.1.1 in
     record {
       views = g.0.1.0.1;
       joined = g.1.0.1.0.1;
@@ -72,13 +72,13 @@ same-length-5 : tie.Need-shape_of-answers
 same-length-5 c =
     let w = walked c in
     let e = start (begun w.before.before.before.before.before.before.before) in
-    w.walk-x.kept.1.1.1.1.1.1.1.1.1.0 ∙ length-set e.args.answers.now 0 0
+    w.walk-x.auto.answers ∙ length-set e.args.answers.now 0 0
 
 same-length-6 : tie.Need-shape_of-sets
 same-length-6 c =
     let w = walked c in
     let e = start (begun w.before.before.before.before.before.before.before) in
-    w.walk-x.kept.1.1.1.1.1.1.1.1.1.1.0 ∙ length-set e.args.sets.now 0 0
+    w.walk-x.auto.sets ∙ length-set e.args.sets.now 0 0
 
 returns : tie.Need-returns
 returns c = search rules

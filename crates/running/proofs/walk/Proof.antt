@@ -86,13 +86,13 @@ add-answers : tie.Need-overflow_add-answers invariant-loop decreases-loop
 add-answers c = omega (arith, small (turn (sent c)))
 
 slice-write-answers : tie.Need-bounds-answers-k invariant-loop decreases-loop
-slice-write-answers c = let t = turn (sent c) in omega (arith, small t, t.before.loop.invariant.2.room)
+slice-write-answers c = let t = turn (sent c) in omega (arith, small t, t.before.loop-k.invariant.2.room)
 
 add-sets : tie.Need-overflow_add-sets invariant-loop decreases-loop
 add-sets c = omega (arith, small (turn (sent c)))
 
 slice-write-sets : tie.Need-bounds-sets-k invariant-loop decreases-loop
-slice-write-sets c = let t = turn (sent c) in omega (arith, small t, t.before.loop.invariant.2.set_room)
+slice-write-sets c = let t = turn (sent c) in omega (arith, small t, t.before.loop-k.invariant.2.set_room)
 
 mul-views : tie.Need-offset_bounds-views-i invariant-loop decreases-loop
 mul-views c = search rules
@@ -115,14 +115,14 @@ loop-again c =
     let d = t.before in
     let e = start d in
     let l = d.loop-k in
-    let h = l.inv.2 in
-    let same = x.send-x.kept.1.1.1.1 in (
+    let h = l.invariant.2 in
+    let same = x.send-x.auto in (
       omega (arith, t.loop-k-test.true),
       record {
-        views = length-set l.views _ _ ∙ l.inv.1.views;
-        joined = same.0 ∙ l.inv.1.joined;
-        acked = same.1.0 ∙ l.inv.1.acked;
-        len = same.1.1.0 ∙ l.inv.1.len;
+        views = length-set l.views _ _ ∙ l.invariant.1.views;
+        joined = same.joined ∙ l.invariant.1.joined;
+        acked = same.acked ∙ l.invariant.1.acked;
+        len = same.len ∙ l.invariant.1.len;
       },
       ran-more e.args.sheet.now e.requires.0 l.k (row d) (places d) l.answers l.sets h _
           (decoded x).decode-r.ensures x.send-x.ensures.leaves (omega (arith, small t, h.room))

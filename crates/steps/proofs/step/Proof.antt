@@ -39,7 +39,7 @@ same-length-4 c = search rules
 
 returns : tie.Need-returns-then-not-fits
 returns c =
-    let s = c.before.before.before.before.before.before.before.before.before.before.before in
+    let s = c.before.before.before.before.before.before.before in
     did-refused _ s.args.row (places s)
     (sym c.before.before.fits.ensures.0 ∙ c.before.if-not-fits.true) _
     c.refused.ensures.0 c.refused.ensures.1 c.refused.ensures.2
