@@ -1,0 +1,7 @@
+-- `savesheet::main` lends only what it may: a result that is no refusal is a length within the slice.
+use Rattle.std.proofs.Common.{arith}
+use Rattle.archive.proofs.Lengths.{saved-readable}
+use Rattle.savesheet.proofs.main.Goals as goal
+
+pub slice_bounds-image-end : goal.slice_bounds-image-end
+slice_bounds-image-end c = saved-readable _ _ c.save_sheet-m.ensures (omega arith)
