@@ -1,28 +1,26 @@
 #![tactic(auto)]
 
 // Reads a sheet on standard input and prints a line in words for each record, or `refused` and the number.
-use libc::{STDIN_FILENO, STDOUT_FILENO};
+use std::io;
 
 // Prints a refusal.
-fn refuse(n: usize) {
+fn refuse(rt: &impl Print, n: usize) -> io::Result<()> {
     if n == 2 {
-        io::write_all(STDOUT_FILENO, b"refused 2\n");
-        return;
+        return rt.write_all(b"refused 2\n");
     }
-    io::write_all(STDOUT_FILENO, b"refused 3\n");
+    rt.write_all(b"refused 3\n")
 }
 
 // The longest sheet has 32,760 bytes: of a longer one so much is read that it is seen to be too long. A line has at
 // most 96 bytes (`LengthsTell`, explain::sample), so that 393,120 are enough for 4,095 of them, and refusal 3 does not
 // happen here; and no text has fewer than four.
-fn main() {
+fn main(rt: HostRuntime) -> io::Result<()> {
     let mut sheet = [0u8; 32768];
     let mut text = [0u8; 393120];
-    let n = io::read_full(STDIN_FILENO, &mut sheet);
+    let n = wholeinput::read_whole(&mut rt.stdin(), &mut sheet)?;
     let m = explain::explain_sheet(&sheet[..n], &mut text);
     if m < 4 {
-        refuse(m);
-        return;
+        return refuse(&rt, m);
     }
-    io::write_all(STDOUT_FILENO, &text[..m]);
+    rt.write_all(&text[..m])
 }

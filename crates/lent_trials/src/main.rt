@@ -4,18 +4,18 @@
 // which the hub lends, the other steps by value. After each trial's name, the answers in order, as in `trials`.
 use cluster::{Cluster, Outcome};
 use records::Record;
+use std::io;
 
 // The answer n and a space.
-fn show(n: u8) {
+fn show(rt: &impl Print, n: u8) -> io::Result<()> {
     let tens = 48 + n / 10 % 10;
     let ones = 48 + n % 10;
     if n < 10 {
         let one = [ones, 32];
-        io::write_all(1, &one);
-        return;
+        return rt.write_all(&one);
     }
     let two = [tens, ones, 32];
-    io::write_all(1, &two);
+    rt.write_all(&two)
 }
 
 // A record in short: its step, a digit for its board, one for the second board, two for the value. So 3_2_0_00 is
@@ -53,13 +53,14 @@ fn turn(
 
 // The records of a trial. The row goes on, and each answer is shown.
 fn play(
+    rt: &impl Print,
     row: Cluster,
     store: &mut [u32],
     store2: &mut [u16],
     list: &mut [u32],
     list2: &mut [u16],
     sheet: &[u32],
-) -> Cluster {
+) -> io::Result<Cluster> {
     let mut now = row;
     let mut i: usize = 0;
     while i < sheet.len() {
@@ -73,11 +74,11 @@ fn play(
             &mut *list2,
             record(n),
         );
-        show(x.answer);
+        show(rt, x.answer)?;
         let next = x.row;
         now = next;
     }
-    now
+    Ok(now)
 }
 
 fn opened() -> Cluster {
@@ -86,31 +87,31 @@ fn opened() -> Cluster {
 }
 
 // Shows the registry's epoch, which is below 256 here.
-fn epoch(row: Cluster) {
+fn epoch(rt: &impl Print, row: Cluster) -> io::Result<()> {
     let g = row.registry;
     let v = g.view;
-    io::write_all(1, b"epoch ");
-    show((v.epoch % 256) as u8);
+    rt.write_all(b"epoch ")?;
+    show(rt, (v.epoch % 256) as u8)
 }
 
 // Shows the length of board 4's log.
-fn length(row: Cluster) {
-    io::write_all(1, b"length ");
-    show((row.len[3] % 256) as u8);
+fn length(rt: &impl Print, row: Cluster) -> io::Result<()> {
+    rt.write_all(b"length ")?;
+    show(rt, (row.len[3] % 256) as u8)
 }
 
-fn main() {
-    longer();
-    four();
+fn main(rt: HostRuntime) -> io::Result<()> {
+    longer(&rt)?;
+    four(&rt)
 }
 
 // P7, and P8 that goes on from it.
-fn longer() {
+fn longer(rt: &impl Print) -> io::Result<()> {
     let mut store = [7u32; 4096];
     let mut store2 = [65535u16; 4096];
     let mut list = [7u32; 512];
     let mut list2 = [65535u16; 512];
-    io::write_all(1, b"P7 ");
+    rt.write_all(b"P7 ")?;
     let p7 = [
         3_2_0_00u32,
         5_0_0_00,
@@ -121,26 +122,27 @@ fn longer() {
         11_0_0_00,
     ];
     let a = play(
+        rt,
         opened(),
         &mut store,
         &mut store2,
         &mut list,
         &mut list2,
         &p7,
-    );
-    io::write_all(1, b"\nP8 ");
+    )?;
+    rt.write_all(b"\nP8 ")?;
     let p8 = [13_0_0_00u32, 12_2_0_00, 13_0_0_00];
-    let b = play(a, &mut store, &mut store2, &mut list, &mut list2, &p8);
-    epoch(b);
+    let b = play(rt, a, &mut store, &mut store2, &mut list, &mut list2, &p8)?;
+    epoch(rt, b)
 }
 
 // The last case: four boards.
-fn four() {
+fn four(rt: &impl Print) -> io::Result<()> {
     let mut store = [7u32; 4096];
     let mut store2 = [65535u16; 4096];
     let mut list = [7u32; 512];
     let mut list2 = [65535u16; 512];
-    io::write_all(1, b"\nfour ");
+    rt.write_all(b"\nfour ")?;
     let ready = [
         3_2_0_00u32,
         3_3_0_00,
@@ -157,13 +159,14 @@ fn four() {
         6_4_0_00,
     ];
     let a = play(
+        rt,
         opened(),
         &mut store,
         &mut store2,
         &mut list,
         &mut list2,
         &ready,
-    );
+    )?;
     let rest = [
         1_1_0_41u32,
         8_4_0_00,
@@ -180,7 +183,7 @@ fn four() {
         9_2_4_00,
         7_4_0_00,
     ];
-    let b = play(a, &mut store, &mut store2, &mut list, &mut list2, &rest);
-    length(b);
-    io::write_all(1, b"\n");
+    let b = play(rt, a, &mut store, &mut store2, &mut list, &mut list2, &rest)?;
+    length(rt, b)?;
+    rt.write_all(b"\n")
 }

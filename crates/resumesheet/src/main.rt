@@ -7,8 +7,8 @@
 // record, its answer and the set of the boards behind it, board 1 as the lowest bit; then the image of the row after
 // them. There is none where refusal 1 turns that row away: a row that no run gives can become so.
 use cluster::Cluster;
-use libc::{STDIN_FILENO, STDOUT_FILENO};
 use records::Record;
+use std::io;
 
 // Four bytes as a number, the low byte first.
 fn number(a: u8, b: u8, c: u8, d: u8) -> usize {
@@ -16,60 +16,77 @@ fn number(a: u8, b: u8, c: u8, d: u8) -> usize {
 }
 
 // Writes one byte: the first of the output.
-fn begin(n: u8) {
+fn begin(rt: &impl Print, n: u8) -> io::Result<()> {
     let one = [n];
-    io::write_all(STDOUT_FILENO, &one);
+    rt.write_all(&one)
 }
 
 // One record: the row goes on, and its answer and the set behind it are written.
 fn tell(
+    rt: &impl Print,
     row: Cluster,
     store: &mut [u32],
     store2: &mut [u16],
     list: &mut [u32],
     list2: &mut [u16],
     r: Record,
-) -> Cluster {
+) -> io::Result<Cluster> {
     let x = steps::step(row, &mut *store, &mut *store2, &mut *list, &mut *list2, r);
     let two = [x.answer, x.behind];
-    io::write_all(STDOUT_FILENO, &two);
-    x.row
+    rt.write_all(&two)?;
+    Ok(x.row)
 }
 
 // All records, one after the other.
 fn play(
+    rt: &impl Print,
     row: Cluster,
     store: &mut [u32],
     store2: &mut [u16],
     list: &mut [u32],
     list2: &mut [u16],
     records: &[u8],
-) -> Cluster {
+) -> io::Result<Cluster> {
     let mut now = row;
     let mut i: usize = 0;
     while i < records.len() / 8 {
         let k = 8 * i;
         i += 1;
         let r = records::decode(records, k);
-        let next = tell(now, &mut *store, &mut *store2, &mut *list, &mut *list2, r);
+        let next = tell(
+            rt,
+            now,
+            &mut *store,
+            &mut *store2,
+            &mut *list,
+            &mut *list2,
+            r,
+        )?;
         now = next;
     }
-    now
+    Ok(now)
 }
 
 // Writes the image of a row, or nothing.
-fn keep(row: Cluster, store: &[u32], store2: &[u16], list: &[u32], list2: &[u16]) {
+fn keep(
+    rt: &impl Print,
+    row: Cluster,
+    store: &[u32],
+    store2: &[u16],
+    list: &[u32],
+    list2: &[u16],
+) -> io::Result<()> {
     let mut image = [0u8; 37122];
     let n = image::save(row, store, store2, list, list2, &mut image);
     if n < 4 {
-        return;
+        return Ok(());
     }
-    io::write_all(STDOUT_FILENO, &image[..n]);
+    rt.write_all(&image[..n])
 }
 
 // Takes the image up and goes on. After a power cut memory may hold anything: here every lent place holds what no entry
 // may, and the scratch is all ones.
-fn go_on(image: &[u8], records: &[u8]) {
+fn go_on(rt: &impl Print, image: &[u8], records: &[u8]) -> io::Result<()> {
     let mut store = [4294967295u32; 4096];
     let mut store2 = [65535u16; 4096];
     let mut list = [4294967295u32; 512];
@@ -85,49 +102,46 @@ fn go_on(image: &[u8], records: &[u8]) {
         &mut list2,
         &mut scratch,
     );
-    begin(x.answer);
+    begin(rt, x.answer)?;
     if x.answer != 0 {
-        return;
+        return Ok(());
     }
     let row = play(
+        rt,
         x.row,
         &mut store,
         &mut store2,
         &mut list,
         &mut list2,
         records,
-    );
-    keep(row, &store, &store2, &list, &list2);
+    )?;
+    keep(rt, row, &store, &store2, &list, &list2)
 }
 
 // Takes the input apart.
-fn resume(given: &[u8]) {
+fn resume(rt: &impl Print, given: &[u8]) -> io::Result<()> {
     if given.len() < 4 {
-        begin(2);
-        return;
+        return begin(rt, 2);
     }
     let n = number(given[0], given[1], given[2], given[3]);
     if given.len() - 4 < n {
-        begin(2);
-        return;
+        return begin(rt, 2);
     }
     let end = n + 4;
     let rest = given.len() - end;
     if rest % 8 != 0 {
-        begin(2);
-        return;
+        return begin(rt, 2);
     }
     if rest > 32760 {
-        begin(2);
-        return;
+        return begin(rt, 2);
     }
-    go_on(&given[4..end], &given[end..]);
+    go_on(rt, &given[4..end], &given[end..])
 }
 
 // An image has at most 37,122 bytes. Of an input that is longer than what is read here the image is too long or the
 // records are too many, and it is refused.
-fn main() {
+fn main(rt: HostRuntime) -> io::Result<()> {
     let mut given = [0u8; 131072];
-    let n = io::read_full(STDIN_FILENO, &mut given);
-    resume(&given[..n]);
+    let n = wholeinput::read_whole(&mut rt.stdin(), &mut given)?;
+    resume(&rt, &given[..n])
 }

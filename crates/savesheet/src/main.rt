@@ -1,27 +1,25 @@
 #![tactic(auto)]
 
 // Reads a sheet on standard input and writes the image of its row, or prints `refused` and the number.
-use libc::{STDIN_FILENO, STDOUT_FILENO};
+use std::io;
 
 // Prints a refusal.
-fn refuse(n: usize) {
+fn refuse(rt: &impl Print, n: usize) -> io::Result<()> {
     if n == 2 {
-        io::write_all(STDOUT_FILENO, b"refused 2\n");
-        return;
+        return rt.write_all(b"refused 2\n");
     }
-    io::write_all(STDOUT_FILENO, b"refused 3\n");
+    rt.write_all(b"refused 3\n")
 }
 
 // The longest sheet has 32,760 bytes: of a longer one so much is read that it is seen to be too long. An image has 258
 // to 37,122 bytes (`LengthsTell`, archive::sample), so refusal 3 does not happen here.
-fn main() {
+fn main(rt: HostRuntime) -> io::Result<()> {
     let mut sheet = [0u8; 32768];
     let mut image = [0u8; 37122];
-    let n = io::read_full(STDIN_FILENO, &mut sheet);
+    let n = wholeinput::read_whole(&mut rt.stdin(), &mut sheet)?;
     let m = archive::save_sheet(&sheet[..n], &mut image);
     if m < 4 {
-        refuse(m);
-        return;
+        return refuse(&rt, m);
     }
-    io::write_all(STDOUT_FILENO, &image[..m]);
+    rt.write_all(&image[..m])
 }

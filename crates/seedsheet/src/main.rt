@@ -1,14 +1,14 @@
 #![tactic(auto)]
 
 // Reads a seed and a count of records on standard input and writes their sheet, or `refused 2`.
-use libc::{STDIN_FILENO, STDOUT_FILENO};
+use std::io;
 
 // 17 bytes of the input show what it asks for (`LinesSeen`, seedline::claim): no good line is longer than 16, and one
 // byte more shows that an input is too long. The longest sheet has 32,760 bytes.
-fn main() {
+fn main(rt: HostRuntime) -> io::Result<()> {
     let mut line = [0u8; 17];
     let mut out = [0u8; 32760];
-    let n = io::read_full(STDIN_FILENO, &mut line);
+    let n = wholeinput::read_whole(&mut rt.stdin(), &mut line)?;
     let m = seedline::answer(&line[..n], &mut out);
-    io::write_all(STDOUT_FILENO, &out[..m]);
+    rt.write_all(&out[..m])
 }

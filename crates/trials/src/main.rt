@@ -5,18 +5,18 @@
 // the second list holds what no entry may: only places inside a length are looked at.
 use cluster::Cluster;
 use records::Record;
+use std::io;
 
 // The answer n and a space.
-fn show(n: u8) {
+fn show(rt: &impl Print, n: u8) -> io::Result<()> {
     let tens = 48 + n / 10 % 10;
     let ones = 48 + n % 10;
     if n < 10 {
         let one = [ones, 32];
-        io::write_all(1, &one);
-        return;
+        return rt.write_all(&one);
     }
     let two = [tens, ones, 32];
-    io::write_all(1, &two);
+    rt.write_all(&two)
 }
 
 fn wide(x: u8) -> u32 {
@@ -25,13 +25,14 @@ fn wide(x: u8) -> u32 {
 
 // One record: its step, board, second board and value. The row goes on, and the answer is shown.
 fn tell(
+    rt: &impl Print,
     row: Cluster,
     store: &mut [u32],
     store2: &mut [u16],
     list: &mut [u32],
     list2: &mut [u16],
     r: [u8; 4],
-) -> Cluster {
+) -> io::Result<Cluster> {
     let v = r[3];
     let x = steps::step(
         row,
@@ -47,29 +48,38 @@ fn tell(
             value: wide(v),
         },
     );
-    show(x.answer);
-    x.row
+    show(rt, x.answer)?;
+    Ok(x.row)
 }
 
 // Records in short, four bytes each: step, board, second board, value.
 fn play(
+    rt: &impl Print,
     row: Cluster,
     store: &mut [u32],
     store2: &mut [u16],
     list: &mut [u32],
     list2: &mut [u16],
     sheet: &[u8],
-) -> Cluster {
+) -> io::Result<Cluster> {
     let mut now = row;
     let mut i: usize = 0;
     while i < sheet.len() / 4 {
         let k = 4 * i;
         i += 1;
         let r = [sheet[k], sheet[k + 1], sheet[k + 2], sheet[k + 3]];
-        let next = tell(now, &mut *store, &mut *store2, &mut *list, &mut *list2, r);
+        let next = tell(
+            rt,
+            now,
+            &mut *store,
+            &mut *store2,
+            &mut *list,
+            &mut *list2,
+            r,
+        )?;
         now = next;
     }
-    now
+    Ok(now)
 }
 
 // One record after the other, with no answer shown.
@@ -123,108 +133,111 @@ fn opened(b: u8) -> Cluster {
 }
 
 // Shows the registry's epoch, which is below 256 here.
-fn epoch(row: Cluster) {
+fn epoch(rt: &impl Print, row: Cluster) -> io::Result<()> {
     let g = row.registry;
     let v = g.view;
-    io::write_all(1, b"epoch ");
-    show((v.epoch % 256) as u8);
+    rt.write_all(b"epoch ")?;
+    show(rt, (v.epoch % 256) as u8)
 }
 
 // Shows the registry's leader.
-fn leader(row: Cluster) {
+fn leader(rt: &impl Print, row: Cluster) -> io::Result<()> {
     let g = row.registry;
     let v = g.view;
-    io::write_all(1, b"leader ");
-    show(v.leader);
+    rt.write_all(b"leader ")?;
+    show(rt, v.leader)
 }
 
 // Shows the length of board 4's log.
-fn length(row: Cluster) {
-    io::write_all(1, b"length ");
-    show((row.len[3] % 256) as u8);
+fn length(rt: &impl Print, row: Cluster) -> io::Result<()> {
+    rt.write_all(b"length ")?;
+    show(rt, (row.len[3] % 256) as u8)
 }
 
 // Shows the opening call's answer.
-fn answer(b: u8) {
+fn answer(rt: &impl Print, b: u8) -> io::Result<()> {
     let x = steps::opening(b);
-    show(x.answer);
+    show(rt, x.answer)
 }
 
 // A trial by itself: its name, and its records after an opening with board 1.
-fn trial(name: &[u8], sheet: &[u8]) {
+fn trial(rt: &impl Print, name: &[u8], sheet: &[u8]) -> io::Result<()> {
     let mut store = [7u32; 4096];
     let mut store2 = [65535u16; 4096];
     let mut list = [7u32; 512];
     let mut list2 = [65535u16; 512];
-    io::write_all(1, name);
+    rt.write_all(name)?;
     play(
+        rt,
         opened(1),
         &mut store,
         &mut store2,
         &mut list,
         &mut list2,
         sheet,
-    );
+    )?;
+    Ok(())
 }
 
-fn main() {
-    io::write_all(1, b"P2 ");
-    answer(0);
-    answer(9);
-    answer(8);
+fn main(rt: HostRuntime) -> io::Result<()> {
+    rt.write_all(b"P2 ")?;
+    answer(&rt, 0)?;
+    answer(&rt, 9)?;
+    answer(&rt, 8)?;
     let p3 = [2u8, 1, 0, 0, 1, 1, 0, 41, 2, 1, 0, 0];
-    trial(b"\nP3 ", &p3);
+    trial(&rt, b"\nP3 ", &p3)?;
     let p4 = [1u8, 2, 0, 41];
-    trial(b"\nP4 ", &p4);
+    trial(&rt, b"\nP4 ", &p4)?;
     let p5 = [5u8, 0, 0, 0, 4, 1, 0, 0, 4, 2, 0, 0];
-    trial(b"\nP5 ", &p5);
+    trial(&rt, b"\nP5 ", &p5)?;
     let p6 = [3u8, 2, 0, 0, 3, 2, 0, 0];
-    trial(b"\nP6 ", &p6);
-    longer();
-    full();
-    worn();
-    four();
-    sales();
-    vacant();
-    kept();
+    trial(&rt, b"\nP6 ", &p6)?;
+    longer(&rt)?;
+    full(&rt)?;
+    worn(&rt)?;
+    four(&rt)?;
+    sales(&rt)?;
+    vacant(&rt)?;
+    kept(&rt)
 }
 
 // The trials that go on from each other.
-fn longer() {
+fn longer(rt: &impl Print) -> io::Result<()> {
     let mut store = [7u32; 4096];
     let mut store2 = [65535u16; 4096];
     let mut list = [7u32; 512];
     let mut list2 = [65535u16; 512];
-    io::write_all(1, b"\nP7 ");
+    rt.write_all(b"\nP7 ")?;
     let p7 = [
         3u8, 2, 0, 0, 5, 0, 0, 0, 11, 0, 0, 0, 10, 0, 0, 0, 11, 0, 0, 0, 6, 1, 0, 0, 11, 0, 0, 0,
     ];
     let a = play(
+        rt,
         opened(1),
         &mut store,
         &mut store2,
         &mut list,
         &mut list2,
         &p7,
-    );
-    io::write_all(1, b"\nP8 ");
+    )?;
+    rt.write_all(b"\nP8 ")?;
     let p8 = [13u8, 0, 0, 0, 12, 2, 0, 0, 13, 0, 0, 0];
-    let b = play(a, &mut store, &mut store2, &mut list, &mut list2, &p8);
-    epoch(b);
-    io::write_all(1, b"\nP9 ");
+    let b = play(rt, a, &mut store, &mut store2, &mut list, &mut list2, &p8)?;
+    epoch(rt, b)?;
+    rt.write_all(b"\nP9 ")?;
     let p9 = [5u8, 0, 0, 0];
-    let c = play(b, &mut store, &mut store2, &mut list, &mut list2, &p9);
-    leader(c);
-    epoch(c);
+    let c = play(rt, b, &mut store, &mut store2, &mut list, &mut list2, &p9)?;
+    leader(rt, c)?;
+    epoch(rt, c)
 }
 
 // A log that gets full.
-fn full() {
+fn full(rt: &impl Print) -> io::Result<()> {
     let mut store = [7u32; 4096];
     let mut store2 = [65535u16; 4096];
     let mut list = [7u32; 512];
     let mut list2 = [65535u16; 512];
-    io::write_all(1, b"\nfull ");
+    rt.write_all(b"\nfull ")?;
     let append = Record {
         step: 1,
         board: 1,
@@ -243,16 +256,17 @@ fn full() {
         255,
     );
     let last = [1u8, 1, 0, 9, 1, 1, 0, 9, 1, 1, 0, 9];
-    play(a, &mut store, &mut store2, &mut list, &mut list2, &last);
+    play(rt, a, &mut store, &mut store2, &mut list, &mut list2, &last)?;
+    Ok(())
 }
 
 // Epochs that are used up.
-fn worn() {
+fn worn(rt: &impl Print) -> io::Result<()> {
     let mut store = [7u32; 4096];
     let mut store2 = [65535u16; 4096];
     let mut list = [7u32; 512];
     let mut list2 = [65535u16; 512];
-    io::write_all(1, b"\nworn ");
+    rt.write_all(b"\nworn ")?;
     let add = Record {
         step: 3,
         board: 2,
@@ -278,21 +292,24 @@ fn worn() {
         1999,
     );
     let end = [3u8, 2, 0, 0, 4, 2, 0, 0];
-    play(b, &mut store, &mut store2, &mut list, &mut list2, &end);
+    play(rt, b, &mut store, &mut store2, &mut list, &mut list2, &end)?;
+    Ok(())
 }
 
 // Members 1 to 4, leader 1, normal, news taken, logs empty.
 fn four_ready(
+    rt: &impl Print,
     store: &mut [u32],
     store2: &mut [u16],
     list: &mut [u32],
     list2: &mut [u16],
-) -> Cluster {
+) -> io::Result<Cluster> {
     let ready = [
         3u8, 2, 0, 0, 3, 3, 0, 0, 3, 4, 0, 0, 10, 0, 0, 0, 6, 1, 0, 0, 11, 0, 0, 0, 12, 2, 0, 0,
         12, 3, 0, 0, 13, 0, 0, 0, 6, 1, 0, 0, 6, 2, 0, 0, 6, 3, 0, 0, 6, 4, 0, 0,
     ];
     play(
+        rt,
         opened(1),
         &mut *store,
         &mut *store2,
@@ -303,102 +320,135 @@ fn four_ready(
 }
 
 // The last case: four boards.
-fn four() {
+fn four(rt: &impl Print) -> io::Result<()> {
     let mut store = [7u32; 4096];
     let mut store2 = [65535u16; 4096];
     let mut list = [7u32; 512];
     let mut list2 = [65535u16; 512];
-    io::write_all(1, b"\nfour ");
-    let a = four_ready(&mut store, &mut store2, &mut list, &mut list2);
+    rt.write_all(b"\nfour ")?;
+    let a = four_ready(rt, &mut store, &mut store2, &mut list, &mut list2)?;
     let rest = [
         1u8, 1, 0, 41, 8, 4, 0, 0, 5, 0, 0, 0, 6, 2, 0, 0, 6, 3, 0, 0, 10, 0, 0, 0, 14, 2, 0, 0,
         14, 3, 0, 0, 15, 2, 0, 0, 6, 2, 0, 0, 1, 2, 0, 42, 6, 4, 0, 0, 9, 2, 4, 0, 7, 4, 0, 0,
     ];
-    let b = play(a, &mut store, &mut store2, &mut list, &mut list2, &rest);
-    length(b);
+    let b = play(rt, a, &mut store, &mut store2, &mut list, &mut list2, &rest)?;
+    length(rt, b)
 }
 
 // Shows how long the shown list is, and its last entry, value and term; all are below 256 here.
-fn last<'a>(row: Cluster, store: &'a [u32], store2: &'a [u16], list: &'a [u32], list2: &'a [u16]) {
-    io::write_all(1, b"shown ");
+fn last<'a>(
+    rt: &impl Print,
+    row: Cluster,
+    store: &'a [u32],
+    store2: &'a [u16],
+    list: &'a [u32],
+    list2: &'a [u16],
+) -> io::Result<()> {
+    rt.write_all(b"shown ")?;
     let v = shown::visible(row, store, store2, list, list2);
-    show((v.len() % 256) as u8);
+    show(rt, (v.len() % 256) as u8)?;
     if 0 < v.len() {
-        show((v[v.len() - 1] % 256) as u8);
+        show(rt, (v[v.len() - 1] % 256) as u8)?;
     }
     let t = shown::visible_terms(row, store, store2, list, list2);
     if 0 < t.len() {
-        show((t[t.len() - 1] % 256) as u8);
+        show(rt, (t[t.len() - 1] % 256) as u8)?;
     }
+    Ok(())
 }
 
 // Document 02, Paper 4: 1 appends 40, which 2 and 4 receive, then 41, which 4 alone receives. 2 leads, under leader
 // epoch 7, and appends 41 too. Board 4's own 41 is another sale: it joins, and its log is cut to 40. Then it receives
 // the sale of 2, is counted, and two receipts are given.
-fn sales() {
+fn sales(rt: &impl Print) -> io::Result<()> {
     let mut store = [7u32; 4096];
     let mut store2 = [65535u16; 4096];
     let mut list = [7u32; 512];
     let mut list2 = [65535u16; 512];
-    io::write_all(1, b"\nsales ");
-    let a = four_ready(&mut store, &mut store2, &mut list, &mut list2);
+    rt.write_all(b"\nsales ")?;
+    let a = four_ready(rt, &mut store, &mut store2, &mut list, &mut list2)?;
     let rest = [
         1u8, 1, 0, 40, 8, 2, 0, 0, 8, 4, 0, 0, 1, 1, 0, 41, 8, 4, 0, 0, 5, 0, 0, 0, 6, 2, 0, 0, 6,
         3, 0, 0, 10, 0, 0, 0, 14, 2, 0, 0, 14, 3, 0, 0, 15, 2, 0, 0, 6, 2, 0, 0, 1, 2, 0, 41, 6, 4,
         0, 0, 7, 4, 0, 0,
     ];
-    let b = play(a, &mut store, &mut store2, &mut list, &mut list2, &rest);
-    length(b);
+    let b = play(rt, a, &mut store, &mut store2, &mut list, &mut list2, &rest)?;
+    length(rt, b)?;
     let end = [8u8, 4, 0, 0, 9, 2, 4, 0, 2, 2, 0, 0, 2, 2, 0, 0];
-    let c = play(b, &mut store, &mut store2, &mut list, &mut list2, &end);
-    last(c, &store, &store2, &list, &list2);
+    let c = play(rt, b, &mut store, &mut store2, &mut list, &mut list2, &end)?;
+    last(rt, c, &store, &store2, &list, &list2)
 }
 
 // While no leader is named the receipts are shown: 1 appends 41, 2 and 3 receive it and are counted, a receipt is
 // given, and the leader is changed.
-fn vacant() {
+fn vacant(rt: &impl Print) -> io::Result<()> {
     let mut store = [7u32; 4096];
     let mut store2 = [65535u16; 4096];
     let mut list = [7u32; 512];
     let mut list2 = [65535u16; 512];
-    io::write_all(1, b"\nvacant ");
-    let a = four_ready(&mut store, &mut store2, &mut list, &mut list2);
+    rt.write_all(b"\nvacant ")?;
+    let a = four_ready(rt, &mut store, &mut store2, &mut list, &mut list2)?;
     let rest = [
         1u8, 1, 0, 41, 8, 2, 0, 0, 8, 3, 0, 0, 9, 1, 2, 0, 9, 1, 3, 0, 2, 1, 0, 0, 5, 0, 0, 0,
     ];
-    let b = play(a, &mut store, &mut store2, &mut list, &mut list2, &rest);
-    last(b, &store, &store2, &list, &list2);
+    let b = play(rt, a, &mut store, &mut store2, &mut list, &mut list2, &rest)?;
+    last(rt, b, &store, &store2, &list, &list2)
 }
 
 // Kept epochs: 1 appends 41; a receipt with that entry's epoch made 0, 4,001 and 4,000; adding 2 with the receipt's
 // made 0 and 1. A refused row shows nothing.
-fn kept() {
+fn kept(rt: &impl Print) -> io::Result<()> {
     let mut store = [7u32; 4096];
     let mut store2 = [65535u16; 4096];
     let mut list = [7u32; 512];
     let mut list2 = [65535u16; 512];
-    io::write_all(1, b"\nkept ");
+    rt.write_all(b"\nkept ")?;
     let append = [1u8, 1, 0, 41];
     let receipt = [2u8, 1, 0, 0];
     let add = [3u8, 2, 0, 0];
     let a = play(
+        rt,
         opened(1),
         &mut store,
         &mut store2,
         &mut list,
         &mut list2,
         &append,
-    );
+    )?;
     store2[0] = 0;
-    let b = play(a, &mut store, &mut store2, &mut list, &mut list2, &receipt);
-    last(b, &store, &store2, &list, &list2);
+    let b = play(
+        rt,
+        a,
+        &mut store,
+        &mut store2,
+        &mut list,
+        &mut list2,
+        &receipt,
+    )?;
+    last(rt, b, &store, &store2, &list, &list2)?;
     store2[0] = 4001;
-    let c = play(b, &mut store, &mut store2, &mut list, &mut list2, &receipt);
+    let c = play(
+        rt,
+        b,
+        &mut store,
+        &mut store2,
+        &mut list,
+        &mut list2,
+        &receipt,
+    )?;
     store2[0] = 4000;
-    let d = play(c, &mut store, &mut store2, &mut list, &mut list2, &receipt);
+    let d = play(
+        rt,
+        c,
+        &mut store,
+        &mut store2,
+        &mut list,
+        &mut list2,
+        &receipt,
+    )?;
     list2[0] = 0;
-    let e = play(d, &mut store, &mut store2, &mut list, &mut list2, &add);
+    let e = play(rt, d, &mut store, &mut store2, &mut list, &mut list2, &add)?;
     list2[0] = 1;
-    play(e, &mut store, &mut store2, &mut list, &mut list2, &add);
-    io::write_all(1, b"\n");
+    play(rt, e, &mut store, &mut store2, &mut list, &mut list2, &add)?;
+    rt.write_all(b"\n")
 }
