@@ -2,11 +2,14 @@
 
 import os
 import re
+import shutil
 import subprocess
 import sys
 import time
 
 TICK = 0.5
+# What rt says of what is proved, and of the libraries and the kit.
+PLAIN = re.compile(r"fn .*: proved$|(logic|statements|library|axioms) |rt: (chose|\w+: begins with) ")
 
 
 class BuildError(Exception):
@@ -14,22 +17,24 @@ class BuildError(Exception):
 
 
 def order(root, programs):
-    """The crates that the programs need and the programs themselves, as rt takes them: by their depth."""
+    """The crates that the programs need and the programs themselves, in the order in which rt proves them."""
     needs = {}
     for line in (root / "crates.txt").read_text().splitlines():
         name, colon, others = line.split("#")[0].partition(":")
         if colon:
-            needs[name.strip()] = others.split()
-    depths = {}
+            needs[name.split()[0]] = others.split()
+    found = []
 
-    def depth(name):
-        if name not in depths:
-            depths[name] = 1 + max([depth(other) for other in needs.get(name, []) if other in needs], default=0)
-        return depths[name]
+    def visit(name):
+        for other in needs.get(name, []):
+            if other in needs:
+                visit(other)
+        if name not in found:
+            found.append(name)
 
     for name in programs:
-        depth(name)
-    return sorted(depths, key=depths.get)
+        visit(name)
+    return found
 
 
 def purpose(root, crate):
@@ -50,28 +55,25 @@ class Progress:
         self.root = root
         self.what = "the program" if len(programs) == 1 else "the programs"
         self.first = not any(path(root, name).exists() for name in programs)
-        self.crates = order(root, programs)
+        self.stamps = {crate: stamp(root, crate, programs) for crate in order(root, programs)}
         self.began = time.monotonic()
         self.shown = False
         self.terminal = sys.stderr.isatty()
 
-    def tell(self, log):
-        """Looks at what rt has said so far."""
-        ended = re.findall(r"^rt: (\w+) (?:proved|NOT PROVED)", log, re.M)
-        unchanged = re.findall(r"^rt: \w+ proved \(unchanged", log, re.M)
-        left = [crate for crate in self.crates if crate not in ended]
+    def tell(self):
+        """Looks at what rt has proved so far."""
+        crates = list(self.stamps)
         # rt takes a crate's stamp away before it proves the crate anew.
-        stamps = self.root / "target" / "stamp"
-        proving = [crate for crate in left if not (stamps / crate).exists()]
-        if not (self.first or proving or len(ended) > len(unchanged)):
+        left = [crate for crate in crates if not self.stamps[crate].exists()]
+        if not (self.first or left):
             return
         if not self.shown:
             self.shown = True
             time_needed = "; about four minutes the first time" if self.first else ""
             print(f"run-sheet: proving and building {self.what}{time_needed}", file=sys.stderr)
         if self.terminal and left:
-            k, n, seconds = len(ended) + 1, len(self.crates), time.monotonic() - self.began
-            crate = (proving or left)[0]
+            crate, n, seconds = left[0], len(crates), time.monotonic() - self.began
+            k = crates.index(crate) + 1
             about = purpose(self.root, crate)
             line = f"{seconds:4.0f} s  crate {k} of {n}: {crate}" + (f", {about}" if about else "")
             # Standard output may be a file. A terminal that does not know its width says 0.
@@ -83,28 +85,49 @@ class Progress:
             print("\r\033[K", end="", file=sys.stderr, flush=True)
 
 
+def stamp(root, crate, programs):
+    """What rt leaves beside a crate that it has proved and built."""
+    out = root / "crates" / crate / "out"
+    return out / f"{crate}.stamp" if crate in programs else out / "rlib" / "stamp"
+
+
 def path(root, program):
-    """Where rt leaves a program."""
+    """Where a program is put."""
     return root / "target" / "bin" / program
 
 
+def run(root, program, progress, said):
+    """Has rt prove and build a program, and run it on nothing. Returns whether all was proved."""
+    folder = root / "crates" / program
+    how = {"stdin": subprocess.DEVNULL, "stdout": subprocess.DEVNULL, "stderr": said}
+    process = subprocess.Popen(["rt", "run"], cwd=folder, **how)
+    try:
+        while True:
+            try:
+                proved = process.wait(TICK) == 0
+                break
+            except subprocess.TimeoutExpired:
+                progress.tell()
+    finally:
+        if process.poll() is None:
+            process.terminate()
+    if proved:
+        # At once, so that nobody runs a half of it.
+        part = path(root, f"{program}.{os.getpid()}")
+        part.parent.mkdir(parents=True, exist_ok=True)
+        shutil.copy2(folder / "out" / program, part)
+        part.replace(path(root, program))
+    return proved
+
+
 def check(root, programs, log):
-    """Runs rt. Returns whether all was proved; what it says is in the log."""
+    """Proves and builds the programs. Returns whether all was proved; what rt says is in the log."""
     progress = Progress(root, programs)
-    with log.open("wb") as out:
-        process = subprocess.Popen(
-            ["rt", "check", *programs], cwd=root, stdin=subprocess.DEVNULL, stdout=out, stderr=subprocess.STDOUT
-        )
-        try:
-            while True:
-                try:
-                    return process.wait(TICK) == 0
-                except subprocess.TimeoutExpired:
-                    progress.tell(log.read_text(errors="replace"))
-        finally:
-            progress.end()
-            if process.poll() is None:
-                process.terminate()
+    try:
+        with log.open("wb") as said:
+            return all(run(root, program, progress, said) for program in programs)
+    finally:
+        progress.end()
 
 
 def build(root, programs):
@@ -121,7 +144,7 @@ def build(root, programs):
     except OSError as error:
         raise BuildError(f"{error.filename}: {error.strerror}") from None
     if not proved:
-        said = [line for line in log.read_text(errors="replace").splitlines() if not line.endswith(": proved")]
+        said = [line for line in log.read_text(errors="replace").splitlines() if not PLAIN.match(line)]
         last = "".join(f"\n  {line}" for line in said[-12:])
         raise BuildError(f"the program is not proved; {log.relative_to(root)} ends with{last}")
     return [path(root, name) for name in programs]

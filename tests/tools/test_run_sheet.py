@@ -1259,26 +1259,41 @@ class Asking(InFolder):
 
 # Proves what is not stamped, one crate after the other, as slowly as is needed to be seen.
 PROVER = """
-echo "$*" >>called
-shift
-mkdir -p target/stamp target/bin
-for crate in rules "$@"; do
-    if [ -f target/stamp/$crate ]; then
-        echo "rt: $crate proved (unchanged since it was last proved)"
-    elif [ -f refuse ]; then
-        echo "fn $crate::claim: proved"
-        echo "rt: $crate NOT PROVED"
-        exit 1
-    else
-        sleep 1.5
-        echo "fn $crate::claim: proved"
-        echo "rt: $crate proved (1 s)"
-        touch target/stamp/$crate
+name=$(basename "$PWD")
+echo "$* $name" >>../../called
+prove() {
+    sleep 1.5
+    echo "fn $1::claim: proved"
+    [ ! -f ../../refuse ] || echo "fn $1::other: not proved"
+    echo "statements core: modules loaded=754 checked=0"
+    echo "crate $1: modules loaded=0 checked=54"
+    if [ -f ../../refuse ]; then
+        echo "logic=not-proved"
+        echo "rattle build: nothing was built, since only a proved crate is built"
+        return 1
     fi
-done
-for program in "$@"; do
-    cp "$PROVED/$program" target/bin
-done
+    echo "logic=proved functions=1"
+}
+{
+    if [ ! -f ../rules/out/rlib/stamp ]; then
+        mkdir -p ../rules/out/rlib
+        if ! prove rules; then
+            echo "rt: the library rules did not build, so nothing above it was checked"
+            exit 1
+        fi
+        touch ../rules/out/rlib/stamp
+    fi
+    if [ -f out/$name.stamp ]; then
+        echo "rt: nothing has changed since the last proved build, by out/$name.stamp, so nothing is checked now"
+    else
+        mkdir -p out
+        prove $name || exit 1
+        cp "$PROVED/$name" out
+        touch out/$name.stamp
+    fi
+    echo "rt: running out/$name; to give it other input, run that file yourself"
+} >&2
+out/$name
 """
 
 
@@ -1296,7 +1311,8 @@ class Building(InFolder):
         crates = "".join(f"{name}: rules io libc\n" for name in programs) + "other: rules\nrules:\n"
         self.file("a row/crates.txt", b"# NAME: DEPENDENCIES\n" + crates.encode())
         self.file("a row/crates/rules/src/lib.rt", b"// The rules of a row. And more.\n")
-        self.file("a row/crates/runsheet/src/main.rt", b"use libc;\n")
+        for name in programs:
+            self.file(f"a row/crates/{name}/src/main.rt", b"use std::io;\n")
         self.script("bin/rt", PROVER)
         proved = self.folder / "proved"
         proved.mkdir()
@@ -1319,9 +1335,9 @@ class Building(InFolder):
         log = (self.root / "target" / "log" / "run-sheet.log").read_text()
         self.assertIn("fn rules::claim: proved\n", log)
         self.listed(self.run_copy())
-        self.assertEqual(self.called(), ["check runsheet"] * 2)
+        self.assertEqual(self.called(), ["run runsheet"] * 2)
         # A crate that has changed since is proved without those words.
-        (self.root / "target" / "stamp" / "runsheet").unlink()
+        (self.root / "crates/runsheet/out/runsheet.stamp").unlink()
         done = self.run_copy()
         self.assertEqual((done.stdout, done.stderr), (LISTING, "run-sheet: proving and building the program\n"))
 
@@ -1334,8 +1350,8 @@ class Building(InFolder):
         self.assertEqual((done.stdout, done.stderr), (SEED_0_LISTING, told))
         for named in [{}, {"RUNSHEET": PROGRAM}, {"SEEDSHEET": MAKER}, {"RUNSHEET": PROGRAM, "SEEDSHEET": MAKER}]:
             self.listed(self.run_copy(*seed, env=self.env | named), SEED_0_LISTING)
-        both = "check runsheet seedsheet"
-        self.assertEqual(self.called(), ["check runsheet", both, both, "check seedsheet", "check runsheet"])
+        both = ["run runsheet", "run seedsheet"]
+        self.assertEqual(self.called(), ["run runsheet", *both, *both, "run seedsheet", "run runsheet"])
 
     def test_words_need_the_program_that_has_them(self):
         self.listed(self.run_copy("--explain", env=self.env | {"EXPLAINSHEET": EXPLAINER}), LINES)
@@ -1355,12 +1371,12 @@ class Building(InFolder):
         self.assertEqual(
             self.called(),
             [
-                "check explainsheet",
-                "check explainsheet",
-                "check explainsheet seedsheet",
-                "check runsheet explainsheet",
-                "check explainsheet",
-                "check runsheet",
+                "run explainsheet",
+                "run explainsheet",
+                *["run explainsheet", "run seedsheet"],
+                *["run runsheet", "run explainsheet"],
+                "run explainsheet",
+                "run runsheet",
             ],
         )
 
@@ -1375,10 +1391,10 @@ class Building(InFolder):
         self.assertEqual(
             self.called(),
             [
-                "check runsheet savesheet",
-                "check showimage",
-                "check resumesheet showimage",
-                "check explainsheet savesheet seedsheet",
+                *["run runsheet", "run savesheet"],
+                "run showimage",
+                *["run resumesheet", "run showimage"],
+                *["run explainsheet", "run savesheet", "run seedsheet"],
             ],
         )
 
@@ -1394,12 +1410,12 @@ class Building(InFolder):
         done = self.run_copy("--ask", given=b"open 1\nplan\n")
         self.assertEqual(done.stdout.decode().splitlines()[-1], "normal: no step is needed")
         (self.root / "refuse").touch()
-        (self.root / "target" / "stamp" / "plansheet").unlink()
+        (self.root / "crates/plansheet/out/plansheet.stamp").unlink()
         done = self.run_copy("--ask", given=b"open 1\nplan\nadd 2\n")
         self.assertIn(b"\nthe program is not proved; ", done.stdout)
         self.assertEqual(done.returncode, LISTED)
-        prompt = "check runsheet explainsheet"
-        expected = ["check plansheet", "check planimage", prompt, prompt, "check plansheet", prompt, "check plansheet"]
+        prompt = ["run runsheet", "run explainsheet"]
+        expected = ["run plansheet", "run planimage", *prompt, *prompt, "run plansheet", *prompt, "run plansheet"]
         self.assertEqual(self.called(), expected)
 
     def test_one_line_of_progress_at_a_terminal(self):
@@ -1445,7 +1461,7 @@ class Building(InFolder):
     def test_a_program_that_is_not_proved(self):
         self.file("a row/refuse", b"")
         done = self.run_copy()
-        self.failed(done, "the program is not proved; target/log/run-sheet.log ends with", "rt: rules NOT PROVED")
+        self.failed(done, "the program is not proved; target/log/run-sheet.log ends with", "fn rules::other: not proved", "rt: the library rules did not build")
         self.assertNotIn("claim: proved", done.stderr)
 
     def test_no_prover(self):
