@@ -53,7 +53,7 @@ static void call_describe(void)
 {
     size_t answer;
 
-    for (answer = 0; answer <= 20; answer++)
+    for (answer = 0; answer <= 19; answer++)
         result = describe(sheet, ROW_RECORD_LEN, answer, listing, ROW_LINE_LEN);
 }
 

@@ -223,7 +223,7 @@ size_t run_sheet(const uint8_t *sheet, size_t sheet_len,
  *
  *   record      the record; it is only read
  *   record_len  its length in bytes, ROW_RECORD_LEN
- *   answer      0 to 20: row_answer, or 2 or 3 of a refused sheet. It need not be
+ *   answer      0 to 19: row_answer, or 2 or 3 of a refused sheet. It need not be
  *               one that the record could have: any answer goes with any record
  *   line        where the line goes, with no byte 0 at the end
  *   line_len    the length of that slice in bytes

@@ -223,7 +223,7 @@ static int describe(void)
 
     if (describe_record(record, sizeof record, ROW_REFUSED_JOINING, line, sizeof line) != ROW_NO_LINE)
         return 31;
-    if (describe_record(record, ROW_RECORD_LEN, 21, line, 0) != ROW_NO_LINE)
+    if (describe_record(record, ROW_RECORD_LEN, 20, line, 0) != ROW_NO_LINE)
         return 32;
     if (describe_record(record, ROW_RECORD_LEN, ROW_REFUSED_JOINING, line, len - 1) != ROW_SHORT_LINE)
         return 33;

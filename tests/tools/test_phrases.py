@@ -18,7 +18,7 @@ PAGE = ROOT / "docs" / "PHRASES.md"
 FORMATS = ROOT / "docs" / "FORMATS.md"
 SPECS = ROOT / "crates" / "phrases" / "specs" / "Phrases.antt"
 LIBRARY = os.environ.get("LIBROW") or str(ROOT / "target" / "staticlib" / "librow.a")
-ANSWERS = range(21)
+ANSWERS = range(20)
 MALFORMED = "malformed"
 # Prints the line of each record and answer, nine bytes, on standard input.
 PROGRAM = """

@@ -22,7 +22,7 @@ extern "C" {
     fn explain_sheet(sheet: *const u8, sheet_len: usize, text: *mut u8, text_len: usize) -> usize;
 }
 
-const ANSWER_MAX: usize = 20;
+const ANSWER_MAX: usize = 19;
 /// No answers, though 8, 16 or 32 bits of some are.
 const BAD_ANSWERS: [usize; 7] = [
     1 << 16,

@@ -98,7 +98,6 @@ const fn phrase(answer: usize, step: Option<u8>) -> Option<&'static str> {
         (17, _) => "the image has a wrong length",
         (18, _) => "a number in the image is not valid",
         (19, _) => "the records in the image are wrongly linked",
-        (20, _) => "no list of steps leads the row to normal",
         _ => return None,
     })
 }
