@@ -1,7 +1,7 @@
 //! How many steps back to normal: document 02, Paper 10. "From a row, a call gives the
 //! records that lead to normal, and their number."
 
-use crate::row::{at, has, majority_size, Row, Stage, Status, LOG_MAX};
+use crate::row::{at, has, majority_size, Row, Stage, Status};
 use crate::scratch::{read_in, LENT};
 use crate::{opened, outcomes};
 
@@ -13,7 +13,7 @@ pub const PLAN_BYTES: usize = 16_512;
 
 /// Controller news, leader's news and reading; news, join, receives and reading of the four
 /// boards that make a majority of eight with the leader; set normal.
-const _: () = assert!(PLAN_MAX == 3 + 4 * (1 + 1 + LOG_MAX + 1) + 1);
+const _: () = assert!(PLAN_MAX == 3 + 4 * (1 + 1 + 512 + 1) + 1);
 const _: () = assert!(PLAN_BYTES == 8 * PLAN_MAX);
 
 // The steps of a list.
