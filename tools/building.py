@@ -26,10 +26,10 @@ def order(root, programs):
     found = []
 
     def visit(name):
-        for other in needs.get(name, []):
-            if other in needs:
-                visit(other)
         if name not in found:
+            for other in needs.get(name, []):
+                if other in needs:
+                    visit(other)
             found.append(name)
 
     for name in programs:
