@@ -8,8 +8,8 @@ import sys
 import time
 
 TICK = 0.5
-# What rt says of what is proved, and of the libraries and the kit.
-PLAIN = re.compile(r"fn .*: proved$|(logic|statements|library|axioms) |rt: (chose|\w+: begins with) ")
+# What rt says of what is proved, of the libraries and the kit, and the details of a goal.
+PLAIN = re.compile(r"\s|$|fn .*: proved$|(logic|statements|library|crate|axioms) |only=|rt: (chose|\w+: begins with) ")
 
 
 class BuildError(Exception):
