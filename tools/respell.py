@@ -12,6 +12,7 @@ import re
 import sys
 
 DECLARED = re.compile(r'^ *(?:abbrev pub |abbrev |unfoldable pub |unfoldable |pub )?([^\s(){}.;,@"«»:]+)(?: \{[^{}\n]*\})* :(?=\s|$)')
+LISTED = re.compile(r"^ +((?:[a-z]\w* )+[a-z]\w*) :(?=\s|$)")
 NAME = re.compile(r"""(?<![\w'₀-₉-])[A-Za-zµ]\w*(?:[-→]?\w+)*'*""")
 PARTS = re.compile(r"[^-→]+|[-→]")
 
@@ -32,6 +33,8 @@ def main(argv):
     theirs = [p for kind in ("specs", "proofs") for p in glob.glob(f"crates/*/{kind}/**/*.antt", recursive=True)]
     declared = {m[1] for p in theirs for line in read(p).split("\n") if (m := DECLARED.match(line))}
     table = {n: respelled(n) for n in declared if respelled(n) != n}
+    # A constructor may stand in a list of them.
+    table |= {n: respelled(n) for p in theirs for line in read(p).split("\n") if (m := LISTED.match(line)) for n in m[1].split() if respelled(n) != n}
     # A lemma that would have its function's name gets _lem.
     table |= {n: n + "_lem" for n in table.values() if n in declared}
     sources = glob.glob("crates/*/src/**/*.rt", recursive=True)

@@ -2,13 +2,13 @@
 #![tactic(auto)]
 
 ghost use Rattle.std.specs.Prelude.{◌≡◌};
-ghost use Rattle.phrases.specs.Describe.{result, left};
+ghost use Rattle.phrases.specs.Describe.{result_of, left};
 
 // The line of a record and its answer. It returns the line's length, 1 for a record that is not 8 bytes long or an
 // answer that is not on the list, then 3 for a slice that is shorter than the line; both leave the slice untouched.
 pub fn describe_record(bytes: &[u8], answer: usize, line: &mut [u8]) -> usize
-    ensures* { λ x. ⌜ (x ≡ result bytes.now answer line.old)
-        × (line.new ≡ left bytes.now answer line.old) ⌝ }
+    ensures { (result ≡ result_of bytes.now answer line.old)
+        × (line.new ≡ left bytes.now answer line.old) }
 {
     if bytes.len() != 8 {
         return 1;

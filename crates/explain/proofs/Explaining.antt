@@ -19,15 +19,15 @@ use Rattle.phrases.proofs.Lengths.{line-most, line-least, value-small}
 use Rattle.running.specs.Running.{answers_of}
 use Rattle.running.proofs.Playing.{sheet-whole, answers-most}
 use Rattle.running.proofs.Results.{within, kept-length}
-use Rattle.explain.specs.Explain.{line_at, explained, result, left, LengthsTell}
+use Rattle.explain.specs.Explain.{line_at, explained, result_of, left, LengthsTell}
 
 -- An answer up to 16 is on the list.
 pub listed-most : (a : ℕ) → a ≤ 16 → is_listed a ≡ true
 listed-most a h = covers.listed a ∙ le-leb a 19 (omega (arith, h))
 
 -- Refusal 2.
-pub no-sheet : (s out : Text) → is_sheet s ≡ false → (2 ≡ result s out) × (out ≡ left s out)
-unfolding result left
+pub no-sheet : (s out : Text) → is_sheet s ≡ false → (2 ≡ result_of s out) × (out ≡ left s out)
+unfolding result_of left
 no-sheet s out e = (rw e, rw e)
 
 module _ (s : Text) (ns : List ℕ) (h : take (length s / 8) ns ≡ answers_of s) where
@@ -47,8 +47,8 @@ module _ (s : Text) (ns : List ℕ) (h : take (length s / 8) ns ≡ answers_of s
       (λ i q. ap (line (record_at (drop (8 * i) s))) (answer-is i q))
 
   pub delivered : {out out' : Text} {r : ℕ} → is_sheet s ≡ true
-      → Delivered (each_of (line_at s ns) (length s / 8)) out out' r → (r ≡ result s out) × (out' ≡ left s out)
-  unfolding result left
+      → Delivered (each_of (line_at s ns) (length s / 8)) out out' r → (r ≡ result_of s out) × (out' ≡ left s out)
+  unfolding result_of left
   delivered {out} {out'} {r} e d =
       let d' = subst (λ t. Delivered t out out' r) whole d in
       (rw e d'.answer, rw e d'.left)
@@ -76,8 +76,8 @@ lengths-tell s b e =
     )
 
 -- A result that is no refusal is a length within the slice, so a caller can read the text back.
-pub readable : (s out : Text) {r : ℕ} {out' : Text} → (r ≡ result s out) × (out' ≡ left s out) → 4 ≤ r → r ≤ length out'
-unfolding result left
+pub readable : (s out : Text) {r : ℕ} {out' : Text} → (r ≡ result_of s out) × (out' ≡ left s out) → 4 ≤ r → r ≤ length out'
+unfolding result_of left
 readable s out {r} {out'} p h =
     omega (
       arith,

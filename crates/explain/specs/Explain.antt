@@ -23,9 +23,9 @@ unfolding answers_of line each_of
 explained s = lines_of s (answers_of s)
 
 -- The call, with the sheet s and a slice whose bytes are `out`: document 01's refusals 2 and 3.
-unfoldable pub result : Text → Text → ℕ
+unfoldable pub result_of : Text → Text → ℕ
 unfolding explained
-result s out = cond (is_sheet s) (cond (leb (length (explained s)) (length out)) (length (explained s)) 3) 2
+result_of s out = cond (is_sheet s) (cond (leb (length (explained s)) (length out)) (length (explained s)) 3) 2
 
 -- What the slice holds then.
 unfoldable pub left : Text → Text → Text
@@ -72,13 +72,13 @@ SampleHolds = (explained sample_sheet ≡ sample_text) × (explained trial_sheet
 unfoldable pub RoomHolds : Type 0
 RoomHolds =
     (length sample_text ≡ 122)
-    × (result sample_sheet (slice 121) ≡ 3) × (left sample_sheet (slice 121) ≡ slice 121)
-    × (result sample_sheet (slice 122) ≡ 122) × (left sample_sheet (slice 122) ≡ sample_text)
-    × (result sample_sheet (slice 124) ≡ 122) × (left sample_sheet (slice 124) ≡ sample_text ++ slice 2)
+    × (result_of sample_sheet (slice 121) ≡ 3) × (left sample_sheet (slice 121) ≡ slice 121)
+    × (result_of sample_sheet (slice 122) ≡ 122) × (left sample_sheet (slice 122) ≡ sample_text)
+    × (result_of sample_sheet (slice 124) ≡ 122) × (left sample_sheet (slice 124) ≡ sample_text ++ slice 2)
 
 -- The empty sheet, which has a listing (document 02, Paper 9), has no text: 2, whatever the slice holds.
 unfoldable pub EmptyRefused : Type 0
-EmptyRefused = (out : Text) → (result [] out ≡ 2) × (left [] out ≡ out)
+EmptyRefused = (out : Text) → (result_of [] out ≡ 2) × (left [] out ≡ out)
 
 -- No text is so short that its length could be taken for a refusal, and none of n records has more than 96 n bytes.
 unfoldable pub LengthsTell : Type 0

@@ -5,12 +5,12 @@
 ghost use Rattle.std.specs.Prelude.{true, ◌≡◌, ℕ, ◌/◌, ◌≤◌, ◌<◌, leb, length, get_or};
 ghost use Rattle.text.specs.Text.{Wrote, Delivered};
 ghost use Rattle.phrases.specs.Phrases.{is_listed};
-ghost use Rattle.explain.specs.Explain.{lines_of, result, left, SampleHolds, RoomHolds, EmptyRefused, LengthsTell};
+ghost use Rattle.explain.specs.Explain.{lines_of, result_of, left, SampleHolds, RoomHolds, EmptyRefused, LengthsTell};
 
 // The papers' sample and P3 to P9 in words; a slice at its limits; the empty sheet is refused; a text of n records has
 // 4 to 96 n bytes. By the definitions: nothing to run.
 pub fn sample()
-    ensures* { λ r. ⌜ SampleHolds × RoomHolds × EmptyRefused × LengthsTell ⌝ }
+    ensures { SampleHolds × RoomHolds × EmptyRefused × LengthsTell }
 {}
 
 // How long the lines of a sheet's records are, where there is an answer for each.
@@ -18,7 +18,7 @@ fn text_length(sheet: &[u8], answers: &[u8]) -> usize
     requires { (length sheet.now / 8 ≤ 4095)
         × (length sheet.now / 8 ≤ length answers.now)
         × ((i : ℕ) → i < length sheet.now / 8 → is_listed (get_or answers.now i 0) ≡ true) }
-    ensures* { λ r. ⌜ r ≡ length (lines_of sheet.now answers.now) ⌝ }
+    ensures { result ≡ length (lines_of sheet.now answers.now) }
 {
     let n = sheet.len() / 8;
     let mut total: usize = 0;
@@ -37,7 +37,7 @@ fn has_room(sheet: &[u8], answers: &[u8], room: usize) -> bool
     requires { (length sheet.now / 8 ≤ 4095)
         × (length sheet.now / 8 ≤ length answers.now)
         × ((i : ℕ) → i < length sheet.now / 8 → is_listed (get_or answers.now i 0) ≡ true) }
-    ensures* { λ r. ⌜ r ≡ leb (length (lines_of sheet.now answers.now)) room ⌝ }
+    ensures { result ≡ leb (length (lines_of sheet.now answers.now)) room }
 {
     if 96 * (sheet.len() / 8) <= room {
         return true;
@@ -50,9 +50,7 @@ fn put_text(out: &mut [u8], sheet: &[u8], answers: &[u8]) -> usize
     requires { (length sheet.now / 8 ≤ length answers.now)
         × ((i : ℕ) → i < length sheet.now / 8 → is_listed (get_or answers.now i 0) ≡ true)
         × (length (lines_of sheet.now answers.now) ≤ length out.old) }
-    ensures* { λ r. ⌜
-        Wrote out.old 0 (lines_of sheet.now answers.now) out.new r
-        ⌝ }
+    ensures { Wrote out.old 0 (lines_of sheet.now answers.now) out.new result }
 {
     let n = sheet.len() / 8;
     let mut at: usize = 0;
@@ -71,9 +69,7 @@ fn deliver(sheet: &[u8], answers: &[u8], out: &mut [u8]) -> usize
     requires { (length sheet.now / 8 ≤ 4095)
         × (length sheet.now / 8 ≤ length answers.now)
         × ((i : ℕ) → i < length sheet.now / 8 → is_listed (get_or answers.now i 0) ≡ true) }
-    ensures* { λ r. ⌜
-        Delivered (lines_of sheet.now answers.now) out.old out.new r
-        ⌝ }
+    ensures { Delivered (lines_of sheet.now answers.now) out.old out.new result }
 {
     if !has_room(sheet, answers, out.len()) {
         return 3;
@@ -84,8 +80,8 @@ fn deliver(sheet: &[u8], answers: &[u8], out: &mut [u8]) -> usize
 // Sheet in, a line for each record out. It returns the text's length, 2 for a sheet of wrong length or without a valid
 // opening, then 3 for a slice that is shorter than the text; both leave the slice untouched.
 pub fn explain_sheet(sheet: &[u8], text: &mut [u8]) -> usize
-    ensures* { λ r. ⌜ (r ≡ result sheet.now text.old)
-        × (text.new ≡ left sheet.now text.old) ⌝ }
+    ensures { (result ≡ result_of sheet.now text.old)
+        × (text.new ≡ left sheet.now text.old) }
 {
     if !records::is_sheet(sheet) {
         return 2;

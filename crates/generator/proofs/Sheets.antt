@@ -15,7 +15,7 @@ use Rattle.text.proofs.Laws.{then}
 use Rattle.records.specs.Bytes.{record_bytes, sheet_bytes}
 use Rattle.records.proofs.Encoding.{sheet-length}
 use Rattle.draws.specs.Draws.{advance, board_from, Drawn, drawn, later, seed_records}
-use Rattle.generator.specs.Seeded.{seed_sheet, is_count, result, left}
+use Rattle.generator.specs.Seeded.{seed_sheet, is_count, result_of, left}
 use Rattle.generator.proofs.Later.{later-length}
 
 pub seed-length : (s n : ℕ) → length (seed_records s n) ≡ n
@@ -57,18 +57,18 @@ all-written s n {out} {d} {e} {p} {r} x h ex w v =
 -- The call, its tests in order
 
 module _ (s n : ℕ) (out : Text) where
-  pub none : n < 1 → (2 ≡ result s n out) × (out ≡ left s n out)
-  unfolding result left
+  pub none : n < 1 → (2 ≡ result_of s n out) × (out ≡ left s n out)
+  unfolding result_of left
   none h = (rw (lt-leb 1 n h), rw (lt-leb 1 n h))
 
   module _ (low : 1 ≤ n) where
-    pub too_many : 4095 < n → (2 ≡ result s n out) × (out ≡ left s n out)
-    unfolding result left
+    pub too_many : 4095 < n → (2 ≡ result_of s n out) × (out ≡ left s n out)
+    unfolding result_of left
     too_many h = (rw (le-leb 1 n low, lt-leb n 4095 h), rw (le-leb 1 n low, lt-leb n 4095 h))
 
     module _ (high : n ≤ 4095) where
-      pub short : length out < 8 * n → (3 ≡ result s n out) × (out ≡ left s n out)
-      unfolding result left
+      pub short : length out < 8 * n → (3 ≡ result_of s n out) × (out ≡ left s n out)
+      unfolding result_of left
       short h =
           let e = lt-leb (8 * n) (length out) h in (
             rw (le-leb 1 n low, le-leb n 4095 high, sheet-bytes s n, e),
@@ -77,17 +77,17 @@ module _ (s n : ℕ) (out : Text) where
 
       module _ (room : 8 * n ≤ length out) where
         -- The tests are passed.
-        pub passed : (result s n out ≡ 8 * n) × (left s n out ≡ over out 0 (seed_sheet s n))
-        unfolding result left
+        pub passed : (result_of s n out ≡ 8 * n) × (left s n out ≡ over out 0 (seed_sheet s n))
+        unfolding result_of left
         passed =
             let f = le-leb (8 * n) (length out) room in (
               rw (le-leb 1 n low, le-leb n 4095 high, sheet-bytes s n, f),
               rw (le-leb 1 n low, le-leb n 4095 high, sheet-bytes s n, f),
             )
 
-        pub written : {e : Text} {r : ℕ} → Wrote out 0 (seed_sheet s n) e r → (r ≡ result s n out) × (e ≡ left s n out)
+        pub written : {e : Text} {r : ℕ} → Wrote out 0 (seed_sheet s n) e r → (r ≡ result_of s n out) × (e ≡ left s n out)
         written w = (w.next ∙ omega (arith, passed.0, sheet-bytes s n), w.text ∙ sym passed.1)
 
         -- For a caller that lends enough.
-        pub made : {e : Text} {r : ℕ} → (r ≡ result s n out) × (e ≡ left s n out) → Wrote out 0 (seed_sheet s n) e r
+        pub made : {e : Text} {r : ℕ} → (r ≡ result_of s n out) × (e ≡ left s n out) → Wrote out 0 (seed_sheet s n) e r
         made h = record { next = h.0 ∙ omega (arith, passed.0, sheet-bytes s n); text = h.1 ∙ passed.1 }

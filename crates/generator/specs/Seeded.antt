@@ -22,9 +22,9 @@ abbrev pub is_count : ℕ → Bool
 is_count n = leb 1 n && leb n 4095
 
 -- The sheet's length; 2 for another count, then 3 for a slice that is shorter than the sheet.
-unfoldable pub result : ℕ → ℕ → Text → ℕ
+unfoldable pub result_of : ℕ → ℕ → Text → ℕ
 unfolding seed_sheet
-result s n out =
+result_of s n out =
     let len = length (seed_sheet s n) in
     cond (is_count n) (cond (leb len (length out)) len 3) 2
 

@@ -4,7 +4,7 @@ use Rattle.std.specs.Prelude.{[], ◌∷◌, ◌≡◌, ℕ, length}
 use Rattle.model.specs.Records.{bare, of, of_both, of_value}
 use Rattle.text.specs.Text.{Text}
 use Rattle.draws.specs.Draws.{advance, draw, second_board, seed_records}
-use Rattle.generator.specs.Seeded.{result, left}
+use Rattle.generator.specs.Seeded.{result_of, left}
 
 -- In hexadecimal: the state 9e3779b9 shifted right 16 places is 00009e37, the exclusive-or 9e37e78e; that shifted left
 -- 7 places is 4f1bf3c700, of which 1bf3c700 is kept, and the exclusive-or is 85c4208e. The state 0 gives 0; 1 gives 1
@@ -40,13 +40,13 @@ RecordsHold =
 -- The counts 0 and 4,096 are refused with 2 and leave the slice as it was, however long it is.
 abbrev pub CountsHold : Type 0
 CountsHold = (s : ℕ) (out : Text)
-    → (result s 0 out ≡ 2) × (left s 0 out ≡ out) × (result s 4096 out ≡ 2) × (left s 4096 out ≡ out)
+    → (result_of s 0 out ≡ 2) × (left s 0 out ≡ out) × (result_of s 4096 out ≡ 2) × (left s 4096 out ≡ out)
 
 -- The longest sheet, in a slice that it just fills and in one that is a byte short.
 abbrev pub LongestHolds : Type 0
 LongestHolds = (s : ℕ) (out : Text)
-    → (length out ≡ 32760 → result s 4095 out ≡ 32760)
-    × (length out ≡ 32759 → (result s 4095 out ≡ 3) × (left s 4095 out ≡ out))
+    → (length out ≡ 32760 → result_of s 4095 out ≡ 32760)
+    × (length out ≡ 32759 → (result_of s 4095 out ≡ 3) × (left s 4095 out ≡ out))
 
 -- Seed 0 and one record: a slice of 7 bytes is left as it was, one of 8 holds the sheet, of one of 10 the last two
 -- bytes stay.
@@ -55,6 +55,6 @@ SlicesHold =
     let seven : Text = 1 ∷ 2 ∷ 3 ∷ 4 ∷ 5 ∷ 6 ∷ 7 ∷ [] in
     let eight : Text = 1 ∷ 2 ∷ 3 ∷ 4 ∷ 5 ∷ 6 ∷ 7 ∷ 8 ∷ [] in
     let ten : Text = 1 ∷ 2 ∷ 3 ∷ 4 ∷ 5 ∷ 6 ∷ 7 ∷ 8 ∷ 9 ∷ 10 ∷ [] in
-    (result 0 1 seven ≡ 3) × (left 0 1 seven ≡ seven)
-    × (result 0 1 eight ≡ 8) × (left 0 1 eight ≡ 0 ∷ 7 ∷ 0 ∷ 0 ∷ 0 ∷ 0 ∷ 0 ∷ 0 ∷ [])
-    × (result 0 1 ten ≡ 8) × (left 0 1 ten ≡ 0 ∷ 7 ∷ 0 ∷ 0 ∷ 0 ∷ 0 ∷ 0 ∷ 0 ∷ 9 ∷ 10 ∷ [])
+    (result_of 0 1 seven ≡ 3) × (left 0 1 seven ≡ seven)
+    × (result_of 0 1 eight ≡ 8) × (left 0 1 eight ≡ 0 ∷ 7 ∷ 0 ∷ 0 ∷ 0 ∷ 0 ∷ 0 ∷ 0 ∷ [])
+    × (result_of 0 1 ten ≡ 8) × (left 0 1 ten ≡ 0 ∷ 7 ∷ 0 ∷ 0 ∷ 0 ∷ 0 ∷ 0 ∷ 0 ∷ 9 ∷ 10 ∷ [])

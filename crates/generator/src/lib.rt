@@ -6,7 +6,7 @@ ghost use Rattle.std.specs.Prelude.{◌≡◌, ◌+◌, ◌*◌, ◌≤◌, leng
 ghost use Rattle.records.specs.Bytes.{sheet_bytes};
 ghost use Rattle.text.specs.Text.{Wrote};
 ghost use Rattle.draws.specs.Draws.{later};
-ghost use Rattle.generator.specs.Seeded.{result, left, SheetsWellMade};
+ghost use Rattle.generator.specs.Seeded.{result_of, left, SheetsWellMade};
 ghost use Rattle.generator.specs.Trials.{DrawsHold, StatesHold, BoardsHold, RecordsHold, CountsHold, LongestHolds, SlicesHold};
 
 use draws::{draw_opening, draw_record};
@@ -14,7 +14,7 @@ use draws::{draw_opening, draw_record};
 // Draws k records, s being the state of the draw before them, and writes them from place at on.
 fn put_later(out: &mut [u8], at: usize, s: u32, k: usize) -> usize
     requires { at + 8 * k ≤ length out.old }
-    ensures* { λ r. ⌜ Wrote out.old at (sheet_bytes (later k s)) out.new r ⌝ }
+    ensures { Wrote out.old at (sheet_bytes (later k s)) out.new result }
 {
     let mut p = at;
     let mut t = s;
@@ -32,8 +32,8 @@ fn put_later(out: &mut [u8], at: usize, s: u32, k: usize) -> usize
 // outside 1 to 4,095, then 3 for a slice that is shorter than the sheet: both leave the slice untouched. Bytes past the
 // sheet keep their values.
 pub fn seed_sheet(seed: u32, count: usize, sheet: &mut [u8]) -> usize
-    ensures* { λ r. ⌜ (r ≡ result seed count sheet.old)
-        × (sheet.new ≡ left seed count sheet.old) ⌝ }
+    ensures { (result ≡ result_of seed count sheet.old)
+        × (sheet.new ≡ left seed count sheet.old) }
 {
     if count < 1 {
         return 2;
@@ -51,10 +51,10 @@ pub fn seed_sheet(seed: u32, count: usize, sheet: &mut [u8]) -> usize
 
 // What is claimed of every sheet that `seed_sheet` makes. By the definitions: nothing to run.
 pub fn claim()
-    ensures* { λ r. ⌜ SheetsWellMade ⌝ }
+    ensures { SheetsWellMade }
 {}
 
 // The definitions, tried: draws, states, boards, records, and the call at its limits. Nothing to run.
 pub fn trials()
-    ensures* { λ r. ⌜ DrawsHold × StatesHold × BoardsHold × RecordsHold × CountsHold × LongestHolds × SlicesHold ⌝ }
+    ensures { DrawsHold × StatesHold × BoardsHold × RecordsHold × CountsHold × LongestHolds × SlicesHold }
 {}

@@ -2,5 +2,4 @@ pub mod Fitting
 pub mod Fixed
 pub mod Lending
 pub mod Putting
-pub mod Walk
 pub mod Mixing

@@ -163,7 +163,7 @@ unfolding PutBack
 put-back row p shape v =
     let ok = within row p shape v in
     record {
-      news = λ r c' l. fitting row p shape v S.refreshController refl _ _ r c'
+      news = λ r c' l. fitting row p shape v S.refresh_controller refl _ _ r c'
           (rw (registry-fit row ok, controller-fit row ok)) refl l;
       read_leader = λ b r c' t l. fitting row p shape v S.read_leader refl _ _ r c'
           (leader-fit row b (report-fit row ok b t.0) t.1) (reported row p shape v b) l;

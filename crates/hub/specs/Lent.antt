@@ -3,7 +3,7 @@
 use Rattle.std.specs.Prelude.{Bool, true, not, cond, ◌&&◌, ◌||◌, List, [], ◌∷◌, ◌≢◌, ◌≡◌, ◌<◌, leb, eqb, length}
 use Rattle.model.specs.Members.{is_replica, none}
 use Rattle.model.specs.State.{RowState, outline, entries, Entry, opening_with, opened, stage_number}
-use Rattle.model.specs.Steps.{Step, refreshController, read_leader, read, hear, answer_of, behind, step, with_registry, with_controller}
+use Rattle.model.specs.Steps.{Step, refresh_controller, read_leader, read, hear, answer_of, behind, step, with_registry, with_controller}
 use Rattle.model.specs.Ranges.{every, is_epoch, in_range}
 use Rattle.cluster.specs.declared.Registry.{Registry}
 use Rattle.cluster.specs.declared.Controller.{Controller}
@@ -63,7 +63,7 @@ pub record Lends (fits : Bool) (Known : RowState → Type 0) (st : Step) (c : Co
 
 -- The four steps by what they are told: step 10 of the registry g, the others of a board by x.
 abbrev pub TakesNews : Controller → Registry → Reply → Controller → Type 0
-TakesNews c g = Lends (registry_fits g && controller_fits c) (λ s. s.registry ≡ registry_of g) refreshController c
+TakesNews c g = Lends (registry_fits g && controller_fits c) (λ s. s.registry ≡ registry_of g) refresh_controller c
 
 abbrev pub ReadsLeader : Controller → Report → Reply → Controller → Type 0
 ReadsLeader c x = Lends (leader_fits c x) (Reported x) read_leader c

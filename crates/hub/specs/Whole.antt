@@ -51,7 +51,7 @@ AsWhole st row p r c' =
 
 pub record LentAsWhole (row : Cluster) (p : Places) : Type 0 where
   pub news : (r : Reply) (c' : Controller) → TakesNews row.controller row.registry r c'
-      → AsWhole S.refreshController row p r c'
+      → AsWhole S.refresh_controller row p r c'
   pub read_leader : (b : ℕ) (r : Reply) (c' : Controller) → TellsOfLeader row b
       → ReadsLeader row.controller (report_of row b) r c' → AsWhole S.read_leader row p r c'
   pub read : (b : ℕ) (r : Reply) (c' : Controller) → Reads row.controller (report_of row b) r c'
@@ -74,7 +74,7 @@ pub data Link : Step → Held → Held → ℕ → ℕ → Type 0 where
   by_value : {st : Step} {h h' : Held} {n q : ℕ} → Called st h h' n q → Link st h h' n q
   news : {h : Held} {r : Reply} {c' : Controller} → Shape h.row
       → TakesNews h.row.controller h.row.registry r c'
-      → Link S.refreshController h (put_into h c') r.answer r.behind
+      → Link S.refresh_controller h (put_into h c') r.answer r.behind
   read_leader : {h : Held} {b : ℕ} {r : Reply} {c' : Controller} → Shape h.row → TellsOfLeader h.row b
       → ReadsLeader h.row.controller (report_of h.row b) r c'
       → Link S.read_leader h (put_into h c') r.answer r.behind

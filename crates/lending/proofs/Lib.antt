@@ -1,2 +1,1 @@
 pub mod Linking
-pub mod Walk

@@ -44,7 +44,7 @@ fn put_back(row: Cluster, t: Returned) -> Outcome
 
 // Step 10.
 pub fn refresh_controller(row: Cluster) -> Outcome
-    ensures { IsLink S.refreshController row result }
+    ensures { IsLink S.refresh_controller row result }
 {
     let c = row.controller;
     let g = row.registry;

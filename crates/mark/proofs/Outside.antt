@@ -11,7 +11,7 @@ use borrow.Author.Tests.{ne_eqb}
 use Rattle.model.specs.Prelude.{upd, ◌⊑◌}
 use Rattle.model.specs.Members.{is_replica, size}
 use Rattle.model.specs.State.{outline, Entries, View, State, Registry, is_choosing}
-use Rattle.model.specs.Steps.{Step, append, commit, add, remove, change_leader, refresh, join, receive, acknowledge, refreshController, read_leader, read, set_normal, hear, install, malformed, checks, next, accepted, step}
+use Rattle.model.specs.Steps.{Step, append, commit, add, remove, change_leader, refresh, join, receive, acknowledge, refresh_controller, read_leader, read, set_normal, hear, install, malformed, checks, next, accepted, step}
 use Rattle.model.specs.Runs.{run}
 use Rattle.model.proofs.Tests.{Holds, facts, is_true, is_false, split-and, by-test, by_cond, at-or, eqb_same}
 use Rattle.model.proofs.Prefix.{begins-nil}
@@ -98,7 +98,7 @@ module _ (𝓔 : Entries) (b : ℕ) where
         by-own join (joins (k refl)) (λ y n. rw (ne_eqb b y (λ e. n (sym e))) (k refl).1) x h
     keeps (receive x) h k = (k refl).1
     keeps (acknowledge a x) h k = (k refl).1
-    keeps refreshController h k = (k refl).1
+    keeps refresh_controller h k = (k refl).1
     keeps read_leader h k = (k refl).1
     keeps (read x) h k = (k refl).1
     keeps set_normal h k = (k refl).1
@@ -120,9 +120,9 @@ module _ (𝓔 : Entries) (b : ℕ) where
       → (term (run 𝓔 s sts) ≡ term s → BarredIn s)
       → BarredIn (run 𝓔 s sts)
   unfolding run
-  barred i [] out k = k refl
-  barred {s} i (st ∷ sts) out k =
-      barred (step_keeps 𝓔 i st).inv sts
+  barred {L = L} {s = s} i [] out k = k refl
+  barred {L = L} {s = s} i (st ∷ sts) out k =
+      barred {L = (step_keeps 𝓔 i st).history} (step_keeps 𝓔 i st).inv sts
       (λ begun p. out (st ∷ begun) (record { rest = p.rest; is = ap (λ l. st ∷ l) p.is }))
       (λ e. by-test (accepted (outline s) st)
       (λ c. let q : step 𝓔 s st ≡ next 𝓔 s st = rw (is_true (accepted (outline s) st) c) in

@@ -10,7 +10,7 @@ use lib.Dec.{T, leb, leb→le}
 use Rattle.model.specs.Prelude.{Check, ◌else◌, first_failed, passes}
 use Rattle.model.specs.Members.{Members, none}
 use Rattle.model.specs.State.{Entries, State, Outline, outline}
-use Rattle.model.specs.Steps.{Step, append, commit, add, remove, change_leader, refresh, join, receive, acknowledge, refreshController, read_leader, read, set_normal, hear, install, malformed, checks, accepted, answer_of, qualified, behind, next, step}
+use Rattle.model.specs.Steps.{Step, append, commit, add, remove, change_leader, refresh, join, receive, acknowledge, refresh_controller, read_leader, read, set_normal, hear, install, malformed, checks, accepted, answer_of, qualified, behind, next, step}
 use Rattle.model.proofs.Tests.{split-and, ne-fact, eq-or-ne, of-true, Holds, facts}
 
 -- Refusals have the numbers 1 to 16.
@@ -54,7 +54,7 @@ all-numbered m (refresh b) = tt
 all-numbered m (join b) = tt
 all-numbered m (receive b) = tt
 all-numbered m (acknowledge a b) = tt
-all-numbered m refreshController = tt
+all-numbered m refresh_controller = tt
 all-numbered m read_leader = tt
 all-numbered m (read b) = tt
 all-numbered m set_normal = tt

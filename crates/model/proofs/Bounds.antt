@@ -12,7 +12,7 @@ use borrow.Author.Tests.{ne_eqb}
 use Rattle.model.specs.Prelude.{upd}
 use Rattle.model.specs.Members.{is_replica, size}
 use Rattle.model.specs.State.{outline, Entries, View, Status, normal, waiting, Stage, Registry, Controller, State, Opening, can_open, opened, is_choosing, stage_number, stage_for, zeros}
-use Rattle.model.specs.Steps.{Step, append, commit, add, remove, change_leader, refresh, join, receive, acknowledge, refreshController, read_leader, read, set_normal, hear, install, malformed, checks, next, accepted, step, heard_of, succeeded, vacated}
+use Rattle.model.specs.Steps.{Step, append, commit, add, remove, change_leader, refresh, join, receive, acknowledge, refresh_controller, read_leader, read, set_normal, hear, install, malformed, checks, next, accepted, step, heard_of, succeeded, vacated}
 use Rattle.model.specs.Runs.{run}
 use Rattle.model.specs.Claim.{after}
 use Rattle.model.specs.Ranges.{in_range}
@@ -237,7 +237,7 @@ module _ (𝓔 : Entries) where
             k.logs.acked;
       };
     }
-    bounds-keep refreshController h = record {
+    bounds-keep refresh_controller h = record {
       registry = k.registry;
       replicas = k.replicas;
       logs = k.logs;
@@ -318,8 +318,9 @@ module _ (𝓔 : Entries) where
 
   pub run-bounds : {L : ℕ → ℕ} {s : State Entry} → Inv L s → Bounds s → (sts : List Step) → Bounds (run 𝓔 s sts)
   unfolding run
-  run-bounds i k [] = k
-  run-bounds i k (st ∷ sts) = run-bounds (step_keeps 𝓔 i st).inv (step-bounds i k st) sts
+  run-bounds {L = L} {s = s} i k [] = k
+  run-bounds {L = L} {s = s} i k (st ∷ sts) =
+      run-bounds {L = (step_keeps 𝓔 i st).history} (step_keeps 𝓔 i st).inv (step-bounds i k st) sts
 
   pub in-range : (o : Opening) → T (can_open o) → (sts : List Step) → T (in_range (outline (after 𝓔 o sts)))
   in-range o real sts =

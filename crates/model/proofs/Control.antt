@@ -9,7 +9,7 @@ use lib.Dec.{T, eqb, eqb→eq, ltb→lt, T_not}
 use lib.ListN.{length}
 use borrow.Author.Tests.{ne_eqb}
 use Rattle.model.specs.State.{outline, Entries, View, Status, normal, waiting, Stage, idle, leader, boards, Controller, State, is_choosing, stage_number, stage_for}
-use Rattle.model.specs.Steps.{refreshController, read_leader, read, hear, checks, next, with_controller, heard_of, deaf}
+use Rattle.model.specs.Steps.{refresh_controller, read_leader, read, hear, checks, next, with_controller, heard_of, deaf}
 use Rattle.model.proofs.Tests.{Holds, split-and, join-and, by-test, at-or, eqb_same, eq_test, upd-idle, is_true}
 use Rattle.model.proofs.Prefix.{begins-length}
 use Rattle.model.proofs.Invariant as Invariant
@@ -99,7 +99,7 @@ module _ (𝓔 : Entries) where
     abbrev r : View
     r = registry.view
 
-    pub refresh-controller-keeps : Holds (checks (outline s) refreshController) → Inv L (next 𝓔 s refreshController)
+    pub refresh-controller-keeps : Holds (checks (outline s) refresh_controller) → Inv L (next 𝓔 s refresh_controller)
     refresh-controller-keeps h = with-controller i c'
         (record { epoch = omega arith; current = λ _. refl; stage = λ _. fits-stage_for registry.status })
         (same-leader i c' firm)

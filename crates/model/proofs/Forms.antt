@@ -12,7 +12,7 @@ use borrow.Author.Tests.{eq-eqb, ne_eqb, lt-leb}
 use Rattle.model.specs.Prelude.{Check, ◌else◌, first_failed, asks}
 use Rattle.model.specs.Members.{is_replica}
 use Rattle.model.specs.State.{Outline}
-use Rattle.model.specs.Steps.{Step, append, commit, add, remove, change_leader, refresh, join, receive, acknowledge, refreshController, read_leader, read, set_normal, hear, install, malformed, checks, answer_of}
+use Rattle.model.specs.Steps.{Step, append, commit, add, remove, change_leader, refresh, join, receive, acknowledge, refresh_controller, read_leader, read, set_normal, hear, install, malformed, checks, answer_of}
 use Rattle.model.specs.Records.{Record, well_formed, is_opening, unused, rules, step_of, Forms}
 use Rattle.model.proofs.Tests.{split-and, is_false, by_cond, eq-or-ne}
 use Rattle.model.proofs.Refusals.{absent, absent-not}
@@ -123,7 +123,7 @@ module _ (m : Outline) where
         then (λ _. with-board (receive board) tt refl)
         then (λ _. turn-pair (is_replica board) (is_replica other) (not (eqb board other)) (eqb spare 0) (eqb value 0)
         ∙ rule (spare ∷ value ∷ []) (acknowledge board other) tt)
-        then (λ _. with_none refreshController tt refl)
+        then (λ _. with_none refresh_controller tt refl)
         then (λ _. with_none read_leader tt refl)
         then (λ _. with-board (read board) tt refl)
         then (λ _. with_none set_normal tt refl)

@@ -10,7 +10,7 @@ use lib.Dec.{T, eqb, ltb→lt}
 use lib.ListN.{length, get_or}
 use Rattle.model.specs.Prelude.{upd}
 use Rattle.model.specs.State.{outline, Entries, Entry, entries, State, RowState, Opening, can_open, opened}
-use Rattle.model.specs.Steps.{Step, Writes, appends, commits, receives, nothing, writes, append, commit, add, remove, change_leader, refresh, join, receive, acknowledge, refreshController, read_leader, read, set_normal, hear, install, malformed, checks, accepted, next, step, shared}
+use Rattle.model.specs.Steps.{Step, Writes, appends, commits, receives, nothing, writes, append, commit, add, remove, change_leader, refresh, join, receive, acknowledge, refresh_controller, read_leader, read, set_normal, hear, install, malformed, checks, accepted, next, step, shared}
 use Rattle.model.specs.Records.{Record, step_of}
 use Rattle.model.specs.Runs.{steps_of, run}
 use Rattle.model.specs.Claim.{after}
@@ -93,7 +93,7 @@ module _ (𝓔 : Entries) (P : 𝓔.Entry → Type 0) (Q : ℕ → Type 0)
     keeps change_leader w h = record { logs = m.logs; committed = m.committed }
     keeps (refresh b) w h = record { logs = m.logs; committed = m.committed }
     keeps (acknowledge a b) w h = record { logs = m.logs; committed = m.committed }
-    keeps refreshController w h = record { logs = m.logs; committed = m.committed }
+    keeps refresh_controller w h = record { logs = m.logs; committed = m.committed }
     keeps read_leader w h = record { logs = m.logs; committed = m.committed }
     keeps (read b) w h = record { logs = m.logs; committed = m.committed }
     keeps set_normal w h = record { logs = m.logs; committed = m.committed }
@@ -111,9 +111,9 @@ module _ (𝓔 : Entries) (P : 𝓔.Entry → Type 0) (Q : ℕ → Type 0)
   run-made : {L : ℕ → ℕ} {s : State Entry} → Inv L s → Bounds s → Kept P s
       → (sts : List Step) → All (λ st. Brings Q (writes st)) sts → Kept P (run 𝓔 s sts)
   unfolding run
-  run-made i k m [] w = m
-  run-made i k m (st ∷ sts) w =
-      run-made (step_keeps 𝓔 i st).inv (step-bounds 𝓔 i k st) (step-made i k m st w.0) sts w.1
+  run-made {L = L} {s = s} i k m [] w = m
+  run-made {L = L} {s = s} i k m (st ∷ sts) w =
+      run-made {L = (step_keeps 𝓔 i st).history} (step_keeps 𝓔 i st).inv (step-bounds 𝓔 i k st) (step-made i k m st w.0) sts w.1
 
   pub all_made : (o : Opening) → T (can_open o) → (sts : List Step) → All (λ st. Brings Q (writes st)) sts
       → Kept P (after 𝓔 o sts)

@@ -5,7 +5,7 @@ use mathlib.Core.Path.{subst}
 use Prim.Native.Nat.{ℕ, suc}
 use native.Mathlib.Nat.{zero-add}
 use lib.Dec.{eqb}
-use Rattle.model.specs.Steps.{Step, append, commit, add, remove, change_leader, refresh, join, receive, acknowledge, refreshController, read_leader, read, set_normal, hear, install, malformed}
+use Rattle.model.specs.Steps.{Step, append, commit, add, remove, change_leader, refresh, join, receive, acknowledge, refresh_controller, read_leader, read, set_normal, hear, install, malformed}
 use Rattle.model.specs.Records.{Record, unused, rules, step_of}
 use Rattle.model.proofs.Tests.{by_cond}
 use Rattle.model.proofs.Theorem.{All, nth}
@@ -21,7 +21,7 @@ module _ (r : Record) where
   -- The steps of its fields, from number 1 on, and the fields that each does not use.
   abbrev pub plain : List Step
   plain = append board value ∷ commit board ∷ add board ∷ remove board ∷ change_leader ∷ refresh board ∷ join board
-      ∷ receive board ∷ acknowledge board other ∷ refreshController ∷ read_leader ∷ read board ∷ set_normal ∷ hear board
+      ∷ receive board ∷ acknowledge board other ∷ refresh_controller ∷ read_leader ∷ read board ∷ set_normal ∷ hear board
       ∷ install board ∷ []
 
   abbrev one : List ℕ

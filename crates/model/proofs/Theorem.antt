@@ -10,7 +10,7 @@ use lib.ListN.{get_or}
 use Rattle.model.specs.Prelude.{◌⊑◌}
 use Rattle.model.specs.Members.{is_replica, only, size}
 use Rattle.model.specs.State.{outline, Entries, State, Opening, can_open, opened, first_view, no_view}
-use Rattle.model.specs.Steps.{Step, append, commit, add, remove, change_leader, refresh, join, receive, acknowledge, refreshController, read_leader, read, set_normal, hear, install, malformed, writes, checks, next, accepted, step}
+use Rattle.model.specs.Steps.{Step, append, commit, add, remove, change_leader, refresh, join, receive, acknowledge, refresh_controller, read_leader, read, set_normal, hear, install, malformed, writes, checks, next, accepted, step}
 use Rattle.model.specs.Runs.{run, gift, gives, given}
 use Rattle.model.specs.Claim.{LeadsUnder, after, receipts, Safe, Safety}
 use Rattle.model.proofs.Tests.{Holds, facts, by-test, by_cond, is_true, is_false}
@@ -104,7 +104,7 @@ module _ (𝓔 : Entries) where
   keeps i (join b) h = later (join-keeps 𝓔 i b h) (omega arith)
   keeps i (receive b) h = later (receive-keeps 𝓔 i b h) (omega arith)
   keeps i (acknowledge a b) h = later (acknowledge-keeps 𝓔 i a b h) (omega arith)
-  keeps i refreshController h = later (refresh-controller-keeps 𝓔 i h) (omega arith)
+  keeps i refresh_controller h = later (refresh-controller-keeps 𝓔 i h) (omega arith)
   keeps i read_leader h = later (read-leader-keeps 𝓔 i h) (omega arith)
   keeps i (read b) h = later (read_keeps 𝓔 i b h) (omega arith)
   keeps i set_normal h = later (set-normal-keeps 𝓔 i h) (omega arith)
@@ -120,10 +120,10 @@ module _ (𝓔 : Entries) where
 
   pub run-keeps : {L : ℕ → ℕ} {s : State Entry} → Inv L s → (sts : List Step) → Later L s (run 𝓔 s sts)
   unfolding run
-  run-keeps {s} i [] = later i (omega arith)
-  run-keeps {s} i (st ∷ sts) =
+  run-keeps {L = L} {s = s} i [] = later i (omega arith)
+  run-keeps {L = L} {s = s} i (st ∷ sts) =
       let k = step_keeps i st in
-      let m = run-keeps k.inv sts in
+      let m = run-keeps {L = k.history} k.inv sts in
       record {
         history = m.history;
         inv = m.inv;
@@ -144,7 +144,7 @@ module _ (𝓔 : Entries) where
   next-gives s (join b) = sym (append-nil s.committed)
   next-gives s (receive b) = sym (append-nil s.committed)
   next-gives s (acknowledge a b) = sym (append-nil s.committed)
-  next-gives s refreshController = sym (append-nil s.committed)
+  next-gives s refresh_controller = sym (append-nil s.committed)
   next-gives s read_leader = sym (append-nil s.committed)
   next-gives s (read b) = sym (append-nil s.committed)
   next-gives s set_normal = sym (append-nil s.committed)

@@ -3,7 +3,7 @@
 use Rattle.std.specs.Prelude.{Bool, cond, not, ◌&&◌, ◌||◌, List, [], ◌∷◌, ◌≢◌, ◌≡◌, ℕ, leb, eqb, get_or}
 use Rattle.model.specs.Members.{is_replica}
 use Rattle.model.specs.State.{Outline, Opening, opening_with}
-use Rattle.model.specs.Steps.{Step, append, commit, add, remove, change_leader, refresh, join, receive, acknowledge, refreshController, read_leader, read, set_normal, hear, install, malformed, answer_of}
+use Rattle.model.specs.Steps.{Step, append, commit, add, remove, change_leader, refresh, join, receive, acknowledge, refresh_controller, read_leader, read, set_normal, hear, install, malformed, answer_of}
 
 -- "Byte 0 is the step, 0 to 15; byte 1 the board (a in step 9); byte 2 is b in step 9; byte 3 zero;
 -- bytes 4 to 7 the value."
@@ -80,7 +80,7 @@ rules r =
     ∷ uses_board r join
     ∷ uses_board r receive
     ∷ uses_boards r acknowledge
-    ∷ uses_nothing r refreshController
+    ∷ uses_nothing r refresh_controller
     ∷ uses_nothing r read_leader
     ∷ uses_board r read
     ∷ uses_nothing r set_normal

@@ -19,7 +19,7 @@ pub data Step : Type 0 where
   -- 9 count
   acknowledge : (a b : ℕ) → Step
   -- 10 controller news, 11
-  refreshController read_leader : Step
+  refresh_controller read_leader : Step
   -- 12
   read : (b : ℕ) → Step
   -- 13
@@ -45,7 +45,7 @@ writes (refresh b) = nothing
 writes (join b) = nothing
 writes (receive b) = receives b
 writes (acknowledge a b) = nothing
-writes refreshController = nothing
+writes refresh_controller = nothing
 writes read_leader = nothing
 writes (read b) = nothing
 writes set_normal = nothing
@@ -204,7 +204,7 @@ module _ (m : Outline) where
   qualified (join b) = none
   qualified (receive b) = none
   qualified (acknowledge a b) = none
-  qualified refreshController = none
+  qualified refresh_controller = none
   qualified read_leader = none
   qualified (read b) = none
   qualified (hear b) = none
@@ -264,7 +264,7 @@ module _ (m : Outline) where
       ∷ (same_term a b else 10)
       ∷ (has_joined b else 11) ∷ (ltb (acked a b) (len b) else 12) ∷ []
   -- 10. Controller takes news: "its epoch is below the registry's [12]".
-  checks refreshController =
+  checks refresh_controller =
       (ltb controller.view.epoch registry.view.epoch else 12) ∷ []
   -- 11. Controller reads leader: "stage leader [15]; that board's epoch equals the controller's [16]".
   checks read_leader =
@@ -397,7 +397,7 @@ module _ (𝓔 : Entries) where
     next (acknowledge a b) = with_acked s a (upd (acked a) b (length (log b)))
     -- 10. "It copies the registry; heard lengths become none; stage is idle, leader or choosing for normal, waiting or
     -- choosing."
-    next refreshController = with_controller s (deaf registry.view (stage_for registry.status))
+    next refresh_controller = with_controller s (deaf registry.view (stage_for registry.status))
     -- 11. "Its length is heard; stage boards."
     next read_leader =
         let b = controller.view.leader in

@@ -15,9 +15,9 @@ abbrev pub is_told : Text → ℕ → Bool
 is_told s a = eqb (length s) 8 && is_listed a
 
 -- "... then a short slice 3": the line's length, or the refusal.
-unfoldable pub result : Text → ℕ → Text → ℕ
+unfoldable pub result_of : Text → ℕ → Text → ℕ
 unfolding line is_listed_in
-result s a out =
+result_of s a out =
     let l = line (record_at s) a in
     cond (is_told s a) (cond (leb (length l) (length out)) (length l) 3) 1
 
@@ -79,9 +79,9 @@ LinesHold =
 -- A slice one byte short is refused and keeps its bytes; one of the line's length is enough; a longer one keeps those
 -- past the line.
 unfoldable pub RoomHolds : Type 0
-unfolding result left record_bytes
+unfolding result_of left record_bytes
 RoomHolds =
     let s = record_bytes (of_value 1 1 41) in let l = word "board 1 appends value 41: accepted\n" in
-    (result s 0 (replicate 34 255) ≡ 3) × (left s 0 (replicate 34 255) ≡ replicate 34 255)
-    × (result s 0 (replicate 35 255) ≡ 35) × (left s 0 (replicate 35 255) ≡ l)
-    × (result s 0 (replicate 37 255) ≡ 35) × (left s 0 (replicate 37 255) ≡ l ++ (255 ∷ 255 ∷ []))
+    (result_of s 0 (replicate 34 255) ≡ 3) × (left s 0 (replicate 34 255) ≡ replicate 34 255)
+    × (result_of s 0 (replicate 35 255) ≡ 35) × (left s 0 (replicate 35 255) ≡ l)
+    × (result_of s 0 (replicate 37 255) ≡ 35) × (left s 0 (replicate 37 255) ≡ l ++ (255 ∷ 255 ∷ []))

@@ -8,7 +8,7 @@ use lib.Dec.{T}
 use Rattle.model.specs.Prelude.{upd}
 use Rattle.model.specs.Members.{is_replica}
 use Rattle.model.specs.State.{RowState, View, Status, normal, waiting, Stage, idle, entries, outline, stage_number, stage_for}
-use Rattle.model.specs.Steps.{Step, refresh, join, receive, refreshController, read_leader, read, set_normal, hear, install, checks, accepted, next}
+use Rattle.model.specs.Steps.{Step, refresh, join, receive, refresh_controller, read_leader, read, set_normal, hear, install, checks, accepted, next}
 use Rattle.model.proofs.Tests.{facts, by_cond, at-or, is_true, upd_same, upd_other}
 use Rattle.model.proofs.Quorum.{replica-range}
 use Rattle.pieces.specs.Pieces.{Leaders, Keeps}
@@ -40,8 +40,8 @@ waits normal e = absurd (omega (arith, e))
 waits waiting e = λ i. waiting
 waits Status.choosing e = absurd (omega (arith, e))
 
-pub keeps-refresh-controller : Keeps refreshController
-keeps-refresh-controller = by_next refreshController (λ s k t. record {
+pub keeps-refresh-controller : Keeps refresh_controller
+keeps-refresh-controller = by_next refresh_controller (λ s k t. record {
   named = k.named;
   waiting = k.waiting;
   views = k.views;

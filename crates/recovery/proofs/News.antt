@@ -9,7 +9,7 @@ use borrow.Author.Tests.{ltb-false}
 use Rattle.model.specs.Prelude.{◌else◌}
 use Rattle.model.specs.Members.{is_replica}
 use Rattle.model.specs.State.{outline, Entries, View, Registry, State}
-use Rattle.model.specs.Steps.{Step, refresh, refreshController, checks, next}
+use Rattle.model.specs.Steps.{Step, refresh, refresh_controller, checks, next}
 use Rattle.model.specs.Records.{bare, of}
 use Rattle.model.proofs.Tests.{Holds, by_cond, eq_test, upd_same, is_false}
 use Rattle.model.proofs.Rules.{◌then◌}
@@ -100,7 +100,7 @@ module _ (𝓔 : Entries) where
   control-to r {n} {d} k w =
       unless-to 𝓔 (Called r) (bare 10) [] (ltb t.controller.view.epoch t.registry.view.epoch) 12 w refl tt tt
       (λ h. record {
-        known = still-known k refreshController refl h;
+        known = still-known k refresh_controller refl h;
         current = e;
       })
       (λ z. record {

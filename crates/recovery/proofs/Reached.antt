@@ -10,7 +10,7 @@ use lib.Dec.{T, eqb, leb→le}
 use Rattle.model.specs.Prelude.{upd}
 use Rattle.model.specs.Members.{Members, is_replica, bit, size}
 use Rattle.model.specs.State.{outline, Entries, Status, normal, waiting, Registry, Controller, State, Opening, can_open, opened, is_normal, is_choosing, stage_number, stage_for}
-use Rattle.model.specs.Steps.{Step, append, commit, add, remove, change_leader, refresh, join, receive, acknowledge, refreshController, read_leader, read, set_normal, hear, install, malformed, checks, next, accepted, succeeded, vacated}
+use Rattle.model.specs.Steps.{Step, append, commit, add, remove, change_leader, refresh, join, receive, acknowledge, refresh_controller, read_leader, read, set_normal, hear, install, malformed, checks, next, step, accepted, succeeded, vacated}
 use Rattle.model.specs.Runs.{run}
 use Rattle.model.proofs.Tests.{Holds, facts, by_cond, upd_same, ne-fact}
 use Rattle.model.proofs.Quorum.{size-without}
@@ -98,7 +98,7 @@ module _ (𝓔 : Entries) where
     poised-keep (join b) h = record { staffed = k.staffed; heedful = k.heedful }
     poised-keep (receive b) h = record { staffed = k.staffed; heedful = k.heedful }
     poised-keep (acknowledge a b) h = record { staffed = k.staffed; heedful = k.heedful }
-    poised-keep refreshController h =
+    poised-keep refresh_controller h =
         record { staffed = k.staffed; heedful = λ e. absurd (never registry.status e) }
       where
         never : (g : Status) → stage_number (stage_for g) ≡ 2 → ⊥
@@ -149,7 +149,7 @@ module _ (𝓔 : Entries) where
 
   pub run-reached : {s : State Entry} → Reached s → (sts : List Step) → Reached (run 𝓔 s sts)
   unfolding run
-  run-reached k [] = k
-  run-reached {s} k (st ∷ sts) =
-      run-reached (by_cond Reached (accepted (outline s) st)
+  run-reached {s = s} k [] = k
+  run-reached {s = s} k (st ∷ sts) =
+      run-reached {s = step 𝓔 s st} (by_cond Reached (accepted (outline s) st)
       (λ t. next-reached k st (facts (checks (outline s) st) t)) (λ _. k)) sts

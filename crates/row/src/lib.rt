@@ -16,7 +16,7 @@ ghost use Rattle.guiding.specs.Guiding as Guiding;
 // that is shorter than the listing; the empty sheet has a listing, of one line (document 02, Paper 9).
 #[unsafe(no_mangle)]
 pub extern "C" fn run_sheet(sheet: &[u8], listing: &mut [u8]) -> usize
-    ensures { (result ≡ Sheet.result sheet.now listing.old)
+    ensures { (result ≡ Sheet.result_of sheet.now listing.old)
         × (listing.new ≡ Sheet.left sheet.now listing.old) }
 {
     sheet::run_sheet(sheet, &mut *listing)
@@ -26,7 +26,7 @@ pub extern "C" fn run_sheet(sheet: &[u8], listing: &mut [u8]) -> usize
 // to 4,095, then 3 for a slice that is shorter than the sheet; both leave the slice untouched.
 #[unsafe(no_mangle)]
 pub extern "C" fn seed_sheet(seed: u32, count: usize, sheet: &mut [u8]) -> usize
-    ensures { (result ≡ Seeded.result seed count sheet.old)
+    ensures { (result ≡ Seeded.result_of seed count sheet.old)
         × (sheet.new ≡ Seeded.left seed count sheet.old) }
 {
     generator::seed_sheet(seed, count, &mut *sheet)
@@ -46,7 +46,7 @@ pub extern "C" fn look_up_majority(set: u8) -> u8
 // untouched.
 #[unsafe(no_mangle)]
 pub extern "C" fn explain_sheet(sheet: &[u8], text: &mut [u8]) -> usize
-    ensures { (result ≡ Explain.result sheet.now text.old)
+    ensures { (result ≡ Explain.result_of sheet.now text.old)
         × (text.new ≡ Explain.left sheet.now text.old) }
 {
     explain::explain_sheet(sheet, &mut *text)
@@ -56,7 +56,7 @@ pub extern "C" fn explain_sheet(sheet: &[u8], text: &mut [u8]) -> usize
 // that is not on the list, then 3 for a slice that is shorter than the line; both leave the slice untouched.
 #[unsafe(no_mangle)]
 pub extern "C" fn describe_record(bytes: &[u8], answer: usize, line: &mut [u8]) -> usize
-    ensures { (result ≡ Describe.result bytes.now answer line.old)
+    ensures { (result ≡ Describe.result_of bytes.now answer line.old)
         × (line.new ≡ Describe.left bytes.now answer line.old) }
 {
     describe::describe_record(bytes, answer, &mut *line)

@@ -31,7 +31,7 @@ use Rattle.ending.specs.Ending.{ending}
 use Rattle.unopened.specs.Unopened.{unopened}
 use Rattle.listing.proofs.AnswerLines.{line-most, each-most, records-small}
 use Rattle.ending.proofs.Endings.{ending-least, ending-most}
-use Rattle.sheet.specs.Sheet.{listing_of, is_empty, listing, has_listing, result, left, opening_bytes, Refused, RefusedHolds, LengthsTell}
+use Rattle.sheet.specs.Sheet.{listing_of, is_empty, listing, has_listing, result_of, left, opening_bytes, Refused, RefusedHolds, LengthsTell}
 use Rattle.running.specs.Running.{following, state_at, Ran}
 use Rattle.records.proofs.Decoding.{room, records-length}
 use Rattle.running.proofs.Results.{within, kept-length}
@@ -153,8 +153,8 @@ unfolding LengthsTell
 lengths-tell s = (long-enough s, longer s, λ h e. all_short s (λ i. omega (arith, h i)) e)
 
 -- Refusal 2.
-pub no-sheet : (s out : Text) → 1 ≤ length s → is_sheet s ≡ false → (2 ≡ result s out) × (out ≡ left s out)
-unfolding result left
+pub no-sheet : (s out : Text) → 1 ≤ length s → is_sheet s ≡ false → (2 ≡ result_of s out) × (out ≡ left s out)
+unfolding result_of left
 no-sheet s out some e = let h = has-records s some ∙ e in (rw h, rw h)
 
 -- P2's sheets: the board of the first record is none, so it is no valid opening.
@@ -179,8 +179,8 @@ still-refused (b ∷ s) out h e = refused (b ∷ s) out (omega arith) (ap (λ t.
 
 -- What is delivered of a listing is what the call answers and leaves.
 as-listing : (s : Text) {out out' : Text} {r : ℕ} → has_listing s ≡ true → Delivered (listing s) out out' r
-    → (r ≡ result s out) × (out' ≡ left s out)
-unfolding result left
+    → (r ≡ result_of s out) × (out' ≡ left s out)
+unfolding result_of left
 as-listing s {out} h d = (
   d.answer ∙ ap (λ t. cond t (cond (leb (length (listing s)) (length out)) (length (listing s)) 3) 2) (sym h),
   d.left ∙ ap (λ t. cond (t && leb (length (listing s)) (length out)) (over out 0 (listing s)) out) (sym h),
@@ -188,7 +188,7 @@ as-listing s {out} h d = (
 
 -- The empty sheet.
 pub delivered-unopened : (s : Text) {out out' : Text} {r : ℕ} → length s ≡ 0 → Delivered unopened out out' r
-    → (r ≡ result s out) × (out' ≡ left s out)
+    → (r ≡ result_of s out) × (out' ≡ left s out)
 unfolding listing
 delivered-unopened s {out} {out'} {r} e d =
     let h : is_empty s ≡ true = eq-eqb (length s) 0 e in
@@ -223,15 +223,15 @@ module _ (s : Text) (e : is_sheet s ≡ true) (row : Cluster) (p : Places) (ns m
       (ending (outline (state_at s k)) (receipts entries opening past))
 
   pub delivered : {text out out' : Text} {r : ℕ} → text ≡ ending (outline_of row) (take row.issued (listed p))
-      → Delivered (lines s ns ms (length s / 8) ++ text) out out' r → (r ≡ result s out) × (out' ≡ left s out)
+      → Delivered (lines s ns ms (length s / 8) ++ text) out out' r → (r ≡ result_of s out) × (out' ≡ left s out)
   delivered {text} {out} {out'} {r} t d =
       let l : lines s ns ms (length s / 8) ++ text ≡ listing s =
       ap (λ x. lines s ns ms (length s / 8) ++ x) t ∙ whole ∙ sym (listing-is s some) in
       as-listing s (has-records s some ∙ e) (subst (λ x. Delivered x out out' r) l d)
 
 -- A result that is no refusal is a length within the slice,
-result-within : (s out : Text) → 3 < result s out → result s out ≤ length out
-unfolding result
+result-within : (s out : Text) → 3 < result_of s out → result_of s out ≤ length out
+unfolding result_of
 result-within s out h =
     within (has_listing s) (leb (length (listing s)) (length out)) (length (listing s)) (length out) refl h
 
@@ -241,6 +241,6 @@ unfolding left
 left-length s out = kept-length (has_listing s && leb (length (listing s)) (length out)) out (listing s)
 
 -- So a caller can read the listing back.
-pub readable : (s out : Text) {r : ℕ} {out' : Text} → (r ≡ result s out) × (out' ≡ left s out) → 4 ≤ r → r ≤ length out'
+pub readable : (s out : Text) {r : ℕ} {out' : Text} → (r ≡ result_of s out) × (out' ≡ left s out) → 4 ≤ r → r ≤ length out'
 readable s out p h =
     omega (arith, p.0, result-within s out (omega (arith, h, p.0)), ap length p.1, left-length s out)

@@ -42,9 +42,9 @@ abbrev pub has_listing : Text → Bool
 has_listing s = is_empty s || is_sheet s
 
 -- "... one number, the listing's length, or 2 or 3 if refused"; "for a sheet 2, then 3."
-unfoldable pub result : Text → Text → ℕ
+unfoldable pub result_of : Text → Text → ℕ
 unfolding listing
-result s out = cond (has_listing s) (cond (leb (length (listing s)) (length out)) (length (listing s)) 3) 2
+result_of s out = cond (has_listing s) (cond (leb (length (listing s)) (length out)) (length (listing s)) 3) 2
 
 -- What the slice holds then: "Refusals 2 and 3 leave the listing slice untouched; bytes past the end of a listing ...
 -- keep their values."
@@ -98,9 +98,9 @@ SetsHold = (is_sheet sets_sheet ≡ true) × (listing sets_sheet ≡ sets_listin
 -- those past the listing.
 unfoldable pub RoomHolds : Type 0
 RoomHolds =
-    (result sample_sheet (slice 288) ≡ 3) × (left sample_sheet (slice 288) ≡ slice 288)
-    × (result sample_sheet (slice 289) ≡ 289) × (left sample_sheet (slice 289) ≡ sample_listing)
-    × (result sample_sheet (slice 291) ≡ 289) × (left sample_sheet (slice 291) ≡ sample_listing ++ slice 2)
+    (result_of sample_sheet (slice 288) ≡ 3) × (left sample_sheet (slice 288) ≡ slice 288)
+    × (result_of sample_sheet (slice 289) ≡ 289) × (left sample_sheet (slice 289) ≡ sample_listing)
+    × (result_of sample_sheet (slice 291) ≡ 289) × (left sample_sheet (slice 291) ≡ sample_listing ++ slice 2)
 
 -- The record of an opening.
 abbrev pub opening_bytes : ℕ → Text
@@ -108,7 +108,7 @@ opening_bytes b = 0 ∷ b ∷ 0 ∷ 0 ∷ 0 ∷ 0 ∷ 0 ∷ 0 ∷ []
 
 -- A sheet that is refused 2, and its slice left as it was.
 abbrev pub Refused : Text → Text → Type 0
-Refused s out = (result s out ≡ 2) × (left s out ≡ out)
+Refused s out = (result_of s out ≡ 2) × (left s out ≡ out)
 
 -- P2: the opening with board 0 or 9, "a sheet that begins so: 2", whatever follows and whatever the slice holds.
 unfoldable pub RefusedHolds : Type 0
@@ -120,7 +120,7 @@ unfoldable pub UnopenedHolds : Type 0
 unfolding listing
 UnopenedHolds =
     (listing [] ≡ 117 ∷ 110 ∷ 111 ∷ 112 ∷ 101 ∷ 110 ∷ 101 ∷ 100 ∷ 10 ∷ [])
-    × ((out : Text) → Delivered (listing []) out (left [] out) (result [] out))
+    × ((out : Text) → Delivered (listing []) out (left [] out) (result_of [] out))
     × ((s out : Text) → is_empty s ≡ false → whole_records (length s) ≡ false → Refused s out)
 
 -- No listing is so short that its length could be taken for a refusal: the empty sheet's has 9 bytes, every other one

@@ -3,13 +3,13 @@
 
 ghost use Rattle.std.specs.Prelude.{◌≡◌};
 ghost use Rattle.model.specs.Trials.{TrialsHold};
-ghost use Rattle.sheet.specs.Sheet.{SampleHolds, SetsHold, RoomHolds, RefusedHolds, UnopenedHolds, LengthsTell, result, left};
+ghost use Rattle.sheet.specs.Sheet.{SampleHolds, SetsHold, RoomHolds, RefusedHolds, UnopenedHolds, LengthsTell, result_of, left};
 
 // The papers' sample sheet has the papers' listing, byte for byte, a sheet with large sets its own, and the empty one
 // its line; short slices, bad openings and all other wrong lengths are refused; a listing of n records has at most
 // 19 n + 8,650 bytes, and at least 10, or 9 where there are none. By the definitions: nothing to run.
 pub fn sample()
-    ensures* { λ r. ⌜ SampleHolds × SetsHold × RoomHolds × RefusedHolds × UnopenedHolds × LengthsTell × TrialsHold ⌝ }
+    ensures { SampleHolds × SetsHold × RoomHolds × RefusedHolds × UnopenedHolds × LengthsTell × TrialsHold }
 {}
 
 // Sheet in, listing out. It returns the listing's length, 2 for a sheet of wrong length or without a valid opening, 3
@@ -17,8 +17,8 @@ pub fn sample()
 // both are decided: the sheet is run in places of this call's own, and the ending, whose length is then known, is
 // written aside.
 pub fn run_sheet(sheet: &[u8], listing: &mut [u8]) -> usize
-    ensures* { λ r. ⌜ (r ≡ result sheet.now listing.old)
-        × (listing.new ≡ left sheet.now listing.old) ⌝ }
+    ensures { (result ≡ result_of sheet.now listing.old)
+        × (listing.new ≡ left sheet.now listing.old) }
 {
     if sheet.len() == 0 {
         return unopened::deliver(listing);

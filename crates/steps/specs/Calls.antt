@@ -4,7 +4,7 @@
 use Rattle.std.specs.Prelude.{true, List, [], ◌∷◌, map, ◌≢◌, ◌≡◌, ℕ, T, take}
 use Rattle.model.specs.Prelude.{◌⊑◌}
 use Rattle.model.specs.State.{RowState, entries, outline, Opening, can_open, opened}
-use Rattle.model.specs.Steps.{Step, append, commit, add, remove, change_leader, refresh, join, receive, acknowledge, refreshController, read_leader, read, set_normal, hear, install}
+use Rattle.model.specs.Steps.{Step, append, commit, add, remove, change_leader, refresh, join, receive, acknowledge, refresh_controller, read_leader, read, set_normal, hear, install}
 use Rattle.model.specs.Runs.{steps_of, answers, sets_behind}
 use Rattle.model.specs.Claim.{LeadsUnder, after, receipts}
 use Rattle.model.specs.Records.{bare, of, of_both, of_value}
@@ -98,4 +98,4 @@ NamesHold = (a b v : ℕ)
     → steps_of (of_value 1 b v ∷ of 2 b ∷ of 3 b ∷ of 4 b ∷ bare 5 ∷ of 6 b ∷ of 7 b ∷ of 8 b ∷ of_both 9 a b
     ∷ bare 10 ∷ bare 11 ∷ of 12 b ∷ bare 13 ∷ of 14 b ∷ of 15 b ∷ [])
     ≡ append b v ∷ commit b ∷ add b ∷ remove b ∷ change_leader ∷ refresh b ∷ join b ∷ receive b ∷ acknowledge a b
-    ∷ refreshController ∷ read_leader ∷ read b ∷ set_normal ∷ hear b ∷ install b ∷ []
+    ∷ refresh_controller ∷ read_leader ∷ read b ∷ set_normal ∷ hear b ∷ install b ∷ []

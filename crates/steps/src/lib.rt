@@ -381,7 +381,7 @@ pub fn refresh_controller(
     list: &mut [u32],
     list2: &mut [u16],
 ) -> Outcome
-    ensures { Did S.Step.refreshController row
+    ensures { Did S.Step.refresh_controller row
         (lent store.old store2.old list.old list2.old)
         result (lent store.new store2.new list.new list2.new) }
 {

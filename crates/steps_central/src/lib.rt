@@ -112,7 +112,7 @@ pub fn change(g: Registry, c: Controller) -> Settled
 // Step 10, the controller takes news.
 pub fn refresh_controller(g: Registry, c: Controller) -> Settled
     ensures { (views : List View) (joined len : List ℕ) → Short len
-        → Governs (S.Step.refreshController) g c views joined len result }
+        → Governs (S.Step.refresh_controller) g c views joined len result }
 {
     let a = steps_controller::refresh_controller(c, g);
     let d = a.controller;

@@ -8,7 +8,7 @@ use lib.ListN.{length, set, replicate}
 use Rattle.model.specs.Members.{is_replica}
 use Rattle.model.specs.State as M
 use Rattle.model.specs.State.{RowState, entries}
-use Rattle.model.specs.Steps.{Step, refreshController, read_leader, read, hear, next, heard_of}
+use Rattle.model.specs.Steps.{Step, refresh_controller, read_leader, read, hear, next, heard_of}
 use Rattle.model.proofs.Tests.{Holds, is_true}
 use Rattle.cluster.specs.declared.Stage.{Stage}
 use Rattle.cluster.specs.declared.Registry.{Registry}
@@ -28,7 +28,7 @@ after c s st = (next entries (controller_in c s) st).controller
 pub refresh-controller-after : (c : Controller) (r : Registry) (g : Stage)
     → stage_of g ≡ M.stage_for (status_of r.status) → (s : RowState) → RegistryKnown r s
     → controller_of (record { view = r.view; stage = g; heard = replicate 8 0; joined = replicate 8 0 })
-    ≡ after c s refreshController
+    ≡ after c s refresh_controller
 refresh-controller-after c r g e s known = deaf-of r.view g ∙ rw (known, e)
 
 -- Steps 11, 12 and 14 leave d, which heard of b at its seat k.

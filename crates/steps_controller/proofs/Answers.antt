@@ -9,7 +9,7 @@ use borrow.Author.Tests.{eqb-true}
 use Rattle.model.specs.Prelude.{first_failed}
 use Rattle.model.specs.Members.{is_replica}
 use Rattle.model.specs.State.{RowState, outline, stage_number}
-use Rattle.model.specs.Steps.{refreshController, read_leader, read, hear, answer_of}
+use Rattle.model.specs.Steps.{refresh_controller, read_leader, read, hear, answer_of}
 use Rattle.model.proofs.Tests.{of-true}
 use Rattle.cluster.specs.declared.Registry.{Registry}
 use Rattle.cluster.specs.declared.Controller.{Controller}
@@ -22,7 +22,7 @@ use Rattle.steps_controller.specs.Known.{RegistryKnown, LeaderKnown, ReadKnown, 
 module _ (c : Controller) where
   pub refresh-controller-answer : (r : Registry) (s : RowState) → RegistryKnown r s
       → first_failed (refresh_controller_checks c.view r.view)
-      ≡ answer_of (outline (controller_in c s)) refreshController
+      ≡ answer_of (outline (controller_in c s)) refresh_controller
   refresh-controller-answer r s known = rw known
 
   pub read-leader-answer : (e n : ℕ) (s : RowState) → LeaderKnown c e n s

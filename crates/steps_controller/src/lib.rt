@@ -36,7 +36,7 @@ fn may_refresh_controller(v: View, w: View) -> u8
 
 // Step 10, the controller takes news of the registry r.
 pub fn refresh_controller(c: Controller, r: Registry) -> Told
-    ensures { Tells (RegistryKnown r) S.Step.refreshController c result }
+    ensures { Tells (RegistryKnown r) S.Step.refresh_controller c result }
 {
     let v = c.view;
     let w = r.view;

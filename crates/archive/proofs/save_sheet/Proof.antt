@@ -12,7 +12,7 @@ abbrev start : tie.After-is_sheet → tie.Start
 start c = c.before.before.before
 
 passed : (c : tie.Else-not-is_sheet) → is_sheet (start c.before).args.sheet.now ≡ true
-passed c = sym c.before.is_sheet.ensures ∙ not-false _ c.if-not-is_sheet.false
+passed c = sym c.before.is_sheet.ensures ∙ c.if-not-is_sheet.false
 
 is-sheet-requires : tie.Need-is_sheet-requires
 is-sheet-requires c κs = search rules
@@ -20,7 +20,7 @@ is-sheet-requires c κs = search rules
 returns : tie.Need-returns-then-not-is_sheet
 returns c =
     let a = (start c.before).args in
-    no-sheet a.sheet.now a.out.now (sym c.before.is_sheet.ensures ∙ not-true _ c.if-not-is_sheet.true)
+    no-sheet a.sheet.now a.out.now (sym c.before.is_sheet.ensures ∙ c.if-not-is_sheet.true)
 
 slice-aggregate-play : tie.Need-slice_bounds-play-end
 slice-aggregate-play c = search rules

@@ -31,7 +31,7 @@ returns c =
     let l = c.before.before.before.before.loop-k in
     let i = c.before.before.before.before.before.before.args.image.now in
     let t = c.before.epoch.ensures ∙ ap is_epoch c.before.before.term.ensures in
-    let e : is_epoch (epoch_of i l.k) ≡ false = sym t ∙ not-true _ c.if-not-epoch.true in
+    let e : is_epoch (epoch_of i l.k) ≡ false = sym t ∙ c.if-not-epoch.true in
     sym (l.invariant.1 ∙ up_to-step l.k (λ j. is_epoch (epoch_of i j)) (omega arith) ∙ rw e)
 
 sub-k : tie.Need-overflow_sub-k invariant-loop decreases-loop
@@ -45,7 +45,7 @@ loop-again c =
     let l = c.before.before.before.before.loop-k in
     let i = c.before.before.before.before.before.before.args.image.now in
     let t = c.before.epoch.ensures ∙ ap is_epoch c.before.before.term.ensures in
-    let e : is_epoch (epoch_of i l.k) ≡ true = sym t ∙ not-false _ c.if-not-epoch.false in
+    let e : is_epoch (epoch_of i l.k) ≡ true = sym t ∙ c.if-not-epoch.false in
     (omega arith, l.invariant.1 ∙ up_to-step l.k (λ j. is_epoch (epoch_of i j)) (omega arith) ∙ rw e)
 
 returns-2 : tie.Need-returns invariant-loop decreases-loop

@@ -27,7 +27,7 @@ returns : tie.Need-returns
 returns c =
     let w = c.before.before.before.before.before.before in
     let a = w.before.before.before.before.before.before.before.before.args in
-    let same : length w.walk_all-ok.new.1.1.0 ≡ length a.scratch.now = omega arith in
+    let same : length w.walk_all-ok.new.scratch ≡ length a.scratch.now = omega arith in
     (w.walk_all-ok.ensures, c.before.before.clear-2.ensures ∙ ap (λ m. replicate m 0) same)
 
 pub well_linked_spec : {M : Type 1} → statement M

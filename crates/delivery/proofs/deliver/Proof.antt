@@ -10,7 +10,7 @@ use Rattle.delivery.proofs.deliver.Tie as tie
 returns : tie.Need-returns-then-not-ok
 returns c =
     let s = c.before.before.before in
-    gives-error (orders s.args.count s.args.notes.now) s.args.out.now s.args.ok (no_word (orders s.args.count s.args.notes.now) s.args.out.now s.args.ok (not-true _ c.if-not-ok.true))
+    gives-error (orders s.args.count s.args.notes.now) s.args.out.now s.args.ok (no_word (orders s.args.count s.args.notes.now) s.args.out.now s.args.ok (c.if-not-ok.true))
 
 total-requires : tie.Need-total-n-requires
 total-requires c κs = search rules
@@ -33,7 +33,7 @@ returns-3 c =
     let s = c.before.before.before.before.before.before.before.before.before in
     let list = orders s.args.count s.args.notes.now in
     gives-list list s.args.out.now s.args.ok
-    (no_more list s.args.out.now s.args.ok (not-false _ c.before.before.before.before.before.before.if-not-ok.false) (omega (arith, c.before.before.before.before.before.total-n.ensures, c.before.before.before.before.if-n-gt2064.false)))
+    (no_more list s.args.out.now s.args.ok (c.before.before.before.before.before.before.if-not-ok.false) (omega (arith, c.before.before.before.before.before.total-n.ensures, c.before.before.before.before.if-n-gt2064.false)))
     _ c.before.before.before.before.before.total-n.ensures c.before.before.put_orders.ensures
 
 pub deliver_spec : {M : Type 1} → statement M

@@ -22,7 +22,7 @@ returns-2 c =
     let d = c.before.before in
     let a = d.before.before.before.args in
     not_listed a.bytes.now a.answer a.line.now d.if-bytes-ne8.false
-    (sym c.before.is_listed.ensures ∙ not-true _ c.if-not-is_listed.true)
+    (sym c.before.is_listed.ensures ∙ c.if-not-is_listed.true)
 
 decode-requires : tie.Need-decode-r-requires
 decode-requires c κs = search rules
@@ -30,7 +30,7 @@ decode-requires c κs = search rules
 line-length-requires : tie.Need-line_length-requires
 line-length-requires c κs =
     let d = c.before in
-    sym d.before.is_listed.ensures ∙ not-false _ d.if-not-is_listed.false
+    sym d.before.is_listed.ensures ∙ d.if-not-is_listed.false
 
 returns-3 : tie.Need-returns-then-line-line_length
 returns-3 c =
@@ -40,7 +40,7 @@ returns-3 c =
     let f = d.before.before in
     let a = f.before.before.before.args in
     described a.bytes.now a.answer a.line.now f.if-bytes-ne8.false
-    (sym d.before.is_listed.ensures ∙ not-false _ d.if-not-is_listed.false) r.decode-r.ensures
+    (sym d.before.is_listed.ensures ∙ d.if-not-is_listed.false) r.decode-r.ensures
     (too_long (omega (arith, c.if-line-line_length.true, w.line_length.ensures.0)))
 
 put-line-requires : tie.Need-put_line-requires
@@ -48,7 +48,7 @@ put-line-requires c κs =
     let g = c.before in
     let w = g.before in
     let d = w.before.before in (
-      sym d.before.is_listed.ensures ∙ not-false _ d.if-not-is_listed.false,
+      sym d.before.is_listed.ensures ∙ d.if-not-is_listed.false,
       omega
           (arith, g.if-line-line_length.false, w.line_length.ensures.0),
     )
@@ -66,7 +66,7 @@ returns-4 c =
     let f = d.before.before in
     let a = f.before.before.before.args in
     described a.bytes.now a.answer a.line.now f.if-bytes-ne8.false
-    (sym d.before.is_listed.ensures ∙ not-false _ d.if-not-is_listed.false) r.decode-r.ensures
+    (sym d.before.is_listed.ensures ∙ d.if-not-is_listed.false) r.decode-r.ensures
     (fitting (omega (arith, g.if-line-line_length.false, w.line_length.ensures.0)) p.put_line.ensures)
 
 pub describe_record_spec : {M : Type 1} → statement M

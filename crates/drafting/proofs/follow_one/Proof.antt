@@ -19,7 +19,7 @@ returns : tie.Need-returns-then-not-contains
 returns c =
     let s = c.before.before.before.before.before.before.before in
     no-turn 4 s.args.q s.args.b (follows entries s.args.l s.args.b) s.args.d (places s) s.args.notes.now
-    (sym c.before.contains.ensures ∙ not-true _ c.if-not-contains.true) s.requires.0
+    (sym c.before.contains.ensures ∙ c.if-not-contains.true) s.requires.0
 
 follows-requires : tie.Need-follows-requires
 follows-requires c κs = search rules
@@ -43,7 +43,7 @@ returns-2 : tie.Need-returns
 returns-2 c =
     let s = c.before.before.before.before.before.before.before.before.before.before.before.before.before.before.before.before.before.before.before.before.before.before.before in
     one-turn 4 s.args.q s.args.b (follows entries s.args.l s.args.b) s.args.d (places s) s.args.notes.now
-    (sym c.before.before.before.before.before.before.before.before.before.before.before.before.before.before.before.before.before.contains.ensures ∙ not-false _ c.before.before.before.before.before.before.before.before.before.before.before.before.before.before.before.before.if-not-contains.false) c.before.before.before.before.before.before.before.before.before.before.follows.ensures
+    (sym c.before.before.before.before.before.before.before.before.before.before.before.before.before.before.before.before.before.contains.ensures ∙ c.before.before.before.before.before.before.before.before.before.before.before.before.before.before.before.before.if-not-contains.false) c.before.before.before.before.before.before.before.before.before.before.follows.ensures
 
 pub follow_one_spec : {M : Type 1} → statement M
 follow_one_spec =

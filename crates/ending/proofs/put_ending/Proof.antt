@@ -71,20 +71,20 @@ start3 c = start2 c.before.before.before.before
 
 -- The room that is left after the call j.
 room1 : (c : tie.After-put_registry-a)
-    → c.put_registry-a.result + length (text1 (start1 c)) ≤ length c.put_registry-a.new.0
+    → c.put_registry-a.result + length (text1 (start1 c)) ≤ length c.put_registry-a.new.out
 room1 c =
     let e = start1 c in
     rest (first e) (text1 e) c.put_registry-a.ensures (room0 (known1 c))
 
 room2 : (c : tie.After-put_control-b)
-    → c.put_control-b.result + length (text2 (start2 c)) ≤ length c.put_control-b.new.0
+    → c.put_control-b.result + length (text2 (start2 c)) ≤ length c.put_control-b.new.out
 room2 c =
     let e = start2 c in
     rest (control_line (controller_of e.args.row.controller)) (text2 e) c.put_control-b.ensures
     (room1 c.before.before.before.before)
 
 room3 : (c : tie.After-put_replicas-c)
-    → c.put_replicas-c.result + length (text3 (start3 c)) ≤ length c.put_replicas-c.new.0
+    → c.put_replicas-c.result + length (text3 (start3 c)) ≤ length c.put_replicas-c.new.out
 room3 c =
     let e = start3 c in
     rest (board_lines (outline_of e.args.row)) (text3 e) c.put_replicas-c.ensures
@@ -112,7 +112,7 @@ put-receipts-requires : tie.Need-put_receipts-requires
 put-receipts-requires c κs =
     let d = c.before.before.before in
     let e = start3 d in
-    (e.pre.2, e.pre.3, room3 d)
+    (e.requires.2, e.requires.3, room3 d)
 
 same_length : tie.Need-shape_of-out
 same_length c = search rules

@@ -34,24 +34,24 @@ long e = pairs-length e.args.list.now e.args.list2.now e.requires.1
 
 -- The next receipt, and what is left after it.
 abbrev next : tie.At-loop-i invariant-loop decreases-loop → Text
-next d = receipt_text (get_or (all (start d)) d.loop.i (entry 0 0))
+next d = receipt_text (get_or (all (start d)) d.loop-i.i (entry 0 0))
 
 -- It is of the value and the term at its place.
 here : (d : tie.At-loop-i invariant-loop decreases-loop) →
-    get_or (all (start d)) d.loop.i (entry 0 0)
-    ≡ entry (get_or (start d).args.list.now d.loop.i 0) (get_or (start d).args.list2.now d.loop.i 0)
-here d = let e = start d in pairs-at e.args.list.now e.args.list2.now d.loop.i e.pre.1
+    get_or (all (start d)) d.loop-i.i (entry 0 0)
+    ≡ entry (get_or (start d).args.list.now d.loop-i.i 0) (get_or (start d).args.list2.now d.loop-i.i 0)
+here d = let e = start d in pairs-at e.args.list.now e.args.list2.now d.loop-i.i e.requires.1
 
 abbrev left : tie.At-loop-i invariant-loop decreases-loop → Text
-left d = receipts_left (all (start d)) (start d).args.n d.loop.i
+left d = receipts_left (all (start d)) (start d).args.n d.loop-i.i
 
 room : (c : tie.In-loop-i invariant-loop decreases-loop)
-    → c.before.loop.p + length (space ++ (next c.before ++ left c.before)) ≤ length c.before.loop.out
+    → c.before.loop-i.p + length (space ++ (next c.before ++ left c.before)) ≤ length c.before.loop-i.out
 room c =
     let d = c.before in
     let e = start d in
-    receipts-room (all e) e.args.n d.loop.i c.loop-test.true (rw (long e) e.pre.0) d.loop.invariant.1
-    e.pre.2
+    receipts-room (all e) e.args.n d.loop-i.i c.loop-i-test.true (rw (long e) e.requires.0) d.loop-i.invariant.1
+    e.requires.2
 
 loop-holds : tie.Need-loop-i-init invariant-loop decreases-loop
 unfolding receipts_text
@@ -79,7 +79,7 @@ put-receipt-requires c κs =
     let w = c.before.before.before.before.before in
     let t = w.before.before in
     let d = t.before in
-    subst (λ x. w.put_byte-q.result + length (receipt_text x) ≤ length w.put_byte-q.new.0) (here d)
+    subst (λ x. w.put_byte-q.result + length (receipt_text x) ≤ length w.put_byte-q.new.out) (here d)
     (fits _ (next d) (left d) (rest space (next d ++ left d) w.put_byte-q.ensures (room t)))
 
 add-i : tie.Need-overflow_add-i invariant-loop decreases-loop
@@ -95,8 +95,8 @@ loop-again c =
     let t = w.before.before in
     let d = t.before in
     let e = start d in
-    let h : d.loop-i.i < length (all e) = rw (long e) (omega (arith, t.loop-i-test.true, e.pre.0)) in
-    let one = subst (λ x. Wrote w.put_byte-q.new.0 w.put_byte-q.result (receipt_text x) v.put_receipt-p.new.0
+    let h : d.loop-i.i < length (all e) = rw (long e) (omega (arith, t.loop-i-test.true, e.requires.0)) in
+    let one = subst (λ x. Wrote w.put_byte-q.new.out w.put_byte-q.result (receipt_text x) v.put_receipt-p.new.out
     v.put_receipt-p.result) (sym (here d)) v.put_receipt-p.ensures in
     (omega arith, rw (receipts-next (all e) d.loop-i.i h) (then d.loop-i.invariant.1 (then w.put_byte-q.ensures one)))
 

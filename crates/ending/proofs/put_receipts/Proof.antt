@@ -42,7 +42,7 @@ room0 e =
 
 -- What was given at the start, from after the call j.
 abbrev start1 : tie.After-put_bytes-a → tie.Start
-start1 c = c.before.before.before.before.before.before
+start1 c = c.before.before.before.before.before.before.before
 
 abbrev start2 : tie.After-put_number-b → tie.Start
 start2 c = start1 c.before.before.before.before
@@ -52,10 +52,10 @@ start3 c = start2 c.before.before.before.before
 
 put-bytes-requires : tie.Need-put_bytes-a-requires
 put-bytes-requires c κs =
-    let e = c.before.before.before.before.before in fits _ (word "receipts ") (text1 e) (room0 e)
+    let e = c.before.before.before.before.before in fits _ (word "receipts ") (text1 e.before) (room0 e.before)
 
 -- The room that is left after the call j, then the need of the next.
-room1 : (c : tie.After-put_bytes-a) → c.put_bytes-a.result + length (text1 (start1 c)) ≤ length c.put_bytes-a.new.0
+room1 : (c : tie.After-put_bytes-a) → c.put_bytes-a.result + length (text1 (start1 c)) ≤ length c.put_bytes-a.new.out
 room1 c =
     let e = start1 c in
     rest (word "receipts ") (text1 e) c.put_bytes-a.ensures (room0 e)
@@ -66,7 +66,7 @@ put-number-requires c κs =
     let e = start1 d in
     fits _ (digits e.args.n) (text2 e) (room1 d)
 
-room2 : (c : tie.After-put_number-b) → c.put_number-b.result + length (text2 (start2 c)) ≤ length c.put_number-b.new.0
+room2 : (c : tie.After-put_number-b) → c.put_number-b.result + length (text2 (start2 c)) ≤ length c.put_number-b.new.out
 room2 c =
     let e = start2 c in
     rest (digits e.args.n) (text2 e) c.put_number-b.ensures (room1 c.before.before.before.before)
@@ -75,10 +75,10 @@ put-entries-requires : tie.Need-put_entries-c-requires
 put-entries-requires c κs =
     let d = c.before.before.before in
     let e = start2 d in
-    (e.pre.0, e.pre.1, fits _ (given e) (text3 e) (room2 d))
+    (e.requires.0, e.requires.1, fits _ (given e) (text3 e) (room2 d))
 
 room3 : (c : tie.After-put_entries-c)
-    → c.put_entries-c.result + length (text3 (start3 c)) ≤ length c.put_entries-c.new.0
+    → c.put_entries-c.result + length (text3 (start3 c)) ≤ length c.put_entries-c.new.out
 room3 c =
     let e = start3 c in
     rest (given e) (text3 e) c.put_entries-c.ensures (room2 c.before.before.before.before)
@@ -95,8 +95,8 @@ returns c =
     let p2 = p3.before.before.before.before in
     let p1 = p2.before.before.before.before in
     let e = start1 p1 in
-    let w = c.before.before.put_byte in
-    subst (λ t. Wrote e.args.out.now e.args.at t w.new.0 w.result)
+    let w = c.put_byte in
+    subst (λ t. Wrote e.args.out.now e.args.at t w.new.out w.result)
     (sym (receipts-is (all e) e.args.n (enough e)))
     (then p1.put_bytes-a.ensures (then p2.put_number-b.ensures (then p3.put_entries-c.ensures w.ensures)))
 

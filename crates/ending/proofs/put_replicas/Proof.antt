@@ -41,7 +41,7 @@ put-replica-requires c κs =
     let row = e.args.row in
     let q =
     replica-is row.views row.joined row.len row.registry.view (d.loop-b.b + 1) (omega arith) in
-    let r = up_to-fits (line row) d.loop-b.b c.before.loop-b-test.true d.loop-b.invariant.1 e.pre in
+    let r = up_to-fits (line row) d.loop-b.b c.before.loop-b-test.true d.loop-b.invariant.1 e.requires in
     (omega arith, omega arith, subst (λ t. d.loop-b.p + length t ≤ length d.loop-b.out) q r)
 
 loop-less : tie.Need-loop-b-smaller invariant-loop decreases-loop

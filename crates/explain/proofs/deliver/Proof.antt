@@ -19,13 +19,13 @@ lines e = each_of (line_at e.args.sheet.now e.args.answers.now) (length e.args.s
 
 -- There is room for them.
 room : (c : tie.Else-not-has_room) → let e = start c.before in length (lines e) ≤ length e.args.out.now
-room c = leb-true _ _ (sym c.before.has_room.ensures ∙ not-false _ c.if-not-has_room.false)
+room c = leb-true _ _ (sym c.before.has_room.ensures ∙ c.if-not-has_room.false)
 
 has-room-requires : tie.Need-has_room-requires
 has-room-requires c κs = search rules
 
 returns : tie.Need-returns-then-not-has_room
-returns c = too_long (leb-false _ _ (sym c.before.has_room.ensures ∙ not-true _ c.if-not-has_room.true))
+returns c = too_long (leb-false _ _ (sym c.before.has_room.ensures ∙ c.if-not-has_room.true))
 
 put-text-requires : tie.Need-put_text-requires
 put-text-requires c κs =

@@ -20,7 +20,7 @@ bytes c = (start c.before).args.sheet.now
 
 -- Refusal 2 let the sheet through.
 passed : (c : tie.Else-not-is_sheet) → is_sheet (bytes c) ≡ true
-passed c = sym c.before.is_sheet.ensures ∙ not-false _ c.if-not-is_sheet.false
+passed c = sym c.before.is_sheet.ensures ∙ c.if-not-is_sheet.false
 
 is-sheet-requires : tie.Need-is_sheet-requires
 is-sheet-requires c κs = search rules
@@ -28,7 +28,7 @@ is-sheet-requires c κs = search rules
 returns : tie.Need-returns-then-not-is_sheet
 returns c =
     let a = (start c.before).args in
-    no-sheet a.sheet.now a.text.now (sym c.before.is_sheet.ensures ∙ not-true _ c.if-not-is_sheet.true)
+    no-sheet a.sheet.now a.text.now (sym c.before.is_sheet.ensures ∙ c.if-not-is_sheet.true)
 
 answers-requires : tie.Need-answers-answers-requires
 answers-requires c κs = passed c

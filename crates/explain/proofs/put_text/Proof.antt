@@ -50,7 +50,7 @@ put-line-requires c κs =
     let n = length e.args.sheet.now / 8 in
     let one = ap (λ q. length (line q (get_or e.args.answers.now d.loop-i.i 0))) r.decode-r.ensures in
     let room = each-room text d.loop-i.i n (omega arith) in
-    (e.pre.1 d.loop-i.i (omega arith), omega (arith, d.loop-i.invariant.1, d.loop-i.invariant.2.next, e.pre.2, one, room))
+    (e.requires.1 d.loop-i.i (omega arith), omega (arith, d.loop-i.invariant.1, d.loop-i.invariant.2.next, e.requires.2, one, room))
 
 add-i : tie.Need-overflow_add-i invariant-loop decreases-loop
 add-i c = omega arith

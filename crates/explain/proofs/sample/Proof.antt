@@ -7,13 +7,13 @@ use Rattle.hexes.specs.Hex.{hexes}
 use Rattle.phrases.specs.Phrases.{phrase_in}
 use Rattle.phrases.specs.Line.{step_text, raw_text, head_text, verdict_text, line}
 use Rattle.running.specs.Running.{answers_of}
-use Rattle.explain.specs.Explain.{trial_sheet, SampleHolds, RoomHolds, EmptyRefused, explained, result, left}
+use Rattle.explain.specs.Explain.{trial_sheet, SampleHolds, RoomHolds, EmptyRefused, explained, result_of, left}
 use Rattle.explain.proofs.Explaining.{lengths-tell}
 use Rattle.explain.proofs.sample.Statement.{statement}
 use Rattle.explain.proofs.sample.Tie as tie
 
 returns : tie.Need-returns
-unfolding SampleHolds RoomHolds EmptyRefused result left over explained trial_sheet sheet_bytes answers_of each_of line
+unfolding SampleHolds RoomHolds EmptyRefused result_of left over explained trial_sheet sheet_bytes answers_of each_of line
     head_text step_text raw_text hexes verdict_text phrase_in records record_bytes digits digits_within run answers
 returns c = ((refl, refl), (refl, refl, refl, refl, refl, refl, refl), λ out. (refl, refl), lengths-tell)
 

@@ -38,7 +38,7 @@ cast-line-length : tie.Need-overflow_cast-answers invariant-loop decreases-loop
 cast-line-length c = omega (arith, c.shared_slice_known-in-loop-i-1.given c.before.before.before.loop-i.i)
 
 line-length-requires : tie.Need-line_length-total-requires invariant-loop decreases-loop
-line-length-requires c κs = (start c.before.before.before).pre.2 c.before.before.before.loop-i.i (omega arith)
+line-length-requires c κs = (start c.before.before.before).requires.2 c.before.before.before.loop-i.i (omega arith)
 
 add_total : tie.Need-overflow_add-total invariant-loop decreases-loop
 add_total c = omega (arith, c.before.before.before.before.loop-i.invariant.1, c.line_length-total.ensures.1)

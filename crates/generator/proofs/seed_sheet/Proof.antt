@@ -33,7 +33,7 @@ encode-requires c κs = search rules
 
 -- From the opening's record back to the tests, and to the start.
 abbrev tested : tie.After-encode-at → tie.Else-sheet-count
-tested c = c.before.before.before
+tested c = c.before.before.before.before
 
 abbrev start : tie.Else-sheet-count → tie.Start
 start c = c.before.before.before.before
@@ -48,8 +48,8 @@ put-later-requires c κs =
       w.next,
       wrote-length w,
       bytes-length (record_of e.before.before.before.draw_opening-d.result.made),
-      t.if-sheet-count.left,
-      t.before.before.if-count-lt1.left,
+      t.if-sheet-count.false,
+      t.before.before.if-count-lt1.false,
     )
 
 same_length : tie.Need-shape_of-sheet
@@ -60,8 +60,8 @@ returns-4 c =
     let e = c.before.before.before.before.before.before in
     let t = tested e in
     let a = (start t).args in
-    let low = t.before.before.if-count-lt1.left in
-    written a.seed a.count a.sheet.now low t.before.if-count-gt4095.left t.if-sheet-count.left
+    let low = t.before.before.if-count-lt1.false in
+    written a.seed a.count a.sheet.now low t.before.if-count-gt4095.false t.if-sheet-count.false
     (all-written a.seed a.count (drawn_of e.before.before.before.draw_opening-d.result) low
     e.before.before.before.draw_opening-d.ensures e.encode-at.ensures c.before.before.put_later.ensures)
 

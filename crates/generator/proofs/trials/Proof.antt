@@ -5,7 +5,7 @@ use lib.ListN.{length}
 use Rattle.text.specs.Text.{over}
 use Rattle.records.specs.Bytes.{record_bytes, sheet_bytes}
 use Rattle.draws.specs.Draws.{advance, draw, draw_record, later, seed_records}
-use Rattle.generator.specs.Seeded.{seed_sheet, result, left}
+use Rattle.generator.specs.Seeded.{seed_sheet, result_of, left}
 use Rattle.generator.specs.Trials.{DrawsHold, StatesHold, BoardsHold, RecordsHold, CountsHold, LongestHolds, SlicesHold}
 use Rattle.generator.proofs.Sheets.{none, too_many, short, passed}
 use Rattle.generator.proofs.trials.Statement.{statement}
@@ -35,14 +35,14 @@ counts s out =
 longest : LongestHolds
 longest s out = (whole, one-short)
   where
-    whole : length out ≡ 32760 → result s 4095 out ≡ 32760
+    whole : length out ≡ 32760 → result_of s 4095 out ≡ 32760
     whole e = (passed s 4095 out (omega arith) (omega arith) (omega (arith, e))).0
 
-    one-short : length out ≡ 32759 → (result s 4095 out ≡ 3) × (left s 4095 out ≡ out)
+    one-short : length out ≡ 32759 → (result_of s 4095 out ≡ 3) × (left s 4095 out ≡ out)
     one-short e = let r = short s 4095 out (omega arith) (omega arith) (omega (arith, e)) in (sym r.0, sym r.1)
 
 slices : SlicesHold
-unfolding draw advance seed_records record_bytes sheet_bytes seed_sheet result left over later
+unfolding draw advance seed_records record_bytes sheet_bytes seed_sheet result_of left over later
 slices = (refl, refl, refl, refl, refl, refl)
 
 returns : tie.Need-returns

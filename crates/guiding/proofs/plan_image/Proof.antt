@@ -12,12 +12,12 @@ use Rattle.guiding.proofs.plan_image.Tie as tie
 shape : (c : tie.After-load-x) → Shape c.load-x.result.row
 shape c =
     let r = c.load-x.result.row in
-    let g = c.load-x.type-inv.1.1.1.0.1.1.1.1 in
+    let g = c.load-x.type_inv.1.1.1.0.1.1.1.1 in
     record {
-      views = sym (length-map r.views _) ∙ g.0.1.0.1;
-      joined = sym (length-map r.joined _) ∙ g.1.0.1.0.1;
-      acked = sym (length-map r.acked _) ∙ g.1.1.0.1.0.1;
-      len = sym (length-map r.len _) ∙ g.1.1.1.0.1.0.1;
+      views = g.0.1.0.1;
+      joined = g.1.0.1.0.1;
+      acked = g.1.1.0.1.0.1;
+      len = g.1.1.1.0.1.0.1;
     }
 
 returns : tie.Need-returns-then-out-lt16512

@@ -13,18 +13,18 @@ use Rattle.guiding.proofs.plan_sheet.Tie as tie
 
 -- Refusal 2 let the sheet through.
 passed : (c : tie.Else-not-is_sheet) → is_sheet c.before.before.before.before.args.sheet.now ≡ true
-passed c = sym c.before.is_sheet.ensures ∙ not-false _ c.if-not-is_sheet.false
+passed c = sym c.before.is_sheet.ensures ∙ c.if-not-is_sheet.false
 
 -- The lengths that the row's type fixes.
 shape : (c : tie.After-play-row) → Shape c.play-row.result
 shape c =
     let r = c.play-row.result in
-    let g = c.play-row.type-inv.1.1.1.1 in
+    let g = c.play-row.type_inv.1.1.1.1 in
     record {
-      views = sym (length-map r.views _) ∙ g.0.1.0.1;
-      joined = sym (length-map r.joined _) ∙ g.1.0.1.0.1;
-      acked = sym (length-map r.acked _) ∙ g.1.1.0.1.0.1;
-      len = sym (length-map r.len _) ∙ g.1.1.1.0.1.0.1;
+      views = g.0.1.0.1;
+      joined = g.1.0.1.0.1;
+      acked = g.1.1.0.1.0.1;
+      len = g.1.1.1.0.1.0.1;
     }
 
 is-sheet-requires : tie.Need-is_sheet-requires
@@ -33,7 +33,7 @@ is-sheet-requires c κs = search rules
 returns : tie.Need-returns-then-not-is_sheet
 returns c =
     let s = c.before.before.before.before in
-    no-sheet s.args.sheet.now s.args.out.now (sym c.before.is_sheet.ensures ∙ not-true _ c.if-not-is_sheet.true)
+    no-sheet s.args.sheet.now s.args.out.now (sym c.before.is_sheet.ensures ∙ c.if-not-is_sheet.true)
 
 returns-2 : tie.Need-returns-then-out-lt16512
 returns-2 c =

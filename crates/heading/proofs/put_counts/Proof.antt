@@ -32,7 +32,7 @@ abbrev start : tie.At-loop-k invariant-loop decreases-loop → tie.Start invaria
 start c = c.before.before
 
 abbrev texts : tie.At-loop-k invariant-loop decreases-loop → ℕ → Text
-texts c = let a = (start c).args in count a.t3 a.i
+texts c = let a = (start c).args in count a.acked a.i
 
 loop-holds : tie.Need-loop-k-init invariant-loop decreases-loop
 unfolding each_of
@@ -66,7 +66,7 @@ loop-again c =
     let w = c.before.before in
     let d = w.before.before.before in
     let a = start d in
-    let e = pair-at a.args.t3 a.args.i d.loop-k.k a.pre.0 w.before.before.loop-k-test.true in
+    let e = pair-at a.args.acked a.args.i d.loop-k.k a.requires.0 w.before.before.loop-k-test.true in
     (omega arith, eight-more (texts d) d.loop-k.k d.loop-k.invariant.1 (rw e w.put_two-p.ensures))
 
 same_length : tie.Need-shape_of-out invariant-loop decreases-loop

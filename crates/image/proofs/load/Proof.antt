@@ -16,15 +16,15 @@ abbrev places : tie.Start → Places
 places s = let a = s.args in lent a.store.now a.store2.now a.list.now a.list2.now
 
 abbrev start : tie.After-lengths → tie.Start
-start c = c.before.before.before.before.before.before.before.before.before.before.before
+start c = c.before.before.before.before.before.before.before
 
 -- Past refusal 1, and past 3.
 lengths-fit : (d : tie.Else-not-lengths) → lengths_fit (places (start d.before)) ≡ true
-lengths-fit d = sym d.before.lengths.ensures ∙ not-false _ d.if-not-lengths.false
+lengths-fit d = sym d.before.lengths.ensures ∙ d.if-not-lengths.false
 
 lent-enough : (d : tie.Else-not-enough)
     → let s = start d.before.before.before in lent_enough (places s) s.args.scratch.now ≡ true
-lent-enough d = rw (lengths-fit d.before.before, sym d.before.enough.ensures ∙ not-false _ d.if-not-enough.false)
+lent-enough d = rw (lengths-fit d.before.before, sym d.before.enough.ensures ∙ d.if-not-enough.false)
 
 lengths-requires : tie.Need-lengths-requires
 lengths-requires c κs = search rules
@@ -45,7 +45,7 @@ returns : tie.Need-returns-then-not-lengths
 returns c =
     let s = start c.before in
     bad-lengths s.args.image.now s.args.given (places s) s.args.scratch.now
-    (sym c.before.lengths.ensures ∙ not-true _ c.if-not-lengths.true)
+    (sym c.before.lengths.ensures ∙ c.if-not-lengths.true)
 
 enough-requires : tie.Need-enough-requires
 enough-requires c κs = search rules
@@ -67,7 +67,7 @@ returns-2 c =
     let d = c.before.before in
     let s = start d.before in
     bad-scratch s.args.image.now s.args.given (places s) s.args.scratch.now (lengths-fit d)
-    (sym c.before.enough.ensures ∙ not-true _ c.if-not-enough.true)
+    (sym c.before.enough.ensures ∙ c.if-not-enough.true)
 
 judge-requires : tie.Need-judge-v-requires
 judge-requires c κs = search rules

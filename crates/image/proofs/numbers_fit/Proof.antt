@@ -20,7 +20,7 @@ codes-fit-requires c κs = search rules
 
 returns : tie.Need-returns-then-not-codes_fit
 unfolding numbers_fit
-returns c = sym (rw (sym c.before.codes_fit.ensures ∙ not-true _ c.if-not-codes_fit.true))
+returns c = sym (rw (sym c.before.codes_fit.ensures ∙ c.if-not-codes_fit.true))
 
 row-requires : tie.Need-row-row-requires
 row-requires c κs = search rules
@@ -29,7 +29,7 @@ in-range-requires : tie.Need-in_range-requires
 in-range-requires c κs = search rules
 
 coded : (c : tie.Else-not-codes_fit) → codes_fit c.before.before.before.args.image.now ≡ true
-coded c = sym c.before.codes_fit.ensures ∙ not-false _ c.if-not-codes_fit.false
+coded c = sym c.before.codes_fit.ensures ∙ c.if-not-codes_fit.false
 
 returns-2 : tie.Need-returns-then-not-in_range
 unfolding numbers_fit
@@ -37,7 +37,7 @@ returns-2 c =
     let d = c.before.before.before in
     let e : in_range (outline_of (row_at d.before.before.before.args.image.now (replicate 8 0) 0)) ≡ false =
     sym (c.before.in_range.ensures ∙ ap (λ r. in_range (outline_of r)) c.before.before.row-row.ensures)
-    ∙ not-true _ c.if-not-in_range.true in
+    ∙ c.if-not-in_range.true in
     sym (rw (coded d, e))
 
 epochs-fit-requires : tie.Need-epochs_fit-requires
@@ -52,7 +52,7 @@ returns-3 c =
     let image = s.args.image.now in
     let e : in_range (outline_of (row_at image (replicate 8 0) 0)) ≡ true =
     sym (x.before.in_range.ensures ∙ ap (λ r. in_range (outline_of r)) x.before.before.row-row.ensures)
-    ∙ not-false _ x.if-not-in_range.false in
+    ∙ x.if-not-in_range.false in
     c.epochs_fit.ensures ∙ ap (λ n. epochs_fit n image) (sym (records-are image s.args.n s.requires))
     ∙ sym (rw (coded d, e))
 

@@ -58,7 +58,7 @@ returns : tie.Need-returns-then-out-n
 returns c =
     let d = c.before in
     let s = start d in
-    too_short s.args.row (places s) s.pre.1 s.pre.0 s.args.out.now (258 + 8 * d.total.result)
+    too_short s.args.row (places s) s.requires.1 s.requires.0 s.args.out.now (258 + 8 * d.total.result)
     (ap (λ n. 258 + 8 * n) d.total.ensures) (omega (arith, c.if-out-n.true))
 
 firsts-requires : tie.Need-firsts-firsts-requires
@@ -107,7 +107,7 @@ returns-2 c =
     let d = g.before.before in
     let s = start d in
     let a = s.args in
-    stored a.row (places s) s.pre.1 s.pre.0 a.out.now (258 + 8 * d.total.result)
+    stored a.row (places s) s.requires.1 s.requires.0 a.out.now (258 + 8 * d.total.result)
     (ap (λ n. 258 + 8 * n) d.total.ensures) g.before.if-out-n.false _ _
     (h.put_head.ensures.text
     ∙ ap (λ f. over a.out.now 0 (head_bytes (outline_of a.row) f)) g.firsts-firsts.ensures)

@@ -17,12 +17,12 @@ returns : tie.Need-returns-then-not-fits
 returns c =
     let s = c.before.before.before.before.before.before.before in
     not_valid s.args.row (places s) s.args.out.now
-    (sym c.before.fits.ensures.0 ∙ not-true _ c.if-not-fits.true)
+    (sym c.before.fits.ensures.0 ∙ c.if-not-fits.true)
 
 put-image-requires : tie.Need-put_image-requires
 put-image-requires c κs =
     let d = c.before in (
-      sym d.before.fits.ensures.0 ∙ not-false _ d.if-not-fits.false,
+      sym d.before.fits.ensures.0 ∙ d.if-not-fits.false,
       d.before.fits.ensures.1,
     )
 

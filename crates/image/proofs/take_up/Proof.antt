@@ -64,7 +64,7 @@ returns c =
     let t = c.before.before.before.before.before.before.before.before.before.before.before.before in
     let s = start t in
     let a = s.args in
-    not-linked a.image.now a.given (places s) a.scratch.now s.pre.2 s.pre.0 s.pre.1
+    not-linked a.image.now a.given (places s) a.scratch.now s.requires.2 s.requires.0 s.requires.1
     _ _ _ _ _ _ _ _ t.take_chains-issued.ensures c.if-issued-eq513.true
 
 cast-row : tie.Need-overflow_cast-issued
@@ -73,15 +73,15 @@ cast-row c =
     let s = start t in
     let a = s.args in
     record {
-      fits = count_fits a.image.now a.given (places s) a.scratch.now s.pre.2 s.pre.0
-          s.pre.1 _ _ _ _ _ _ _ _ t.take_chains-issued.ensures;
+      fits = count_fits a.image.now a.given (places s) a.scratch.now s.requires.2 s.requires.0
+          s.requires.1 _ _ _ _ _ _ _ _ t.take_chains-issued.ensures;
     }
 
 row-requires : tie.Need-row-row-requires
 row-requires c κs =
     let t = c.before.before.before.before.before.before.before.before.before.before.before.before in
     let s = start t in
-    omega (arith, (long-enough s.args.image.now s.pre.0).0)
+    omega (arith, (long-enough s.args.image.now s.requires.0).0)
 
 same-length-6 : tie.Need-shape_of-store
 same-length-6 c = search rules
@@ -104,7 +104,7 @@ returns-2 c =
     let t = e.before.before.before.before.before.before.before.before.before.before.before.before in
     let s = start t in
     let a = s.args in
-    took a.image.now a.given (places s) a.scratch.now s.pre.2 s.pre.0 s.pre.1
+    took a.image.now a.given (places s) a.scratch.now s.requires.2 s.requires.0 s.requires.1
     _ _ _ _ _ _ _ _ t.take_chains-issued.ensures e.if-issued-eq513.false c.row-row.result c.row-row.ensures
 
 pub take_up_spec : {M : Type 1} → statement M

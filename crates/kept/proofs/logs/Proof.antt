@@ -40,7 +40,7 @@ log-requires c κs =
     let f = c.before.before.before in
     let b = c.before.loop-b.b in
     let h : 1 ≤ b = search rules in
-    (f.requires.0, search rules, search rules, omega (arith, short-at f.args.t2 b f.requires.1 h))
+    (f.requires.0, search rules, search rules, omega (arith, short-at f.args.len b f.requires.1 h))
 
 both-requires : tie.Need-both-ok-requires invariant-loop decreases-loop
 both-requires c κs = search rules
@@ -54,7 +54,7 @@ loop-less c = search rules
 loop-again : tie.Need-loop-b-preserved invariant-loop decreases-loop
 loop-again c =
     let l = c.before.before.before in
-    let len = l.before.before.args.t2 in (
+    let len = l.before.before.args.len in (
       search rules,
       rest_more _ l.loop-b.b _ l.loop-b.invariant.1 _ (search rules) (search rules)
           (rw (at-index 0 len l.loop-b.b (search rules), ← c.before.log.ensures) c.both-ok.ensures),

@@ -33,7 +33,7 @@ element-copy-out-t17 c = search rules
 returns : tie.Need-returns
 returns c =
     let s = c.before.before.before in
-    let row = s.args.t1 in
+    let row = s.args.row in
     let b = s.args.b in
     let h = s.requires.0 in
     sym (λ i. record {

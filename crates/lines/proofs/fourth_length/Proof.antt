@@ -16,7 +16,7 @@ has-fourth-requires c κs = search rules
 returns : tie.Need-returns-then-not-has_fourth
 returns c =
     let a = c.before.before.args in
-    let e = sym c.before.has_fourth.ensures ∙ not-true _ c.if-not-has_fourth.true in
+    let e = sym c.before.has_fourth.ensures ∙ c.if-not-has_fourth.true in
     (sym (ap length (fourth-none a.step a.answer (bits a.q) e)), omega arith)
 
 size-requires : tie.Need-size-requires
@@ -33,7 +33,7 @@ returns-2 c =
     let d = c.before in
     let a = d.before.before.args in
     let s = bits a.q in
-    let e = sym d.before.has_fourth.ensures ∙ not-false _ d.if-not-has_fourth.false in
+    let e = sym d.before.has_fourth.ensures ∙ d.if-not-has_fourth.false in
     let l = ap length (fourth-some a.step a.answer s e) in
     (omega (arith, c.size.ensures, l, members-length s), omega (arith, c.size.ensures, size-le s))
 

@@ -43,11 +43,11 @@ unfolding answer_line
 put-field-requires c κs = let e = c.before.before in fits_both _ (digits e.args.k) space (text1 e) e.requires
 
 -- The room that is left after the call j, then the need of the next.
-room1 : (c : tie.After-put_field-a) → c.put_field-a.result + length (text1 (start1 c)) ≤ length c.put_field-a.new.0
+room1 : (c : tie.After-put_field-a) → c.put_field-a.result + length (text1 (start1 c)) ≤ length c.put_field-a.new.out
 unfolding answer_line
 room1 c =
     let e = start1 c in
-    rest_both (digits e.args.k) space (text1 e) c.put_field-a.ensures e.pre
+    rest_both (digits e.args.k) space (text1 e) c.put_field-a.ensures e.requires
 
 put-field-requires-2 : tie.Need-put_field-b-requires
 put-field-requires-2 c κs =
@@ -55,7 +55,7 @@ put-field-requires-2 c κs =
     let e = start1 d in
     fits_both _ (digits e.args.step) space (text2 e) (room1 d)
 
-room2 : (c : tie.After-put_field-b) → c.put_field-b.result + length (text2 (start2 c)) ≤ length c.put_field-b.new.0
+room2 : (c : tie.After-put_field-b) → c.put_field-b.result + length (text2 (start2 c)) ≤ length c.put_field-b.new.out
 room2 c =
     let e = start2 c in
     rest_both (digits e.args.step) space (text2 e) c.put_field-b.ensures
@@ -67,7 +67,7 @@ put-number-requires c κs =
     let e = start2 d in
     fits _ (digits e.args.answer) (text3 e) (room2 d)
 
-room3 : (c : tie.After-put_number-c) → c.put_number-c.result + length (text3 (start3 c)) ≤ length c.put_number-c.new.0
+room3 : (c : tie.After-put_number-c) → c.put_number-c.result + length (text3 (start3 c)) ≤ length c.put_number-c.new.out
 room3 c =
     let e = start3 c in
     rest (digits e.args.answer) (text3 e) c.put_number-c.ensures (room2 c.before.before.before.before)
@@ -78,7 +78,7 @@ put-fourth-requires c κs =
     let e = start3 d in
     fits _ (fourth e) (text4 e) (room3 d)
 
-room4 : (c : tie.After-put_fourth-d) → c.put_fourth-d.result + length (text4 (start4 c)) ≤ length c.put_fourth-d.new.0
+room4 : (c : tie.After-put_fourth-d) → c.put_fourth-d.result + length (text4 (start4 c)) ≤ length c.put_fourth-d.new.out
 room4 c =
     let e = start4 c in
     rest (fourth e) (text4 e) c.put_fourth-d.ensures (room3 c.before.before.before.before)

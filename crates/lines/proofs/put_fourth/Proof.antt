@@ -20,7 +20,7 @@ has-fourth-requires c κs = search rules
 returns : tie.Need-returns-then-not-has_fourth
 returns c =
     let a = c.before.before.before.args in
-    let e = sym c.before.has_fourth.ensures ∙ not-true _ c.if-not-has_fourth.true in
+    let e = sym c.before.has_fourth.ensures ∙ c.if-not-has_fourth.true in
     wrote_as (sym (fourth-none a.step a.answer (bits a.q) e)) (nothing _ _)
 
 -- Past the test there is a field, and room for it.
@@ -31,7 +31,7 @@ field : (c : tie.Else-not-has_fourth) → let a = (start c).args in
     fourth_field a.step a.answer (bits a.q) ≡ space ++ members_text (bits a.q)
 field c =
     let a = (start c).args in
-    fourth-some a.step a.answer (bits a.q) (sym c.before.has_fourth.ensures ∙ not-false _ c.if-not-has_fourth.false)
+    fourth-some a.step a.answer (bits a.q) (sym c.before.has_fourth.ensures ∙ c.if-not-has_fourth.false)
 
 room : (c : tie.Else-not-has_fourth) → let a = (start c).args in
     a.at + length (space ++ members_text (bits a.q)) ≤ length a.out.now

@@ -14,13 +14,13 @@ use Rattle.lines.proofs.put_member.Tie as tie
 
 -- On the way past the test b is a member.
 member : (c : tie.Else-not-has) → bits c.before.before.before.args.m c.before.before.before.args.b ≡ true
-member c = sym c.before.has.ensures ∙ not-false _ c.if-not-has.false
+member c = sym c.before.has.ensures ∙ c.if-not-has.false
 
 has-requires : tie.Need-has-requires
 has-requires c κs = search rules
 
 returns : tie.Need-returns-then-not-has
-returns c = rw (sym c.before.has.ensures ∙ not-true _ c.if-not-has.true) (nothing _ _)
+returns c = rw (sym c.before.has.ensures ∙ c.if-not-has.true) (nothing _ _)
 
 add-put-byte : tie.Need-overflow_add-b
 add-put-byte c = search rules

@@ -35,7 +35,7 @@ unfolding members_text
 put-member-requires c κs =
     let d = c.before.before in
     let e = start d in
-    (omega arith, omega arith, up_to-fits (text e) d.loop-b.b c.before.loop-b-test.true d.loop-b.invariant.1 e.pre)
+    (omega arith, omega arith, up_to-fits (text e) d.loop-b.b c.before.loop-b-test.true d.loop-b.invariant.1 e.requires)
 
 loop-less : tie.Need-loop-b-smaller invariant-loop decreases-loop
 loop-less c = omega arith

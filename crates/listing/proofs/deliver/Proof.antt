@@ -25,7 +25,7 @@ has-room-requires c κs = search rules
 returns : tie.Need-returns-then-not-has_room
 returns c =
     let e = start c.before in
-    let test = sym c.before.has_room.ensures ∙ not-true _ c.if-not-has_room.true in
+    let test = sym c.before.has_room.ensures ∙ c.if-not-has_room.true in
     let short = leb-false (length (answers e) + length e.args.ending.now) (length e.args.out.now) test in
     too_long (omega (arith, length-append (answers e) e.args.ending.now, short))
 
@@ -33,7 +33,7 @@ returns c =
 room :
     (c : tie.Else-not-has_room)
     → let e = start c.before in length (answers e) + length e.args.ending.now ≤ length e.args.out.now
-room c = leb-true _ _ (sym c.before.has_room.ensures ∙ not-false _ c.if-not-has_room.false)
+room c = leb-true _ _ (sym c.before.has_room.ensures ∙ c.if-not-has_room.false)
 
 put-answers-requires : tie.Need-put_answers-at-requires
 put-answers-requires c κs =

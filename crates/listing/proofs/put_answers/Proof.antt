@@ -49,8 +49,8 @@ put-answer-requires c κs =
     let e = start d in
     let s = e.args.sheet.now in
     let r = lines-room s e.args.answers.now e.args.sets.now d.loop-i.i (length s / 8) (omega arith)
-    e.pre.1 e.pre.2 in
-    omega (arith, d.loop-i.invariant.1, d.loop-i.invariant.2.next, e.pre.3, r)
+    e.requires.1 e.requires.2 in
+    omega (arith, d.loop-i.invariant.1, d.loop-i.invariant.2.next, e.requires.3, r)
 
 add-i : tie.Need-overflow_add-i-in-loop-i invariant-loop decreases-loop
 add-i c = omega arith

@@ -21,10 +21,10 @@ decreases-loop image n first part₀ part2₀ at₀ len₀ part part2 at len = 5
 
 -- At a record's turn it is the image's, and there is room for it.
 here : (c : tie.In-loop-at invariant-loop decreases-loop)
-    → (c.before.loop.at ≤ c.before.before.before.before.before.args.n) × (c.before.loop.len < 512)
+    → (c.before.loop-at.at ≤ c.before.before.before.before.before.args.n) × (c.before.loop-at.len < 512)
 here c =
-    let w = c.before.loop.invariant.0 in
-    let h : 1 ≤ c.before.loop.at = omega arith in
+    let w = c.before.loop-at.invariant.0 in
+    let h : 1 ≤ c.before.loop-at.at = omega arith in
     (inside _ _ _ _ _ w h, place _ _ _ _ _ w h)
 
 loop-holds : tie.Need-loop-at-init invariant-loop decreases-loop

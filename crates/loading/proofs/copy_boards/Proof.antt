@@ -21,10 +21,10 @@ decreases-loop image n store₀ store2₀ len₀ b₀ store store2 len b = 8 - b
 -- At a board's turn its chain can be copied.
 sound : (c : tie.In-loop-b invariant-loop decreases-loop)
     → let a = c.before.before.before.before.before.before.args in
-    Sound a.n (list_of a.image.now c.before.loop.b)
+    Sound a.n (list_of a.image.now c.before.loop-b.b)
 sound c =
     let s = c.before.before.before.before.before.before in
-    sound-at s.args.n s.args.image.now c.before.loop.b (omega arith) s.requires.1
+    sound-at s.args.n s.args.image.now c.before.loop-b.b (omega arith) s.requires.1
 
 loop-holds : tie.Need-loop-b-init invariant-loop decreases-loop
 loop-holds c =

@@ -22,7 +22,7 @@ returns c =
     let w = c.before.before.before in
     let a = w.before.before.before.before.before.before.before.before.before.args in
     let i = a.image.now in
-    let no = sym w.well_linked.ensures.0 ∙ not-true _ c.if-not-well_linked.true in
+    let no = sym w.well_linked.ensures.0 ∙ c.if-not-well_linked.true in
     left (holds a.n i) i
     a.store.now a.store2.now a.len.now a.list.now a.list2.now a.scratch.now _
     no w.well_linked.ensures.1
@@ -30,7 +30,7 @@ returns c =
 copy-boards-requires : tie.Need-copy_boards-requires
 copy-boards-requires c κs =
     let t = c.before.before.before in
-    let ok = sym t.before.before.before.well_linked.ensures.0 ∙ not-false _ t.if-not-well_linked.false in
+    let ok = sym t.before.before.before.well_linked.ensures.0 ∙ t.if-not-well_linked.false in
     (search rules, ok, search rules, search rules, search rules)
 
 first-requires : tie.Need-first-start-requires
@@ -42,7 +42,7 @@ copy-requires c κs =
     let w = t.before.before.before in
     let s = w.before.before.before.before.before.before.before.before.before in
     let i = s.args.image.now in
-    let ok = sym w.well_linked.ensures.0 ∙ not-false _ t.if-not-well_linked.false in
+    let ok = sym w.well_linked.ensures.0 ∙ t.if-not-well_linked.false in
     let first = sym c.before.before.first-start.ensures in (
       s.requires.0,
       subst (λ k. Sound s.args.n (chain_of (next_of i) k)) first (sound-at s.args.n i 8 (omega arith) ok),
@@ -77,7 +77,7 @@ returns-2 c =
     let w = t.before.before.before in
     let a = w.before.before.before.before.before.before.before.before.before.args in
     let i = a.image.now in
-    let ok = sym w.well_linked.ensures.0 ∙ not-false _ t.if-not-well_linked.false in
+    let ok = sym w.well_linked.ensures.0 ∙ t.if-not-well_linked.false in
     took (holds a.n i) i
     a.store.now _ a.store2.now _ a.len.now _ a.list.now _ a.list2.now _ a.scratch.now _
     _ _ ok first.first-start.ensures w.well_linked.ensures.1 boards.copy_boards.ensures receipts.copy.ensures

@@ -77,7 +77,7 @@ returns c =
     omega (
       arith,
       l.loop-i.invariant.1,
-      ends-2 a.store.now a.terms.now a.a a.m a.b a.n l.loop-i.i f.pre c.if-n-i.true,
+      ends-2 a.store.now a.terms.now a.a a.m a.b a.n l.loop-i.i f.requires c.if-n-i.true,
     )
 
 same-requires : tie.Need-same-requires invariant-loop decreases-loop
@@ -92,8 +92,8 @@ returns-2 c =
     omega (
       arith,
       l.loop-i.invariant.1,
-      stops a.store.now a.terms.now a.a a.m a.b a.n l.loop-i.i f.pre
-          d.before.loop-i-test.true d.if-n-i.false c.before.same.ensures (not-true _ c.if-not-same.true),
+      stops a.store.now a.terms.now a.a a.m a.b a.n l.loop-i.i f.requires
+          d.before.loop-i-test.true d.if-n-i.false c.before.same.ensures (c.if-not-same.true),
     )
 
 add-i : tie.Need-overflow_add-i invariant-loop decreases-loop
@@ -112,8 +112,8 @@ loop-again c =
       omega (
         arith,
         l.loop-i.invariant.1,
-        goes_on a.store.now a.terms.now a.a a.m a.b a.n l.loop-i.i f.pre
-            d.before.loop-i-test.true d.if-n-i.false c.before.same.ensures (not-false _ c.if-not-same.false),
+        goes_on a.store.now a.terms.now a.a a.m a.b a.n l.loop-i.i f.requires
+            d.before.loop-i-test.true d.if-n-i.false c.before.same.ensures (c.if-not-same.false),
       ),
     )
 
@@ -125,7 +125,7 @@ returns-3 c =
     omega (
       arith,
       l.loop-i.invariant.1,
-      ends a.store.now a.terms.now a.a a.m a.b a.n l.loop-i.i f.pre c.loop-i-test.false,
+      ends a.store.now a.terms.now a.a a.m a.b a.n l.loop-i.i f.requires c.loop-i-test.false,
     )
 
 pub shared_spec : {M : Type 1} → statement M

@@ -22,7 +22,7 @@ returns c =
     let a = c.before.before.args in
     let e : a.issued - 0 ≡ a.issued = omega arith in (
       rw (e, eq-eqb _ _ c.before.if-leader-eq0.true),
-      rw (eq-eqb _ _ c.before.if-leader-eq0.true) (from_start 2 a.committed.ptr),
+      rw (eq-eqb _ _ c.before.if-leader-eq0.true) (from_start 2 a.committed.ref_ptr),
     )
 
 sub-start : tie.Need-overflow_sub-start
@@ -55,7 +55,7 @@ returns-2 c =
     let from = 512 * (a.leader - 1) in
     let e : from + a.len - from ≡ a.len = omega arith in
     let n = ne_eqb _ _ c.before.if-leader-eq0.false in
-    (rw (e, n), rw n (from_place 2 a.store.ptr from))
+    (rw (e, n), rw n (from_place 2 a.store.ref_ptr from))
 
 pub visible_terms_spec : {M : Type 1} → statement M
 visible_terms_spec =

@@ -16,10 +16,10 @@ shape c =
     let g = c.well_formed.0.1.1.1.1 in
     let row = c.args.row in
     record {
-      views = sym (length-map row.views _) ∙ g.0.1.0.1;
-      joined = sym (length-map row.joined _) ∙ g.1.0.1.0.1;
-      acked = sym (length-map row.acked _) ∙ g.1.1.0.1.0.1;
-      len = sym (length-map row.len _) ∙ g.1.1.1.0.1.0.1;
+      views = g.0.1.0.1;
+      joined = g.1.0.1.0.1;
+      acked = g.1.1.0.1.0.1;
+      len = g.1.1.1.0.1.0.1;
     }
 
 turn-requires : tie.Need-turn-requires

@@ -13,7 +13,7 @@ use Rattle.pieces.proofs.leader_of.Statement.{statement}
 use Rattle.pieces.proofs.leader_of.Tie as tie
 
 seated : (c : tie.Else-not-replica) → (1 ≤ c.before.before.args.b) × (c.before.before.args.b ≤ 8)
-seated c = replica-range c.before.before.args.b (sym c.before.replica.ensures ∙ not-false _ c.if-not-replica.false)
+seated c = replica-range c.before.before.args.b (sym c.before.replica.ensures ∙ c.if-not-replica.false)
 
 replica-requires : tie.Need-replica-requires
 replica-requires c κs = search rules
@@ -21,8 +21,8 @@ replica-requires c κs = search rules
 returns : tie.Need-returns-then-not-replica
 returns c =
     let s = c.before.before in
-    sym (ap (λ v. v.leader) (at-outside no_view s.args.t1 s.args.b s.well_formed.0.1.0.1
-    (sym c.before.replica.ensures ∙ not-true _ c.if-not-replica.true)))
+    sym (ap (λ v. v.leader) (at-outside no_view s.args.views s.args.b s.well_formed.0.1.0.1
+    (sym c.before.replica.ensures ∙ c.if-not-replica.true)))
 
 sub-i : tie.Need-overflow_sub-i
 sub-i c =
@@ -40,7 +40,7 @@ array-copy-out-v c =
 
 returns-2 : tie.Need-returns
 returns-2 c =
-    let h = seated c.before in sym (ap (λ v. v.leader) (at-index no_view c.before.before.before.args.t1 c.before.before.before.args.b h.0))
+    let h = seated c.before in sym (ap (λ v. v.leader) (at-index no_view c.before.before.before.args.views c.before.before.before.args.b h.0))
 
 pub leader_of_spec : {M : Type 1} → statement M
 leader_of_spec =

@@ -11,7 +11,7 @@ use Rattle.pieces.proofs.number_of.Statement.{statement}
 use Rattle.pieces.proofs.number_of.Tie as tie
 
 seated : (c : tie.Else-not-replica) → (1 ≤ c.before.before.args.b) × (c.before.before.args.b ≤ 8)
-seated c = replica-range c.before.before.args.b (sym c.before.replica.ensures ∙ not-false _ c.if-not-replica.false)
+seated c = replica-range c.before.before.args.b (sym c.before.replica.ensures ∙ c.if-not-replica.false)
 
 replica-requires : tie.Need-replica-requires
 replica-requires c κs = search rules
@@ -19,8 +19,8 @@ replica-requires c κs = search rules
 returns : tie.Need-returns-then-not-replica
 returns c =
     let s = c.before.before in
-    sym (ap (λ x. x) (at-outside 0 s.args.t1 s.args.b s.well_formed.0.1.0.1
-    (sym c.before.replica.ensures ∙ not-true _ c.if-not-replica.true)))
+    sym (ap (λ x. x) (at-outside 0 s.args.xs s.args.b s.well_formed.0.1.0.1
+    (sym c.before.replica.ensures ∙ c.if-not-replica.true)))
 
 sub-i : tie.Need-overflow_sub-i
 sub-i c =
@@ -38,7 +38,7 @@ array-read-result c =
 
 returns-2 : tie.Need-returns
 returns-2 c =
-    let h = seated c in sym (ap (λ x. x) (at-index 0 c.before.before.args.t1 c.before.before.args.b h.0))
+    let h = seated c in sym (ap (λ x. x) (at-index 0 c.before.before.args.xs c.before.before.args.b h.0))
 
 pub number_of_spec : {M : Type 1} → statement M
 number_of_spec =

@@ -16,7 +16,7 @@ places c = let a = c.args in lent a.store.now a.store2.now a.list.now a.list2.no
 
 -- Refusal 1 let the row and the places through.
 passed : (c : tie.Else-not-fits) → let s = c.before.before.before.before.before.before.before in valid s.args.row (places s) ≡ true
-passed c = sym c.before.fits.ensures.0 ∙ not-false _ c.if-not-fits.false
+passed c = sym c.before.fits.ensures.0 ∙ c.if-not-fits.false
 
 full : (c : tie.Else-not-fits) → Full (places c.before.before.before.before.before.before.before)
 full c = let s = c.before.before.before.before.before.before.before in valid-full s.args.row (places s) (passed c)
@@ -27,7 +27,7 @@ fits-requires c κs = search rules
 returns : tie.Need-returns-then-not-fits
 returns c =
     let s = c.before.before.before.before.before.before.before in
-    plans-invalid s.args.row (places s) s.args.out.now (sym c.before.fits.ensures.0 ∙ not-true _ c.if-not-fits.true)
+    plans-invalid s.args.row (places s) s.args.out.now (sym c.before.fits.ensures.0 ∙ c.if-not-fits.true)
 
 returns-2 : tie.Need-returns-then-out-lt16512
 returns-2 c =

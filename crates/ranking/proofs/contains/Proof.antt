@@ -10,10 +10,10 @@ replica-requires : tie.Need-replica-requires
 replica-requires c κs = search rules
 
 returns : tie.Need-returns-then-not-replica
-returns c = sym (bits_out _ _ (sym c.before.replica.ensures ∙ not-true _ c.if-not-replica.true))
+returns c = sym (bits_out _ _ (sym c.before.replica.ensures ∙ c.if-not-replica.true))
 
 has-requires : tie.Need-has-requires
-has-requires c κs = replica-range _ (sym c.before.replica.ensures ∙ not-false _ c.if-not-replica.false)
+has-requires c κs = replica-range _ (sym c.before.replica.ensures ∙ c.if-not-replica.false)
 
 returns-2 : tie.Need-returns
 returns-2 c = search rules

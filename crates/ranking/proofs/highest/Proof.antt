@@ -32,7 +32,7 @@ returns : tie.Need-returns-then-is_unsurpassed invariant-loop decreases-loop
 returns c =
     let l = c.before.before.before.loop-rest in
     let a = c.before.before.before.before.before.before.args in
-    let u = unsurpassed a.c.before.before.before.before.before.heard-1 a.c.before.before.before.before.joined-1 (bits a.q) in
+    let u = unsurpassed a.c.heard a.c.joined (bits a.q) in
     let t = sym c.before.is_unsurpassed.ensures ∙ c.if-is_unsurpassed.true in
     sym (lowest-at u (9 - l.rest) (omega arith) (omega arith) t l.invariant.1) ∙ highest-is a.c a.q
 
@@ -53,7 +53,7 @@ returns-2 : tie.Need-returns invariant-loop decreases-loop
 returns-2 c =
     let l = c.before.loop-rest in
     let a = c.before.before.before.before.args in
-    let u = unsurpassed a.c.before.before.before.heard-1 a.c.before.before.joined-1 (bits a.q) in
+    let u = unsurpassed a.c.heard a.c.joined (bits a.q) in
     let end : l.rest ≡ 0 = omega arith in
     sym (lowest-none u (rw end at l.invariant.1)) ∙ highest-is a.c a.q
 

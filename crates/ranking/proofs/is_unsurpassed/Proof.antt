@@ -40,8 +40,8 @@ returns : tie.Need-returns
 returns c =
     let s = c.before.before.before.before in
     let a = s.args in
-    passes a.t1 a.t2 a.q a.b _ _ _ _ _ _ (sym (at-index 0 a.t1 a.b s.requires.0))
-    (sym (at-index 0 a.t2 a.b s.requires.0)) c.before.before.before.ranked_above-p.ensures
+    passes a.heard a.joined a.q a.b _ _ _ _ _ _ (sym (at-index 0 a.heard a.b s.requires.0))
+    (sym (at-index 0 a.joined a.b s.requires.0)) c.before.before.before.ranked_above-p.ensures
     c.before.before.both-over.ensures c.before.has.ensures c.size.ensures
 
 pub is_unsurpassed_spec : {M : Type 1} → statement M

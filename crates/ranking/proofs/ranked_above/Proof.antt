@@ -54,9 +54,9 @@ unfolding ranked_above
 loop-again c =
     let l = c.before.before.before.loop-b in
     let a = c.before.before.before.before.args in
-    let heard = at-index 0 a.t1 l.b l.invariant.0 in
-    let joined = at-index 0 a.t2 l.b l.invariant.0 in
-    let p = ranked_above a.t1 a.t2 a.l a.k in (
+    let heard = at-index 0 a.heard l.b l.invariant.0 in
+    let joined = at-index 0 a.joined l.b l.invariant.0 in
+    let p = ranked_above a.heard a.joined a.l a.k in (
       search rules,
       search rules,
       gathered p l.b l.q _ _ l.invariant.0 (search rules) l.invariant.2 c.put-q.ensures

@@ -26,10 +26,10 @@ returns-2 : tie.Need-returns-then-b-gt57 invariant-loop decreases-loop
 returns-2 c = stopped c.before.before.before.before.loop-i.invariant (λ _. above-digits _ c.if-b-gt57.true)
 
 -- What was read so far is so small that ten times it and a digit fit.
-small : (c : tie.Else-b-gt57 invariant-loop decreases-loop) → c.before.before.before.before.loop.v < 10 ^ 15
+small : (c : tie.Else-b-gt57 invariant-loop decreases-loop) → c.before.before.before.before.loop-i.v < 10 ^ 15
 small c =
     let l = c.before.before.before.before in
-    bounded l.loop.invariant (omega (arith, c.before.before.before.loop-test.true, l.before.requires.1))
+    bounded l.loop-i.invariant (omega (arith, c.before.before.before.loop-i-test.true, l.before.requires.1))
 
 mul-v : tie.Need-overflow_mul-v invariant-loop decreases-loop
 mul-v c = omega (arith, small c)

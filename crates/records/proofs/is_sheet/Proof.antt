@@ -16,17 +16,17 @@ whole-requires : tie.Need-whole-requires
 whole-requires c κs = search rules
 
 returns : tie.Need-returns-then-not-whole
-returns c = rw (sym c.before.whole.ensures ∙ not-true _ c.if-not-whole.true)
+returns c = rw (sym c.before.whole.ensures ∙ c.if-not-whole.true)
 
 decode-requires : tie.Need-decode-r-requires
-decode-requires c κs = room _ (sym c.before.whole.ensures ∙ not-false _ c.if-not-whole.false)
+decode-requires c κs = room _ (sym c.before.whole.ensures ∙ c.if-not-whole.false)
 
 opens-requires : tie.Need-opens-requires
 opens-requires c κs = search rules
 
 returns-2 : tie.Need-returns
 returns-2 c =
-    let w = sym c.before.before.before.whole.ensures ∙ not-false _ c.before.before.if-not-whole.false in
+    let w = sym c.before.before.before.whole.ensures ∙ c.before.before.if-not-whole.false in
     c.opens.ensures ∙ ap is_opening c.before.decode-r.ensures ∙ rw w
 
 pub is_sheet_spec : {M : Type 1} → statement M

@@ -23,12 +23,12 @@ walked c =
 shape : (c : tie.After-begin-row) → Shape c.begin-row.result
 shape c =
     let r = c.begin-row.result in
-    let g = c.begin-row.type-inv.1.1.1.1 in
+    let g = c.begin-row.type_inv.1.1.1.1 in
     record {
-      views = sym (length-map r.views _) ∙ g.0.1.0.1;
-      joined = sym (length-map r.joined _) ∙ g.1.0.1.0.1;
-      acked = sym (length-map r.acked _) ∙ g.1.1.0.1.0.1;
-      len = sym (length-map r.len _) ∙ g.1.1.1.0.1.0.1;
+      views = g.0.1.0.1;
+      joined = g.1.0.1.0.1;
+      acked = g.1.1.0.1.0.1;
+      len = g.1.1.1.0.1.0.1;
     }
 
 begin-requires : tie.Need-begin-row-requires
@@ -53,8 +53,8 @@ walk-requires : tie.Need-walk-x-requires
 walk-requires c κs =
     let b = begun c.before.before.before.before.before.before in
     let e = start b in
-    let ran = ran-none e.args.sheet.now b.begin-row.result b.begin-row.ensures _ e.pre.1 in
-    (e.pre.0, shape b, ran e.args.answers.now e.args.sets.now e.pre.2 e.pre.3)
+    let ran = ran-none e.args.sheet.now b.begin-row.result b.begin-row.ensures _ e.requires.1 in
+    (e.requires.0, shape b, ran e.args.answers.now e.args.sets.now e.requires.2 e.requires.3)
 
 same_length : tie.Need-shape_of-store
 same_length c = search rules
@@ -72,13 +72,13 @@ same-length-5 : tie.Need-shape_of-answers
 same-length-5 c =
     let w = walked c in
     let e = start (begun w.before.before.before.before.before.before.before) in
-    w.walk-x.kept.1.1.1.1.1.1.1.1.1.0 ∙ length-set e.args.answers.now 0 0
+    w.walk-x.auto.answers ∙ length-set e.args.answers.now 0 0
 
 same-length-6 : tie.Need-shape_of-sets
 same-length-6 c =
     let w = walked c in
     let e = start (begun w.before.before.before.before.before.before.before) in
-    w.walk-x.kept.1.1.1.1.1.1.1.1.1.1.0 ∙ length-set e.args.sets.now 0 0
+    w.walk-x.auto.sets ∙ length-set e.args.sets.now 0 0
 
 returns : tie.Need-returns
 returns c = search rules

@@ -45,22 +45,22 @@ sent c =
 
 -- The row and the places at a turn.
 abbrev row : tie.At-loop-k invariant-loop decreases-loop → Cluster
-row c = let l = c.loop in row_of l.g l.c l.views l.joined l.acked l.len l.issued
+row c = let l = c.loop-k in row_of l.g l.c l.views l.joined l.acked l.len l.issued
 
 abbrev places : tie.At-loop-k invariant-loop decreases-loop → Places
-places c = let l = c.loop in lent l.store l.store2 l.list l.list2
+places c = let l = c.loop-k in lent l.store l.store2 l.list l.list2
 
 -- At a record's turn there is room for its answer.
-small : (c : tie.In-loop-k invariant-loop decreases-loop) → c.before.loop.k + 1 < 4096
-small c = let e = start c.before in omega (arith, sheet-most e.args.sheet.now e.pre.0)
+small : (c : tie.In-loop-k invariant-loop decreases-loop) → c.before.loop-k.k + 1 < 4096
+small c = let e = start c.before in omega (arith, sheet-most e.args.sheet.now e.requires.0)
 
 sub-n : tie.Need-overflow_sub-n invariant-loop decreases-loop
 sub-n c =
     let e = entry c in
-    omega (arith, room (length e.args.sheet.now) (sheet-whole e.args.sheet.now e.pre.0))
+    omega (arith, room (length e.args.sheet.now) (sheet-whole e.args.sheet.now e.requires.0))
 
 loop-holds : tie.Need-loop-k-init invariant-loop decreases-loop
-loop-holds c = let e = entry c.before.before.before in (omega arith, e.pre.1, e.pre.2)
+loop-holds c = let e = entry c.before.before.before in (omega arith, e.requires.1, e.requires.2)
 
 mul-decode : tie.Need-overflow_mul-k invariant-loop decreases-loop
 mul-decode c = search rules
@@ -77,7 +77,7 @@ send-requires c κs =
     let d = t.before in
     let e = start d in
     let h = d.loop-k.invariant.2 in (
-      ran-ready e.args.sheet.now e.pre.0 d.loop-k.k _ (places d) d.loop-k.answers d.loop-k.sets
+      ran-ready e.args.sheet.now e.requires.0 d.loop-k.k _ (places d) d.loop-k.answers d.loop-k.sets
           h d.loop-k.invariant.1,
       h.full,
     )
@@ -86,13 +86,13 @@ add-answers : tie.Need-overflow_add-answers invariant-loop decreases-loop
 add-answers c = omega (arith, small (turn (sent c)))
 
 slice-write-answers : tie.Need-bounds-answers-k invariant-loop decreases-loop
-slice-write-answers c = let t = turn (sent c) in omega (arith, small t, t.before.loop.inv.2.room)
+slice-write-answers c = let t = turn (sent c) in omega (arith, small t, t.before.loop-k.invariant.2.room)
 
 add-sets : tie.Need-overflow_add-sets invariant-loop decreases-loop
 add-sets c = omega (arith, small (turn (sent c)))
 
 slice-write-sets : tie.Need-bounds-sets-k invariant-loop decreases-loop
-slice-write-sets c = let t = turn (sent c) in omega (arith, small t, t.before.loop.inv.2.set_room)
+slice-write-sets c = let t = turn (sent c) in omega (arith, small t, t.before.loop-k.invariant.2.set_room)
 
 mul-views : tie.Need-offset_bounds-views-i invariant-loop decreases-loop
 mul-views c = search rules
@@ -100,7 +100,7 @@ mul-views c = search rules
 array-set-from-views : tie.Need-bounds-views-i invariant-loop decreases-loop
 array-set-from-views c =
     let x = sent c.before in
-    omega (arith, x.send.ensures.place, (turn x).before.loop.inv.1.views)
+    omega (arith, x.send-x.ensures.place, (turn x).before.loop-k.invariant.1.views)
 
 add-k : tie.Need-overflow_add-k-in-loop-k invariant-loop decreases-loop
 add-k c = omega (arith, small (turn (sent c.before.before.before)))
@@ -114,18 +114,18 @@ loop-again c =
     let t = turn x in
     let d = t.before in
     let e = start d in
-    let l = d.loop in
-    let h = l.inv.2 in
-    let same = x.send.kept.1.1.1.1 in (
-      omega (arith, t.loop-test.taken),
+    let l = d.loop-k in
+    let h = l.invariant.2 in
+    let same = x.send-x.auto in (
+      omega (arith, t.loop-k-test.true),
       record {
-        views = length-set l.views _ _ ∙ l.inv.1.views;
-        joined = same.0 ∙ l.inv.1.joined;
-        acked = same.1.0 ∙ l.inv.1.acked;
-        len = same.1.1.0 ∙ l.inv.1.len;
+        views = length-set l.views _ _ ∙ l.invariant.1.views;
+        joined = same.joined ∙ l.invariant.1.joined;
+        acked = same.acked ∙ l.invariant.1.acked;
+        len = same.len ∙ l.invariant.1.len;
       },
-      ran-more e.args.sheet.now e.pre.0 l.k (row d) (places d) l.answers l.sets h _
-          (decoded x).decode.ensures x.send.ensures.leaves (omega (arith, small t, h.room))
+      ran-more e.args.sheet.now e.requires.0 l.k (row d) (places d) l.answers l.sets h _
+          (decoded x).decode-r.ensures x.send-x.ensures.leaves (omega (arith, small t, h.room))
           (omega (arith, small t, h.set_room)),
     )
 

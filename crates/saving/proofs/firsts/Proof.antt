@@ -56,13 +56,13 @@ abbrev decreases-loop : tie.decreases-loop-i
 decreases-loop count len all₀ k₀ i₀ all k i = 8 - i
 
 -- The type of an array fixes its length.
-eight : (c : tie.Start invariant-loop decreases-loop) → length c.args.t1 ≡ 8
-eight c = c.well-formed.0.1.0.1
+eight : (c : tie.Start invariant-loop decreases-loop) → length c.args.len ≡ 8
+eight c = c.well_formed.0.1.0.1
 
 loop-holds : tie.Need-loop-i-init invariant-loop decreases-loop
 loop-holds c =
     let a = c.args in
-    (omega arith, omega arith, starts-all a.t1 a.count (eight c) _ refl)
+    (omega arith, omega arith, starts-all a.len a.count (eight c) _ refl)
 
 mul-n : tie.Need-offset_bounds-len-i invariant-loop decreases-loop
 mul-n c = search rules
@@ -95,7 +95,7 @@ loop-again c =
     let l = c.before.before.loop-i in (
       omega arith,
       omega (arith, s.requires (suc l.i)),
-      starts-on s.args.t1 s.args.count (eight s) l.all l.k l.i l.invariant.2 (omega arith) _
+      starts-on s.args.len s.args.count (eight s) l.all l.k l.i l.invariant.2 (omega arith) _
           c.start.ensures,
     )
 
@@ -109,7 +109,7 @@ returns : tie.Need-returns invariant-loop decreases-loop
 returns c =
     let s = c.before.before.before in
     let l = c.before.before.loop-i in
-    starts-end s.args.t1 s.args.count (eight s) l.all l.k l.i l.invariant.2 (omega arith) _
+    starts-end s.args.len s.args.count (eight s) l.all l.k l.i l.invariant.2 (omega arith) _
     c.start-2.ensures
 
 pub firsts_spec : {M : Type 1} → statement M

@@ -24,16 +24,16 @@ decreases-loop out₀ store store2 len list list2 count k₀ i₀ out k i = 8 - 
 -- At a board's turn its log has at most 512 entries, and there is room for its records.
 here : (c : tie.In-loop-i invariant-loop decreases-loop)
     → let s = c.before.before.before.before.before.before.before.before in
-    let n = get_or s.args.len.now c.before.loop.i 0 in
-    (n ≤ 512) × (c.before.loop.k + n ≤ sum_by (s.args.len.now ++ (s.args.count ∷ [])) + 1)
+    let n = get_or s.args.len.now c.before.loop-i.i 0 in
+    (n ≤ 512) × (c.before.loop-i.k + n ≤ sum_by (s.args.len.now ++ (s.args.count ∷ [])) + 1)
     × (sum_by (s.args.len.now ++ (s.args.count ∷ [])) ≤ 4608)
 here c =
     let s = c.before.before.before.before.before.before.before.before in
     let a = s.args in
-    let l = c.before.loop in (
+    let l = c.before.loop-i in (
       s.requires.3 (suc l.i),
       log-room a.store.now a.store2.now a.len.now a.list.now a.list2.now a.count
-          l.invariant.1 _ l.out l.k l.i l.invariant.2 (omega (arith, c.loop-test.true)),
+          l.invariant.1 _ l.out l.k l.i l.invariant.2 (omega (arith, c.loop-i-test.true)),
       sum-most a.len.now a.count s.requires.2 s.requires.3 s.requires.6,
     )
 

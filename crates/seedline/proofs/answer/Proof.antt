@@ -25,11 +25,7 @@ same_length c = search rules
 
 returns : tie.Need-returns-in_default
 returns c =
-    let t = c.before.before.before.before.before in
-    let r = t.before.before in
-    let start = r.before.before.before in
-    prints-refusal (subst (λ i. Read i start.args.input.now) t.before.enum_told-1.given.1 r.before.read.ensures)
-    c.before.before.put_bytes.ensures
+    prints-refusal (subst (λ i. Read i c.args.input.now) c.in_default.is c.read.ensures) c.put_bytes.ensures
 
 cast-seed-sheet : tie.Need-overflow_cast-count
 cast-seed-sheet c = search rules
@@ -42,17 +38,12 @@ same-length-2 c = search rules
 
 returns-2 : tie.Need-returns
 returns-2 c =
-    let t = c.before.before.before.before in
-    let r = t.before.before.before in
-    let start = r.before.before.before in
-    let a = subst (λ i. Read i start.args.input.now) t.before.seed-1.given.1 r.read.ensures in
-    let v = t.before.seed-1.given.0 in
-    let s = v.0 in
-    let n = v.1.0 in
+    let a = subst (λ i. Read i c.args.input.now) c.in-Asked.is c.read.ensures in
+    let s = c.in-Asked.seed in
+    let n = c.in-Asked.count in
     let q = count-range n a.count in
     prints-sheet a
-    (made s n start.args.out.now q.0 q.1 (omega (arith, q.1, start.requires))
-    c.before.before.seed_sheet.ensures)
+    (made s n c.args.out.now q.0 q.1 (omega (arith, q.1, c.requires)) c.seed_sheet.ensures)
 
 pub answer_spec : {M : Type 1} → statement M
 answer_spec =

@@ -28,12 +28,12 @@ put-field-requires c κs =
 
 -- The room after the seed and its space.
 room : (c : tie.After-put_field-p)
-    → c.put_field-p.result + length (digits (start c).args.count ++ newline) ≤ length c.put_field-p.new.0
+    → c.put_field-p.result + length (digits (start c).args.count ++ newline) ≤ length c.put_field-p.new.out
 unfolding seed_line
 room c =
     let e = start c in
     rest_both (digits e.args.seed) space (digits e.args.count ++ newline) c.put_field-p.ensures
-    (omega (arith, e.pre))
+    (omega (arith, e.requires))
 
 put-number-requires : tie.Need-put_number-q-requires
 put-number-requires c κs =

@@ -53,15 +53,15 @@ number-at-requires-2 : tie.Need-number_at-b-requires
 number-at-requires-2 c κs = search rules
 
 -- The numbers of an input that asks for a sheet.
-module _ (c : tie.After-number-at2) {m n : ℕ} (a : Asks (start (first c)).args.input.now m n) where
-  seed-is : (first c).number_at.result.value ≡ m
-  seed-is = seed-back a _ (first c).number_at.ensures.0
+module _ (c : tie.After-number_at-b) {m n : ℕ} (a : Asks (start (first c)).args.input.now m n) where
+  seed-is : (first c).number_at-a.result.value ≡ m
+  seed-is = seed-back a _ (first c).number_at-a.ensures.0
 
-  count-is : c.number-at2.result.value ≡ n
-  count-is = count-back a _ _ (end_of (first c)) c.number-at2.ensures.0
+  count-is : c.number_at-b.result.value ≡ n
+  count-is = count-back a _ _ (end_of (first c)) c.number_at-b.ensures.0
 
   line-is :
-      (start (first c)).args.input.now ≡ seed_line (first c).number_at.result.value c.number-at2.result.value
+      (start (first c)).args.input.now ≡ seed_line (first c).number_at-a.result.value c.number_at-b.result.value
   line-is = line-back a _ _ seed-is count-is
 
 returns-3 : tie.Need-returns-then-s-gt4294967295
@@ -110,15 +110,15 @@ same-requires c κs = search rules
 
 -- What stands aside is the line of what was read.
 aside : (c : tie.After-put_line-k) → let r = second (tested c) in
-    take c.put_line-k.result c.put_line-k.new.0
-    ≡ seed_line (first r).number_at-a.result.value r.number-at2.result.value
+    take c.put_line-k.result c.put_line-k.new.out
+    ≡ seed_line (first r).number_at-a.result.value r.number_at-b.result.value
 aside c = read_back c.put_line-k.ensures (short c)
 
 returns-6 : tie.Need-returns-then-not-same
 returns-6 c = λ m n a.
     let w = written c.before in
     let e = line-is (second (tested w)) a ∙ sym (aside w) in
-    subst T (not-true c.before.same.result c.if-not-same.true) (c.before.same.ensures.1 e)
+    subst T c.if-not-same.true (c.before.same.ensures.1 e)
 
 cast-t14 : tie.Need-overflow_cast-result
 cast-t14 c = search rules
@@ -131,9 +131,9 @@ returns-7 c =
     let w = written c.before in
     let t = tested w in
     record {
-      line = c.before.same.ensures.0 (of-true {t = c.before.same.result} (not-false _ c.if-not-same.false)) ∙ aside w;
-      seed = omega (arith, t.before.before.if-s-gt4294967295.left);
-      count = is-count (second t).number_at-b.result.value t.before.if-n-lt1.left t.if-n-gt4095.left;
+      line = c.before.same.ensures.0 (of-true {t = c.before.same.result} (c.if-not-same.false)) ∙ aside w;
+      seed = omega (arith, t.before.before.if-s-gt4294967295.false);
+      count = is-count (second t).number_at-b.result.value t.before.if-n-lt1.false t.if-n-gt4095.false;
     }
 
 pub read_spec : {M : Type 1} → statement M

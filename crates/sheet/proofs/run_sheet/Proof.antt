@@ -31,7 +31,7 @@ bytes c = (start c.before.before.before).args.sheet.now
 
 -- Refusal 2 let the sheet through.
 passed : (c : tie.Else-not-is_sheet) → is_sheet (bytes c) ≡ true
-passed c = sym c.before.is_sheet.ensures ∙ not-false _ c.if-not-is_sheet.false
+passed c = sym c.before.is_sheet.ensures ∙ c.if-not-is_sheet.false
 
 deliver-requires : tie.Need-deliver-requires
 deliver-requires c κs = search rules
@@ -53,7 +53,7 @@ returns-2 c =
     let d = c.before.before in
     let a = (start d.before).args in
     no-sheet a.sheet.now a.listing.now (omega (arith, d.if-sheet-eq0.false))
-    (sym c.before.is_sheet.ensures ∙ not-true _ c.if-not-is_sheet.true)
+    (sym c.before.is_sheet.ensures ∙ c.if-not-is_sheet.true)
 
 slice-aggregate-play : tie.Need-slice_bounds-play-end
 slice-aggregate-play c = search rules
@@ -129,7 +129,7 @@ deliver-requires-2 c κs =
       most,
       omega (arith, most, h.room),
       omega (arith, most, h.set_room),
-      omega (arith, w.put_ending-n.ensures.1, length-take w.put_ending-n.result w.put_ending-n.new.0),
+      omega (arith, w.put_ending-n.ensures.1, length-take w.put_ending-n.result w.put_ending-n.new.out),
       λ i q. omega (arith, ran-most s (passed d) (length s / 8 - 1) _ _ _ _ h i (omega (arith, q))),
     )
 

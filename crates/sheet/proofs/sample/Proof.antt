@@ -10,10 +10,10 @@ use Rattle.records.specs.Bytes.{records, sheet_bytes}
 use Rattle.lines.specs.Lines.{answer_line, fourth_field, registry_line, control_line, view_text, members_text, receipt_text}
 use Rattle.listing.specs.Listing.{answer_lines}
 use Rattle.ending.specs.Ending.{board_line, board_lines, receipts_line, receipts_text, ending}
-use Rattle.sheet.specs.Sheet.{SampleHolds, sets_sheet, SetsHold, RoomHolds, UnopenedHolds, result, left, listing, listing_of}
+use Rattle.sheet.specs.Sheet.{SampleHolds, sets_sheet, SetsHold, RoomHolds, UnopenedHolds, result_of, left, listing, listing_of}
 
 returns : tie.Need-returns
-unfolding SampleHolds SetsHold sets_sheet sheet_bytes RoomHolds UnopenedHolds result left over listing listing_of
+unfolding SampleHolds SetsHold sets_sheet sheet_bytes RoomHolds UnopenedHolds result_of left over listing listing_of
     records answer_line answer_lines
     registry_line control_line board_line board_lines receipts_line receipts_text receipt_text ending view_text members_text
     fourth_field digits digits_within run answers sets_behind given

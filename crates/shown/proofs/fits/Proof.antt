@@ -20,10 +20,10 @@ shape c =
     let g = c.well_formed.0.1.1.1.1 in
     let row = c.args.row in
     record {
-      views = sym (length-map row.views _) ∙ g.0.1.0.1;
-      joined = sym (length-map row.joined _) ∙ g.1.0.1.0.1;
-      acked = sym (length-map row.acked _) ∙ g.1.1.0.1.0.1;
-      len = sym (length-map row.len _) ∙ g.1.1.1.0.1.0.1;
+      views = g.0.1.0.1;
+      joined = g.1.0.1.0.1;
+      acked = g.1.1.0.1.0.1;
+      len = g.1.1.1.0.1.0.1;
     }
 
 abbrev start : tie.After-lengths → tie.Start
@@ -33,10 +33,10 @@ start c = c.before.before.before.before.before
 full : (c : tie.Else-not-lengths) → Full (places (start c.before))
 full c =
     let s = start c.before in
-    fits-full s.args.row (places s) (sym c.before.lengths.ensures ∙ not-false _ c.if-not-lengths.false)
+    fits-full s.args.row (places s) (sym c.before.lengths.ensures ∙ c.if-not-lengths.false)
 
 ranged : (c : tie.Else-not-in_range) → in_range (outline_of (start c.before.before.before).args.row) ≡ true
-ranged c = sym c.before.in_range.ensures ∙ not-false _ c.if-not-in_range.false
+ranged c = sym c.before.in_range.ensures ∙ c.if-not-in_range.false
 
 lengths-requires : tie.Need-lengths-requires
 lengths-requires c κs = search rules
@@ -44,7 +44,7 @@ lengths-requires c κs = search rules
 returns : tie.Need-returns-then-not-lengths
 returns c =
     let s = start c.before in (
-      sym (bad-lengths s.args.row (places s) (sym c.before.lengths.ensures ∙ not-true _ c.if-not-lengths.true)),
+      sym (bad-lengths s.args.row (places s) (sym c.before.lengths.ensures ∙ c.if-not-lengths.true)),
       shape s,
     )
 
@@ -55,8 +55,8 @@ returns-2 : tie.Need-returns-then-not-in_range
 returns-2 c =
     let d = c.before.before in
     let s = start d.before in (
-      sym (bad-range s.args.row (places s) (sym d.before.lengths.ensures ∙ not-false _ d.if-not-lengths.false)
-          (sym c.before.in_range.ensures ∙ not-true _ c.if-not-in_range.true)),
+      sym (bad-range s.args.row (places s) (sym d.before.lengths.ensures ∙ d.if-not-lengths.false)
+          (sym c.before.in_range.ensures ∙ c.if-not-in_range.true)),
       shape s,
     )
 

@@ -20,8 +20,8 @@ places c = let a = c.args in lent a.store.now a.store2.now a.list.now a.list2.no
 abbrev start : tie.Else-not-fits → tie.Start
 start c = c.before.before.before.before.before.before
 
-passed : (c : tie.Else-not-fits) → valid (start c).args.t1 (places (start c)) ≡ true
-passed c = sym c.before.fits.ensures.0 ∙ not-false _ c.if-not-fits.false
+passed : (c : tie.Else-not-fits) → valid (start c).args.row (places (start c)) ≡ true
+passed c = sym c.before.fits.ensures.0 ∙ c.if-not-fits.false
 
 fits-requires : tie.Need-fits-requires
 fits-requires c κs = search rules
@@ -38,8 +38,8 @@ part-result-end c = search rules
 returns : tie.Need-returns-then-not-fits
 returns c =
     let s = c.before.before.before.before.before.before.before in
-    let e = sym c.before.before.fits.ensures.0 ∙ not-true _ c.before.if-not-fits.true in
-    (rw e, rw e (from_start 2 s.args.list2.ptr))
+    let e = sym c.before.before.fits.ensures.0 ∙ c.before.if-not-fits.true in
+    (rw e, rw e (from_start 2 s.args.list2.ref_ptr))
 
 seat-requires : tie.Need-seat-l-requires
 seat-requires c κs = search rules
@@ -60,7 +60,7 @@ visible-terms-requires : tie.Need-visible_terms-requires
 visible-terms-requires c κs =
     let d = c.before.before.before.before in
     let s = start d in
-    let row = s.args.t1 in
+    let row = s.args.row in
     let f = valid-full row (places s) (passed d) in
     let t = valid-range row (places s) (passed d) in
     let r = ready row d.before.fits.ensures.1 t in
@@ -77,7 +77,7 @@ returns-2 : tie.Need-returns
 returns-2 c =
     let d = c.before.before.before.before.before in
     let s = start d in
-    let row = s.args.t1 in
+    let row = s.args.row in
     let seat = c.before.before.seat-l in (
       c.visible_terms.ensures.0 ∙ shown-terms row (places s) (valid-full row (places s) (passed d)) seat.result
           (passed d) (leader-small row (valid-range row (places s) (passed d))) seat.ensures.2,

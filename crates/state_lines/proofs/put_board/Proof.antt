@@ -28,7 +28,7 @@ text1 e = digits e.args.b ++ (space ++ text2 e)
 
 -- What was given at the start, from after the call j.
 abbrev start1 : tie.After-put_bytes-p0 → tie.Start
-start1 c = c.before.before.before.before
+start1 c = c.before.before.before.before.before
 
 abbrev start2 : tie.After-put_field-p1 → tie.Start
 start2 c = start1 c.before.before.before.before
@@ -44,14 +44,14 @@ start5 c = start4 c.before.before.before.before
 
 put-bytes-requires : tie.Need-put_bytes-p0-requires
 unfolding board_text
-put-bytes-requires c κs = let e = c.before.before.before in fits _ (word "board ") (text1 e) e.requires
+put-bytes-requires c κs = let e = c.before.before.before in fits _ (word "board ") (text1 e.before) e.requires
 
 -- The room that is left after the call j, then the need of the next.
-room1 : (c : tie.After-put_bytes-p0) → c.put_bytes-p0.result + length (text1 (start1 c)) ≤ length c.put_bytes-p0.new.0
+room1 : (c : tie.After-put_bytes-p0) → c.put_bytes-p0.result + length (text1 (start1 c)) ≤ length c.put_bytes-p0.new.out
 unfolding board_text
 room1 c =
     let e = start1 c in
-    rest (word "board ") (text1 e) c.put_bytes-p0.ensures e.pre
+    rest (word "board ") (text1 e) c.put_bytes-p0.ensures e.requires
 
 put-field-requires : tie.Need-put_field-p1-requires
 put-field-requires c κs =
@@ -59,7 +59,7 @@ put-field-requires c κs =
     let e = start1 d in
     fits_both _ (digits e.args.b) space (text2 e) (room1 d)
 
-room2 : (c : tie.After-put_field-p1) → c.put_field-p1.result + length (text2 (start2 c)) ≤ length c.put_field-p1.new.0
+room2 : (c : tie.After-put_field-p1) → c.put_field-p1.result + length (text2 (start2 c)) ≤ length c.put_field-p1.new.out
 room2 c =
     let e = start2 c in
     rest_both (digits e.args.b) space (text2 e) c.put_field-p1.ensures (room1 c.before.before.before.before)
@@ -70,7 +70,7 @@ put-view-requires c κs =
     let e = start2 d in
     fits_both _ (view_text (view_of e.args.v)) space (text3 e) (room2 d)
 
-room3 : (c : tie.After-put_view-p2) → c.put_view-p2.result + length (text3 (start3 c)) ≤ length c.put_view-p2.new.0
+room3 : (c : tie.After-put_view-p2) → c.put_view-p2.result + length (text3 (start3 c)) ≤ length c.put_view-p2.new.out
 room3 c =
     let e = start3 c in
     rest_both (view_text (view_of e.args.v)) space (text3 e) c.put_view-p2.ensures
@@ -82,7 +82,7 @@ put-field-requires-2 c κs =
     let e = start3 d in
     fits_both _ (digits e.args.joined) space (text4 e) (room3 d)
 
-room4 : (c : tie.After-put_field-p3) → c.put_field-p3.result + length (text4 (start4 c)) ≤ length c.put_field-p3.new.0
+room4 : (c : tie.After-put_field-p3) → c.put_field-p3.result + length (text4 (start4 c)) ≤ length c.put_field-p3.new.out
 room4 c =
     let e = start4 c in
     rest_both (digits e.args.joined) space (text4 e) c.put_field-p3.ensures
@@ -94,7 +94,7 @@ put-field-requires-3 c κs =
     let e = start4 d in
     fits_both _ (digits e.args.len) space (text5 e) (room4 d)
 
-room5 : (c : tie.After-put_field-p4) → c.put_field-p4.result + length (text5 (start5 c)) ≤ length c.put_field-p4.new.0
+room5 : (c : tie.After-put_field-p4) → c.put_field-p4.result + length (text5 (start5 c)) ≤ length c.put_field-p4.new.out
 room5 c =
     let e = start5 c in
     rest_both (digits e.args.len) space (text5 e) c.put_field-p4.ensures

@@ -10,7 +10,7 @@ use Rattle.state_lines.proofs.put_control.Statement.{statement}
 use Rattle.state_lines.proofs.put_control.Tie as tie
 
 abbrev start : tie.After-put_bytes-a → tie.Start
-start c = c.before.before.before.before.before
+start c = c.before.before.before.before.before.before
 
 -- The parts of the line.
 abbrev head : Text
@@ -26,14 +26,14 @@ put-bytes-requires : tie.Need-put_bytes-a-requires
 unfolding control_line
 put-bytes-requires c κs =
     let e = c.before.before.before.before in
-    fits _ head (view e ++ (space ++ last e)) e.requires
+    fits _ head (view e.before ++ (space ++ last e.before)) e.requires
 
 put-view-requires : tie.Need-put_view-b-requires
 unfolding control_line
 put-view-requires c κs =
     let a = c.before.before.before in
     let e = start a in
-    view-fits head (view e) (last e) a.put_bytes-a.ensures e.pre
+    view-fits head (view e) (last e) a.put_bytes-a.ensures e.requires
 
 put-stage-requires : tie.Need-put_stage-requires
 unfolding control_line
@@ -41,7 +41,7 @@ put-stage-requires c κs =
     let b = c.before.before.before in
     let a = b.before.before.before.before in
     let e = start a in
-    end_fits head (view e) (last e) a.put_bytes-a.ensures b.put_view-b.ensures e.pre
+    end_fits head (view e) (last e) a.put_bytes-a.ensures b.put_view-b.ensures e.requires
 
 returns : tie.Need-returns
 unfolding control_line

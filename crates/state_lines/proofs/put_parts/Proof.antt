@@ -34,11 +34,11 @@ unfolding view_text
 put-field-requires c κs = let e = c.before.before in fits_both _ (digits e.args.epoch) space (text1 e) e.requires
 
 -- The room that is left after the call j, then the need of the next.
-room1 : (c : tie.After-put_field-a) → c.put_field-a.result + length (text1 (start1 c)) ≤ length c.put_field-a.new.0
+room1 : (c : tie.After-put_field-a) → c.put_field-a.result + length (text1 (start1 c)) ≤ length c.put_field-a.new.out
 unfolding view_text
 room1 c =
     let e = start1 c in
-    rest_both (digits e.args.epoch) space (text1 e) c.put_field-a.ensures e.pre
+    rest_both (digits e.args.epoch) space (text1 e) c.put_field-a.ensures e.requires
 
 put-field-requires-2 : tie.Need-put_field-b-requires
 put-field-requires-2 c κs =
@@ -46,7 +46,7 @@ put-field-requires-2 c κs =
     let e = start1 d in
     fits_both _ (digits e.args.term) space (text2 e) (room1 d)
 
-room2 : (c : tie.After-put_field-b) → c.put_field-b.result + length (text2 (start2 c)) ≤ length c.put_field-b.new.0
+room2 : (c : tie.After-put_field-b) → c.put_field-b.result + length (text2 (start2 c)) ≤ length c.put_field-b.new.out
 room2 c =
     let e = start2 c in
     rest_both (digits e.args.term) space (text2 e) c.put_field-b.ensures
@@ -58,7 +58,7 @@ put-field-requires-3 c κs =
     let e = start2 d in
     fits_both _ (digits e.args.leader) space (text3 e) (room2 d)
 
-room3 : (c : tie.After-put_field-c) → c.put_field-c.result + length (text3 (start3 c)) ≤ length c.put_field-c.new.0
+room3 : (c : tie.After-put_field-c) → c.put_field-c.result + length (text3 (start3 c)) ≤ length c.put_field-c.new.out
 room3 c =
     let e = start3 c in
     rest_both (digits e.args.leader) space (text3 e) c.put_field-c.ensures

@@ -27,11 +27,11 @@ unfolding receipt_text
 put-number-requires c κs = let e = c.before.before in fits _ (digits e.args.value) (text1 e) e.requires
 
 -- The room that is left after the call j, then the need of the next.
-room1 : (c : tie.After-put_number-a) → c.put_number-a.result + length (text1 (start1 c)) ≤ length c.put_number-a.new.0
+room1 : (c : tie.After-put_number-a) → c.put_number-a.result + length (text1 (start1 c)) ≤ length c.put_number-a.new.out
 unfolding receipt_text
 room1 c =
     let e = start1 c in
-    rest (digits e.args.value) (text1 e) c.put_number-a.ensures e.pre
+    rest (digits e.args.value) (text1 e) c.put_number-a.ensures e.requires
 
 put-byte-requires : tie.Need-put_byte-b-requires
 put-byte-requires c κs =

@@ -17,28 +17,28 @@ enum_told c = search rules
 
 put-bytes-requires : tie.Need-put_bytes-requires
 put-bytes-requires c κs =
-    let d = c.before.before in case-fits text d.before.enum_told-1.given.1 _ d.before.before.before.requires
+    let d = c.before.before in case-fits text c.in-Idle.is _ d.before.before.before.requires
 
 enum-told-2 : tie.Need-enum_told-in-Leader
 enum-told-2 c = search rules
 
 put-bytes-requires-2 : tie.Need-put_bytes-requires-in-Leader
 put-bytes-requires-2 c κs =
-    let d = c.before.before in case-fits text d.before.enum_told-in-Leader-1.given.1 _ d.before.before.before.requires
+    let d = c.before.before in case-fits text c.in-Leader.is _ d.before.before.before.requires
 
 enum-told-3 : tie.Need-enum_told-in-Boards
 enum-told-3 c = search rules
 
 put-bytes-requires-3 : tie.Need-put_bytes-requires-in-Boards
 put-bytes-requires-3 c κs =
-    let d = c.before.before in case-fits text d.before.enum_told-in-Boards-1.given.1 _ d.before.before.before.requires
+    let d = c.before.before in case-fits text c.in-Boards.is _ d.before.before.before.requires
 
 enum-told-4 : tie.Need-enum_told-in-Choosing
 enum-told-4 c = search rules
 
 put-bytes-requires-4 : tie.Need-put_bytes-requires-in-Choosing
 put-bytes-requires-4 c κs =
-    let d = c.before.before in case-fits text d.before.enum_told-in-Choosing-1.given.1 _ d.before.before.before.requires
+    let d = c.before.before in case-fits text c.in-Choosing.is _ d.before.before.before.requires
 
 same_length : tie.Need-shape_of-out-in-Idle
 same_length c = search rules
@@ -46,7 +46,7 @@ same_length c = search rules
 returns : tie.Need-returns-in-Idle
 returns c =
     let d = c.before.before in
-    case-wrote text d.before.before.before.before.enum_told-1.given.1 d.put_bytes.ensures
+    case-wrote text c.in-Idle.is d.put_bytes.ensures
 
 same-length-2 : tie.Need-shape_of-out-in-Leader
 same-length-2 c = search rules
@@ -54,7 +54,7 @@ same-length-2 c = search rules
 returns-2 : tie.Need-returns-in-Leader
 returns-2 c =
     let d = c.before.before in
-    case-wrote text d.before.before.before.before.enum_told-in-Leader-1.given.1 d.put_bytes-in-Leader.ensures
+    case-wrote text c.in-Leader.is d.put_bytes-in-Leader.ensures
 
 same-length-3 : tie.Need-shape_of-out-in-Boards
 same-length-3 c = search rules
@@ -62,7 +62,7 @@ same-length-3 c = search rules
 returns-3 : tie.Need-returns-in-Boards
 returns-3 c =
     let d = c.before.before in
-    case-wrote text d.before.before.before.before.enum_told-in-Boards-1.given.1 d.put_bytes-in-Boards.ensures
+    case-wrote text c.in-Boards.is d.put_bytes-in-Boards.ensures
 
 same-length-4 : tie.Need-shape_of-out-in-Choosing
 same-length-4 c = search rules
@@ -70,7 +70,7 @@ same-length-4 c = search rules
 returns-4 : tie.Need-returns-in-Choosing
 returns-4 c =
     let d = c.before.before in
-    case-wrote text d.before.before.before.before.enum_told-in-Choosing-1.given.1 d.put_bytes-in-Choosing.ensures
+    case-wrote text c.in-Choosing.is d.put_bytes-in-Choosing.ensures
 
 pub put_stage_spec : {M : Type 1} → statement M
 put_stage_spec =

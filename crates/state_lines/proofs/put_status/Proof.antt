@@ -17,21 +17,21 @@ enum_told c = search rules
 
 put-bytes-requires : tie.Need-put_bytes-requires
 put-bytes-requires c κs =
-    let d = c.before.before in case-fits text d.before.enum_told-1.given.1 _ d.before.before.before.requires
+    let d = c.before.before in case-fits text c.in-Normal.is _ d.before.before.before.requires
 
 enum-told-2 : tie.Need-enum_told-in-Waiting
 enum-told-2 c = search rules
 
 put-bytes-requires-2 : tie.Need-put_bytes-requires-in-Waiting
 put-bytes-requires-2 c κs =
-    let d = c.before.before in case-fits text d.before.enum_told-in-Waiting-1.given.1 _ d.before.before.before.requires
+    let d = c.before.before in case-fits text c.in-Waiting.is _ d.before.before.before.requires
 
 enum-told-3 : tie.Need-enum_told-in-Choosing
 enum-told-3 c = search rules
 
 put-bytes-requires-3 : tie.Need-put_bytes-requires-in-Choosing
 put-bytes-requires-3 c κs =
-    let d = c.before.before in case-fits text d.before.enum_told-in-Choosing-1.given.1 _ d.before.before.before.requires
+    let d = c.before.before in case-fits text c.in-Choosing.is _ d.before.before.before.requires
 
 same_length : tie.Need-shape_of-out-in-Normal
 same_length c = search rules
@@ -39,7 +39,7 @@ same_length c = search rules
 returns : tie.Need-returns-in-Normal
 returns c =
     let d = c.before.before in
-    case-wrote text d.before.before.before.before.enum_told-1.given.1 d.put_bytes.ensures
+    case-wrote text c.in-Normal.is d.put_bytes.ensures
 
 same-length-2 : tie.Need-shape_of-out-in-Waiting
 same-length-2 c = search rules
@@ -47,7 +47,7 @@ same-length-2 c = search rules
 returns-2 : tie.Need-returns-in-Waiting
 returns-2 c =
     let d = c.before.before in
-    case-wrote text d.before.before.before.before.enum_told-in-Waiting-1.given.1 d.put_bytes-in-Waiting.ensures
+    case-wrote text c.in-Waiting.is d.put_bytes-in-Waiting.ensures
 
 same-length-3 : tie.Need-shape_of-out-in-Choosing
 same-length-3 c = search rules
@@ -55,7 +55,7 @@ same-length-3 c = search rules
 returns-3 : tie.Need-returns-in-Choosing
 returns-3 c =
     let d = c.before.before in
-    case-wrote text d.before.before.before.before.enum_told-in-Choosing-1.given.1 d.put_bytes-in-Choosing.ensures
+    case-wrote text c.in-Choosing.is d.put_bytes-in-Choosing.ensures
 
 pub put_status_spec : {M : Type 1} → statement M
 put_status_spec =

@@ -14,10 +14,10 @@ abbrev places : tie.Start → Places
 places c = let a = c.args in lent a.store.now a.store2.now a.list.now a.list2.now
 
 abbrev start : tie.Else-not-fits → tie.Start
-start c = c.before.before.before.before.before.before.before.before.before.before
+start c = c.before.before.before.before.before.before
 
 passed : (c : tie.Else-not-fits) → valid (start c).args.row (places (start c)) ≡ true
-passed c = sym c.before.fits.ensures.0 ∙ not-false _ c.if-not-fits.false
+passed c = sym c.before.fits.ensures.0 ∙ c.if-not-fits.false
 
 fits-requires : tie.Need-fits-requires
 fits-requires c κs = search rules
@@ -39,9 +39,9 @@ same-length-4 c = search rules
 
 returns : tie.Need-returns-then-not-fits
 returns c =
-    let s = c.before.before.before.before.before.before.before.before.before.before.before in
+    let s = c.before.before.before.before.before.before.before in
     did-refused _ s.args.row (places s)
-    (sym c.before.before.fits.ensures.0 ∙ not-true _ c.before.if-not-fits.true) _
+    (sym c.before.before.fits.ensures.0 ∙ c.before.if-not-fits.true) _
     c.refused.ensures.0 c.refused.ensures.1 c.refused.ensures.2
 
 turn-requires : tie.Need-turn-requires

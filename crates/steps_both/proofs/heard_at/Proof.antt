@@ -11,7 +11,7 @@ returns : tie.Need-returns-then-b-eq0
 returns c = search rules
 
 returns-2 : tie.Need-returns-then-b-gt8
-returns-2 c = let a = c.before.before.args in sym (get_or-eq_default (0 ∷ a.t1) 0 {n = a.b} (search rules))
+returns-2 c = let a = c.before.before.args in sym (get_or-eq_default (0 ∷ a.heard) 0 {n = a.b} (search rules))
 
 sub-i : tie.Need-overflow_sub-i
 sub-i c = search rules
@@ -26,7 +26,7 @@ array-read-result : tie.Need-bounds-heard-i
 array-read-result c = search rules
 
 returns-3 : tie.Need-returns
-returns-3 c = let a = c.before.before.args in sym (at-index 0 a.t1 a.b (search rules))
+returns-3 c = let a = c.before.before.args in sym (at-index 0 a.heard a.b (search rules))
 
 pub heard_at_spec : {M : Type 1} → statement M
 heard_at_spec =

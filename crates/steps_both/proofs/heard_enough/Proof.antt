@@ -48,11 +48,11 @@ unfolding long_enough
 loop-again c =
     let l = c.before.before.before.loop-b in
     let a = c.before.before.before.before.args in
-    let p = long_enough a.t1 a.low in (
+    let p = long_enough a.heard a.low in (
       search rules,
       search rules,
       gathered p l.b l.q _ _ l.invariant.0 (search rules) l.invariant.2 c.put-q.ensures
-          (rw (at-index 0 a.t1 l.b l.invariant.0) c.before.long_enough.ensures),
+          (rw (at-index 0 a.heard l.b l.invariant.0) c.before.long_enough.ensures),
     )
 
 returns : tie.Need-returns invariant-loop decreases-loop

@@ -32,7 +32,7 @@ abbrev made : tie.After-may_install-n → List Check
 made c =
     let a = (entry c).args in
     let k = (own c).seat-k.result in
-    install_checks a.r a.c.view a.c.stage (get_or a.c.before.before.before.before.before.heard-1 (k - 1) 0) c.before.both-fit.result k a.b
+    install_checks a.r a.c.view a.c.stage (get_or a.c.heard (k - 1) 0) c.before.both-fit.result k a.b
 
 seat-requires : tie.Need-seat-k-requires
 seat-requires c κs = search rules

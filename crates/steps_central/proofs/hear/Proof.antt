@@ -44,9 +44,9 @@ returns c =
     let a = c.before.before.before.before.before.before.before.before.args in
     let p = c.before.before.before.before.before.before.before.before.requires in
     let k = c.before.before.before.before.before.seat-k.ensures in
-    tells-govern (hear a.b) a.g a.c a.t3 a.joined.now a.len.now p.1
+    tells-govern (hear a.b) a.g a.c a.views a.joined.now a.len.now p.1
     (record { state = λ _. refl; places = refl }) (λ _. refl) _ c.before.hear-a.ensures
-    (λ acked issued q full t. seated a.len.now p.1 _ k.0 a.g a.c a.t3 a.joined.now acked issued
+    (λ acked issued q full t. seated a.len.now p.1 _ k.0 a.g a.c a.views a.joined.now acked issued
     a.b k.2 q full t)
 
 pub hear_spec : {M : Type 1} → statement M

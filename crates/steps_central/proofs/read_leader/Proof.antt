@@ -38,10 +38,10 @@ returns c =
     let a = c.before.before.before.before.before.before.before.args in
     let p = c.before.before.before.before.before.before.before.requires in
     let k = c.before.before.before.before.seat-k.ensures in
-    λ joined. tells-govern read_leader a.g a.c a.t3 joined a.len.now p.1
+    λ joined. tells-govern read_leader a.g a.c a.views joined a.len.now p.1
     (record { state = λ _. refl; places = refl }) (λ _. refl) _ c.before.read_leader-a.ensures
     (λ acked issued q full t.
-    let f = seated a.len.now p.1 _ k.0 a.g a.c a.t3 joined acked issued a.c.view.leader k.2
+    let f = seated a.len.now p.1 _ k.0 a.g a.c a.views joined acked issued a.c.view.leader k.2
     q full (p.0 t) in
     (f.0, f.2))
 

@@ -1,6 +1,6 @@
 -- `steps_central::refresh_controller` meets its contract. Assumes nothing.
 use mathlib.Core.Path.{refl}
-use Rattle.model.specs.Steps.{refreshController}
+use Rattle.model.specs.Steps.{refresh_controller}
 use Rattle.steps_central.proofs.Governing.{tells-govern}
 use borrow.Author.Rules.{rules}
 use Rattle.steps_central.proofs.refresh_controller.Statement.{statement}
@@ -12,7 +12,7 @@ refresh-controller-requires c κs = search rules
 returns : tie.Need-returns
 returns c =
     let a = c.before.before.args in
-    λ views joined len s. tells-govern refreshController a.g a.c views joined len s
+    λ views joined len s. tells-govern refresh_controller a.g a.c views joined len s
     (record { state = λ _. refl; places = refl }) (λ _. refl) _
     c.before.refresh_controller-a.ensures (λ _ _ _ _. refl)
 

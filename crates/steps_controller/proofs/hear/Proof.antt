@@ -26,7 +26,7 @@ abbrev made : tie.After-may_hear-a → List Check
 made c =
     let a = (entry c).args in
     let k = (own c).seat-k.result in
-    hear_checks a.t1.view a.t1.stage (get_or a.t1.heard (k - 1) 0) a.e a.n k a.b
+    hear_checks a.c.view a.c.stage (get_or a.c.heard (k - 1) 0) a.e a.n k a.b
 
 seat-requires : tie.Need-seat-k-requires
 seat-requires c κs = search rules
@@ -51,8 +51,8 @@ returns c =
     let d = c.before in
     let a = (entry d).args in
     let seat = (own d).seat-k.ensures.2 in
-    tells (hear a.b) (made d) tt (HearKnown a.b a.e a.j a.n) a.t1
-    (hear-answer a.t1 a.b _ a.n seat a.e a.j) _
+    tells (hear a.b) (made d) tt (HearKnown a.b a.e a.j a.n) a.c
+    (hear-answer a.c a.b _ a.n seat a.e a.j) _
     d.may_hear-a.ensures refl (λ _. refl) (λ z. absurd (c.if-a-ne0.true z))
 
 heard-requires : tie.Need-heard-d-requires
@@ -63,10 +63,10 @@ returns-2 c =
     let d = c.before.before in
     let a = (entry d).args in
     let seat = (own d).seat-k.ensures.2 in
-    tells (hear a.b) (made d) tt (HearKnown a.b a.e a.j a.n) a.t1
-    (hear-answer a.t1 a.b _ a.n seat a.e a.j) _
+    tells (hear a.b) (made d) tt (HearKnown a.b a.e a.j a.n) a.c
+    (hear-answer a.c a.b _ a.n seat a.e a.j) _
     d.may_hear-a.ensures (sym c.before.if-a-ne0.false) (λ h. absurd (h refl))
-    (λ _. hear-after a.t1 c.heard-d.result _ a.n a.b seat _ a.e a.j c.heard-d.ensures)
+    (λ _. hear-after a.c c.heard-d.result _ a.n a.b seat _ a.e a.j c.heard-d.ensures)
 
 pub hear_spec : {M : Type 1} → statement M
 hear_spec =

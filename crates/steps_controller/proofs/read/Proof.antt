@@ -26,7 +26,7 @@ abbrev made : tie.After-may_read-a → List Check
 made c =
     let a = (entry c).args in
     let k = (own c).seat-k.result in
-    read_checks a.t1.view a.t1.stage (get_or a.t1.heard (k - 1) 0) a.j a.n k a.b
+    read_checks a.c.view a.c.stage (get_or a.c.heard (k - 1) 0) a.j a.n k a.b
 
 seat-requires : tie.Need-seat-k-requires
 seat-requires c κs = search rules
@@ -51,8 +51,8 @@ returns c =
     let d = c.before in
     let a = (entry d).args in
     let seat = (own d).seat-k.ensures.2 in
-    tells (read a.b) (made d) tt (ReadKnown a.b a.j a.n) a.t1
-    (read_answer a.t1 a.b _ a.n seat a.j) _
+    tells (read a.b) (made d) tt (ReadKnown a.b a.j a.n) a.c
+    (read_answer a.c a.b _ a.n seat a.j) _
     d.may_read-a.ensures refl (λ _. refl) (λ z. absurd (c.if-a-ne0.true z))
 
 heard-requires : tie.Need-heard-d-requires
@@ -63,10 +63,10 @@ returns-2 c =
     let d = c.before.before in
     let a = (entry d).args in
     let seat = (own d).seat-k.ensures.2 in
-    tells (read a.b) (made d) tt (ReadKnown a.b a.j a.n) a.t1
-    (read_answer a.t1 a.b _ a.n seat a.j) _
+    tells (read a.b) (made d) tt (ReadKnown a.b a.j a.n) a.c
+    (read_answer a.c a.b _ a.n seat a.j) _
     d.may_read-a.ensures (sym c.before.if-a-ne0.false) (λ h. absurd (h refl))
-    (λ _. read-after a.t1 c.heard-d.result _ a.n a.b seat _ a.j c.heard-d.ensures)
+    (λ _. read-after a.c c.heard-d.result _ a.n a.b seat _ a.j c.heard-d.ensures)
 
 pub read_spec : {M : Type 1} → statement M
 read_spec =

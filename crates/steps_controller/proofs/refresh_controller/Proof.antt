@@ -1,6 +1,6 @@
 -- `steps_controller::refresh_controller` meets its contract. Assumes nothing.
 use mathlib.Core.Path.{refl, sym}
-use Rattle.model.specs.Steps.{refreshController}
+use Rattle.model.specs.Steps.{refresh_controller}
 use Rattle.cluster.proofs.Steps.{tells}
 use Rattle.steps_controller.specs.Checks.{refresh_controller_checks}
 use Rattle.steps_controller.specs.Known.{RegistryKnown}
@@ -21,7 +21,7 @@ returns : tie.Need-returns-then-n-ne0
 returns c =
     let d = c.before in
     let a = (entry d).args in
-    tells refreshController (refresh_controller_checks a.c.view a.r.view) tt (RegistryKnown a.r) a.c
+    tells refresh_controller (refresh_controller_checks a.c.view a.r.view) tt (RegistryKnown a.r) a.c
     (refresh-controller-answer a.c a.r) _
     d.may_refresh_controller-n.ensures refl (λ _. refl) (λ z. absurd (c.if-n-ne0.true z))
 
@@ -32,7 +32,7 @@ returns-2 : tie.Need-returns
 returns-2 c =
     let d = c.before.before in
     let a = (entry d).args in
-    tells refreshController (refresh_controller_checks a.c.view a.r.view) tt (RegistryKnown a.r) a.c
+    tells refresh_controller (refresh_controller_checks a.c.view a.r.view) tt (RegistryKnown a.r) a.c
     (refresh-controller-answer a.c a.r) _
     d.may_refresh_controller-n.ensures (sym c.before.if-n-ne0.false) (λ h. absurd (h refl))
     (λ _ _. refresh-controller-after a.c a.r c.stage-g.result c.stage-g.ensures)

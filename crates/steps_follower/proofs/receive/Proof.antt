@@ -124,8 +124,8 @@ slice-write-len : tie.Need-bounds-len-i-2
 slice-write-len c =
     omega (
       arith,
-      (own (answered c).before).seat.ensures.0,
-      (own (answered c).before).seat.ensures.1,
+      (own (answered c).before).seat-k.ensures.0,
+      (own (answered c).before).seat-k.ensures.1,
       (entry (answered c).before).requires.2.eight,
     )
 
@@ -143,7 +143,7 @@ returns-2 c g k acked issued list list2 few full =
     let d = (answered c).before in
     let z = (answered c).if-r-ne0.false in
     let a = (entry d).args in
-    let p = (entry d).pre in
+    let p = (entry d).requires in
     let h = (own d).seat-k.ensures in
     let e = answers d g k acked issued in
     let r = row d g k acked issued in

@@ -104,7 +104,7 @@ returns-2 c =
           turns-accepted (row d s k a.views issued) p.2 few q full _ _ _ _ _ (answers d s k issued)
           c.before.before.before.before.before.before.before.if-r-ne0.false bits_none
           (refresh-after (row d s k a.views issued) p.2 q full a.b _ _ _ _
-          c.before.before.counts.new.1.1.1.0 (own d).seat-k.ensures.2 d.before.view-v.ensures
+          c.before.before.counts.new.acked (own d).seat-k.ensures.2 d.before.view-v.ensures
           c.before.before.before.before.before.before.lookup-n.ensures (eight (entry d)) p.0
           c.before.before.before.before.joins.ensures c.before.before.counts.ensures)
           p.2 few refl,

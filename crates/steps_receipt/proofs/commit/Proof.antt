@@ -91,7 +91,7 @@ commit-requires c κs =
     let s = entry d.before in
     let r = room d.before d.if-r-ne0.false in
     let n = s.args.issued in
-    (subst (λ m. n < m) (sym s.pre.3.list) r, subst (λ m. n < m) (sym s.pre.3.list2) r)
+    (subst (λ m. n < m) (sym s.requires.3.list) r, subst (λ m. n < m) (sym s.requires.3.list2) r)
 
 add-m : tie.Need-overflow_add-m
 add-m c = search rules

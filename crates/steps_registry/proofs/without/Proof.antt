@@ -15,12 +15,12 @@ replica-requires c κs = search rules
 returns : tie.Need-returns-then-not-replica
 returns c =
     let a = c.before.before.args in
-    let out = sym c.before.replica.ensures ∙ not-true _ c.if-not-replica.true in
+    let out = sym c.before.replica.ensures ∙ c.if-not-replica.true in
     sym (upd-idle (bits a.m) a.l false (bits_out a.m a.l out))
 
 remove-requires : tie.Need-remove-requires
 remove-requires c κs =
-    replica-range c.before.before.args.l (sym c.before.replica.ensures ∙ not-false _ c.if-not-replica.false)
+    replica-range c.before.before.args.l (sym c.before.replica.ensures ∙ c.if-not-replica.false)
 
 returns-2 : tie.Need-returns
 returns-2 c = search rules

@@ -25,7 +25,7 @@ abbrev start1 : tie.After-put_head-p → tie.Start
 start1 c = c.before.before.before.before.before
 
 abbrev start2 : tie.After-put_bytes-q → tie.Start
-start2 c = start1 c.before.before.before.before.before
+start2 c = start1 c.before.before.before.before.before.before
 
 abbrev start3 : tie.After-put_verdict-e → tie.Start
 start3 c = start2 c.before.before.before.before
@@ -37,25 +37,25 @@ placed c = c.place-k.ensures
 
 told : (c : tie.After-put_verdict-e)
     → let e = start3 c in
-    Wrote c.before.before.before.before.put_bytes-q.new.0 c.before.before.before.before.put_bytes-q.result
-    (verdict_text (place (record_of e.args.r)) e.args.a) c.put_verdict-e.new.0 c.put_verdict-e.result
+    Wrote c.before.before.before.before.put_bytes-q.new.out c.before.before.before.before.put_bytes-q.result
+    (verdict_text (place (record_of e.args.r)) e.args.a) c.put_verdict-e.new.out c.put_verdict-e.result
 told c =
-    let p = placed c.before.before.before.before.before.before.before.before.before.before.before in
+    let p = placed c.before.before.before.before.before.before.before.before.before.before.before.before in
     wrote_as (ap (λ k. verdict_text k (start3 c).args.a) p.0) c.put_verdict-e.ensures
 
 -- The room that is left after it.
-room1 : (c : tie.After-put_head-p) → c.put_head-p.result + length (text1 (start1 c)) ≤ length c.put_head-p.new.0
+room1 : (c : tie.After-put_head-p) → c.put_head-p.result + length (text1 (start1 c)) ≤ length c.put_head-p.new.out
 unfolding line
 room1 c =
     let e = start1 c in
-    rest (head_text (record_of e.args.r)) (text1 e) c.put_head-p.ensures e.pre.1
+    rest (head_text (record_of e.args.r)) (text1 e) c.put_head-p.ensures e.requires.1
 
-room2 : (c : tie.After-put_bytes-q) → c.put_bytes-q.result + length (text2 (start2 c)) ≤ length c.put_bytes-q.new.0
+room2 : (c : tie.After-put_bytes-q) → c.put_bytes-q.result + length (text2 (start2 c)) ≤ length c.put_bytes-q.new.out
 room2 c =
     let d = c.before.before.before.before.before in
-    rest (word ": ") (text2 (start2 c)) c.put_bytes-q.ensures (room1 d)
+    rest (word ": ") (text2 (start2 c)) c.put_bytes-q.ensures (room1 d.before)
 
-room3 : (c : tie.After-put_verdict-e) → c.put_verdict-e.result + 1 ≤ length c.put_verdict-e.new.0
+room3 : (c : tie.After-put_verdict-e) → c.put_verdict-e.result + 1 ≤ length c.put_verdict-e.new.out
 room3 c =
     let d = c.before.before.before.before in
     let e = start3 c in
@@ -77,15 +77,15 @@ put-head-requires c κs =
 put-bytes-requires : tie.Need-put_bytes-q-requires
 put-bytes-requires c κs =
     let d = c.before.before.before.before in
-    fits _ (word ": ") (text2 (start1 d)) (room1 d)
+    fits _ (word ": ") (text2 (start1 d.before)) (room1 d.before)
 
 put-verdict-requires : tie.Need-put_verdict-e-requires
 put-verdict-requires c κs =
     let d = c.before.before.before in
     let e = start2 d in
-    let p = placed d.before.before.before.before.before.before.before in (
+    let p = placed d.before.before.before.before.before.before.before.before in (
       p.1,
-      e.pre.0,
+      e.requires.0,
       omega (
         arith,
         fits _ (verdict_text (place (record_of e.args.r)) e.args.a) newline

@@ -31,18 +31,18 @@ abbrev start3 : tie.After-put_trail-e → tie.Start
 start3 c = start2 c.before.before.before.before
 
 -- The room that is left after it.
-room1 : (c : tie.After-put_lead-p) → c.put_lead-p.result + length (text1 (start1 c)) ≤ length c.put_lead-p.new.0
+room1 : (c : tie.After-put_lead-p) → c.put_lead-p.result + length (text1 (start1 c)) ≤ length c.put_lead-p.new.out
 unfolding step_text
 room1 c =
     let e = start1 c in
-    rest (lead_text e.args.r.step) (text1 e) c.put_lead-p.ensures e.pre.1
+    rest (lead_text e.args.r.step) (text1 e) c.put_lead-p.ensures e.requires.1
 
-room2 : (c : tie.After-put_board-q) → c.put_board-q.result + length (text2 (start2 c)) ≤ length c.put_board-q.new.0
+room2 : (c : tie.After-put_board-q) → c.put_board-q.result + length (text2 (start2 c)) ≤ length c.put_board-q.new.out
 room2 c =
     let d = c.before.before.before.before in
     rest (board_part (record_of (start2 c).args.r)) (text2 (start2 c)) c.put_board-q.ensures (room1 d)
 
-room3 : (c : tie.After-put_trail-e) → c.put_trail-e.result + length (text3 (start3 c)) ≤ length c.put_trail-e.new.0
+room3 : (c : tie.After-put_trail-e) → c.put_trail-e.result + length (text3 (start3 c)) ≤ length c.put_trail-e.new.out
 room3 c =
     let d = c.before.before.before.before in
     rest (trail_text (start3 c).args.r.step) (text3 (start3 c)) c.put_trail-e.ensures (room2 d)
@@ -66,7 +66,7 @@ put-trail-requires : tie.Need-put_trail-e-requires
 put-trail-requires c κs =
     let d = c.before.before.before in
     let e = start2 d in
-    (e.pre.0, fits _ (trail_text e.args.r.step) (text3 e) (room2 d))
+    (e.requires.0, fits _ (trail_text e.args.r.step) (text3 e) (room2 d))
 
 put-second-requires : tie.Need-put_second-requires
 put-second-requires c κs = room3 c.before.before.before

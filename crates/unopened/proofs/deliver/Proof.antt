@@ -18,4 +18,4 @@ returns-2 : tie.Need-returns
 returns-2 c = fitting (omega arith) c.before.before.put_bytes.ensures
 
 pub deliver_spec : {M : Type 1} → statement M
-deliver_spec = tie.close (tie.spec returns slice-aggregate-put-bytes put-bytes-requires same_length returns-2)
+deliver_spec = tie.close (tie.spec returns put-bytes-requires same_length returns-2)

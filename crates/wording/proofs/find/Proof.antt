@@ -24,19 +24,19 @@ abbrev decreases-loop : tie.decreases-loop-answers
 decreases-loop k a answers steps i₀ i = length reasons - i
 
 -- The loop stands at a place of the list.
-within : (c : tie.At-loop-answers invariant-loop decreases-loop) → c.loop.i < length reasons
-within c = place-within c.before.args.k c.before.args.a reasons c.loop.i c.loop.invariant.1
+within : (c : tie.At-loop-answers invariant-loop decreases-loop) → c.loop-answers.i < length reasons
+within c = place-within c.before.args.k c.before.args.a reasons c.loop-answers.i c.loop-answers.invariant.1
 
 -- What is tested there.
 tested : (c : tie.After-is_for invariant-loop decreases-loop)
     → let d = c.before.before.before in
-    c.is-for.result ≡ is_for d.before.args.k d.before.args.a (reason_at d.loop.i)
+    c.is_for.result ≡ is_for d.before.args.k d.before.args.a (reason_at d.loop-answers.i)
 tested c =
     let d = c.before.before.before in
     let e = d.before in
-    c.is-for.ensures
-    ∙ ap₂ (λ (x y : Bool). x && y) (ap (λ n. eqb e.args.a n) (answer_at d.loop.i))
-    (step-at d.loop.i e.args.k (within d) e.requires.0)
+    c.is_for.ensures
+    ∙ ap₂ (λ (x y : Bool). x && y) (ap (λ n. eqb e.args.a n) (answer_at d.loop-answers.i))
+    (step-at d.loop-answers.i e.args.k (within d) e.requires.0)
 
 loop-holds : tie.Need-loop-answers-init invariant-loop decreases-loop
 loop-holds c = (refl, there c.args.k c.args.a c.requires.0 c.requires.1)
@@ -63,7 +63,7 @@ loop-again c =
     let d = c.before.before.before.before in
     let e = d.before in
     let x = further e.args.k e.args.a d.loop-answers.i (within d)
-    (sym (tested c.before) ∙ not-true _ c.loop-answers-test.true) in
+    (sym (tested c.before) ∙ c.loop-answers-test.true) in
     (sym x.0 ∙ d.loop-answers.invariant.0, subst T x.1 d.loop-answers.invariant.1)
 
 returns : tie.Need-returns invariant-loop decreases-loop
@@ -71,7 +71,7 @@ returns c =
     let d = c.before.before.before.before in
     let e = d.before in
     let x = found e.args.k e.args.a d.loop-answers.i (within d)
-    (sym (tested c.before) ∙ not-false _ c.loop-answers-test.false) in
+    (sym (tested c.before) ∙ c.loop-answers-test.false) in
     (within d, ap word (sym x ∙ d.loop-answers.invariant.0))
 
 pub find_spec : {M : Type 1} → statement M

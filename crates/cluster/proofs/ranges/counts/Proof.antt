@@ -53,7 +53,7 @@ loop-again c =
     let f = c.before.before.before in
     let a = f.args in
     let l = c.before.before.loop-b in
-    let e = at_pair_lem a.t1 a.a l.b (search rules) (search rules) (search rules) (search rules) in
+    let e = at_pair_lem a.acked a.a l.b (search rules) (search rules) (search rules) (search rules) in
     (search rules, rest_more _ l.b _ l.invariant.1 _ (search rules) (search rules) (rw e c.both-ok.ensures))
 
 returns : tie.Need-returns invariant-loop decreases-loop

@@ -79,7 +79,7 @@ returns c =
     let e = start t5.before in
     let row = e.args.row in
     let i = e.args.b - 1 in
-    replica-tests row e.args.b e.pre.0 _
+    replica-tests row e.args.b e.requires.0 _
     (and_is c.both.ensures c.before.view.ensures
     (and_is t2.both-t2.ensures t2.before.epoch.ensures
     (and-rest (leb (get_or row.len i 0) 512) t3.both-t3.ensures

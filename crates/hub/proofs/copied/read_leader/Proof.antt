@@ -20,7 +20,7 @@ returns : tie.Need-returns-then-not-leader
 returns c =
     let d = c.before.before in
     let a = d.before.args in
-    let unfit = sym d.leader.ensures ∙ not-true _ c.before.if-not-leader.true in
+    let unfit = sym d.leader.ensures ∙ c.before.if-not-leader.true in
     turned-away read_leader a.c (leader_fits a.c a.x) unfit (Reported a.x) _
     c.ended.ensures.0 c.ended.ensures.1 c.ended.ensures.2
 
@@ -29,7 +29,7 @@ length-requires c κs = search rules
 
 -- what is handed on fits
 fitting : (c : tie.Else-not-leader) → leader_fits c.before.before.args.c c.before.before.args.x ≡ true
-fitting c = sym c.before.leader.ensures ∙ not-false _ c.if-not-leader.false
+fitting c = sym c.before.leader.ensures ∙ c.if-not-leader.false
 
 read-leader-requires : tie.Need-read_leader-a-requires
 read-leader-requires c κs =

@@ -2,7 +2,7 @@
 use mathlib.Core.Bool.{◌&&◌}
 use mathlib.Core.Path.{◌≡◌, refl, ◌∙◌}
 use borrow.Author.Rules.{rules}
-use Rattle.model.specs.Steps.{refreshController}
+use Rattle.model.specs.Steps.{refresh_controller}
 use Rattle.cluster.specs.Layout.{registry_of}
 use Rattle.hub.specs.Lent.{registry_fits, controller_fits}
 use Rattle.hub.proofs.Lending.{lends}
@@ -25,7 +25,7 @@ returns : tie.Need-returns
 returns c =
     let a = c.before.before.before.before.before.args in
     let ok = c.before.before.before.before.news-ok.ensures in
-    lends refreshController (λ s. refl) (λ m. refl) a.c (λ s. s.registry ≡ registry_of a.g) _ _
+    lends refresh_controller (λ s. refl) (λ m. refl) a.c (λ s. s.registry ≡ registry_of a.g) _ _
     c.before.before.before.refresh_controller-a.ensures refl (registry_fits a.g && controller_fits a.c)
     (λ s. s.registry ≡ registry_of a.g)
     (λ s t k. k) _ (c.before.check-n.ensures ∙ rw ok) _ c.ended.ensures.0

@@ -55,11 +55,11 @@ loop-again : tie.Need-loop-b-preserved invariant-loop decreases-loop
 loop-again c =
     let a = c.before.before.before.before.args in
     let l = c.before.before.before.loop-b in
-    let h = at-index 0 a.t1 l.b (search rules) in
-    let j = at-index 0 a.t2 l.b (search rules) in (
+    let h = at-index 0 a.heard l.b (search rules) in
+    let j = at-index 0 a.joined l.b (search rules) in (
       search rules,
       rest_more _ l.b _ l.invariant.1 _ (search rules) (search rules)
-          (c.both-ok.ensures ∙ rw (c.before.both-t.ensures, h, j, and-true (leb (get_or a.t2 (l.b - 1) 0) 4000))),
+          (c.both-ok.ensures ∙ rw (c.before.both-t.ensures, h, j, and-true (leb (get_or a.joined (l.b - 1) 0) 4000))),
     )
 
 returns : tie.Need-returns invariant-loop decreases-loop
