@@ -16,6 +16,7 @@ use Rattle.model.specs.Ranges.{every, eight, in_range, terms_in_range, kept_in_r
 use Rattle.model.proofs.Tests.{of-true, is_true, split-and}
 use Rattle.model.proofs.Made.{All, Word}
 use Rattle.model.proofs.Range.{InRange, to-ranges}
+use Rattle.model.proofs.Entries.{same-entry}
 use Rattle.model.proofs.Bounds.{in-range}
 use Rattle.text.specs.Text.{Text, over, digits, digits_within}
 use Rattle.members.specs.Mask.{bits}
@@ -55,7 +56,7 @@ sample-holds = (refl, refl, refl, refl, refl, refl, refl, refl, refl, refl, refl
 
 module _ (o : Opening) (real : T (can_open o)) (sts : List Step) where
   ranged : InRange (outline (after entries o sts))
-  ranged = to-ranges (outline (after entries o sts)) (in-range entries o real sts)
+  ranged = to-ranges (outline (after entries o sts)) (in-range entries same-entry o real sts)
 
   run-most : length (image_of (after entries o sts)) ≤ 37122
   run-most = image-most (after entries o sts) ranged.logs ranged.committed

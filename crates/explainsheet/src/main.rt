@@ -1,6 +1,6 @@
+// Reads a sheet on standard input and prints a line in words for each record, or `refused` and the number.
 #![tactic(auto)]
 
-// Reads a sheet on standard input and prints a line in words for each record, or `refused` and the number.
 use std::io;
 
 // Prints a refusal.

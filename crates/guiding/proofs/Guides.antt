@@ -10,6 +10,7 @@ use lib.ListN.{length, drop, replicate}
 use borrow.Author.Tests.{le-leb, lt-leb, eq-eqb, ne_eqb}
 use Rattle.model.specs.State.{RowState, entries}
 use Rattle.model.specs.Records.{Record, opening_of}
+use Rattle.model.proofs.Entries.{same-entry}
 use Rattle.model.proofs.Tests.{split-and, is_true, of-true, by_cond}
 use Rattle.cluster.specs.declared.Cluster.{Cluster}
 use Rattle.refinement.specs.Refinement.{Places, Full, abs, Shape}
@@ -162,7 +163,7 @@ module _ (image : Text) (given : Cluster) (s : Text) (x : Loaded) (p' : Places) 
 pub sheets-recover : SheetsRecover
 unfolding SheetsRecover sheet_state sheet_result sheet_left sheet_plan
 sheets-recover s out e t low =
-    let n = recovers entries (opening_of (record_at s)) (sheet-real s e) _ low in
+    let n = recovers entries same-entry (opening_of (record_at s)) (sheet-real s e) _ low in
     let r = is_true (enough out) t in
     record {
       list = n.list;

@@ -1,7 +1,7 @@
-#![tactic(auto)]
-
 // P7, P8 and the last case of document 01 as a hub makes them: the controller's steps 10 to 12 and 14 over its record,
 // which the hub lends, the other steps by value. After each trial's name, the answers in order, as in `trials`.
+#![tactic(auto)]
+
 use cluster::{Cluster, Outcome};
 use records::Record;
 use std::io;

@@ -10,7 +10,7 @@ use lib.Dec.{T, eqb, eqb→eq, T_not}
 use borrow.Author.Tests.{ne_eqb}
 use Rattle.model.specs.Prelude.{upd, ◌⊑◌}
 use Rattle.model.specs.Members.{is_replica, size}
-use Rattle.model.specs.State.{outline, Entries, View, State, Registry, is_choosing}
+use Rattle.model.specs.State.{outline, Entries, IsExact, View, State, Registry, is_choosing}
 use Rattle.model.specs.Steps.{Step, append, commit, add, remove, change_leader, refresh, join, receive, acknowledge, refresh_controller, read_leader, read, set_normal, hear, install, malformed, checks, next, accepted, step}
 use Rattle.model.specs.Runs.{run}
 use Rattle.model.proofs.Tests.{Holds, facts, is_true, is_false, split-and, by-test, by_cond, at-or, eqb_same}
@@ -28,7 +28,7 @@ record Barred (u : ℕ) (v : View) (j b : ℕ) : Type 0 where
   joined : j < u
   member : T (v.members b) → v.term < u
 
-module _ (𝓔 : Entries) (b : ℕ) where
+module _ (𝓔 : Entries) (exact : IsExact 𝓔) (b : ℕ) where
   open 𝓔 use {Entry}
 
   abbrev BarredIn : State Entry → Type 0
@@ -122,7 +122,7 @@ module _ (𝓔 : Entries) (b : ℕ) where
   unfolding run
   barred {L = L} {s = s} i [] out k = k refl
   barred {L = L} {s = s} i (st ∷ sts) out k =
-      barred {L = (step_keeps 𝓔 i st).history} (step_keeps 𝓔 i st).inv sts
+      barred {L = (step_keeps 𝓔 exact i st).history} (step_keeps 𝓔 exact i st).inv sts
       (λ begun p. out (st ∷ begun) (record { rest = p.rest; is = ap (λ l. st ∷ l) p.is }))
       (λ e. by-test (accepted (outline s) st)
       (λ c. let q : step 𝓔 s st ≡ next 𝓔 s st = rw (is_true (accepted (outline s) st) c) in

@@ -11,7 +11,7 @@ use lib.ListN.{length}
 use borrow.Author.Tests.{ne_eqb}
 use Rattle.model.specs.Prelude.{upd}
 use Rattle.model.specs.Members.{is_replica, size}
-use Rattle.model.specs.State.{outline, Entries, View, Status, normal, waiting, Stage, Registry, Controller, State, Opening, can_open, opened, is_choosing, stage_number, stage_for, zeros}
+use Rattle.model.specs.State.{outline, Entries, IsExact, View, Status, normal, waiting, Stage, Registry, Controller, State, Opening, can_open, opened, is_choosing, stage_number, stage_for, zeros}
 use Rattle.model.specs.Steps.{Step, append, commit, add, remove, change_leader, refresh, join, receive, acknowledge, refresh_controller, read_leader, read, set_normal, hear, install, malformed, checks, next, accepted, step, heard_of, succeeded, vacated}
 use Rattle.model.specs.Runs.{run}
 use Rattle.model.specs.Claim.{after}
@@ -132,7 +132,7 @@ opened-bounds o real = record {
   logs = record { acked = λ _ _. omega arith; log = λ _. omega arith };
 }
 
-module _ (𝓔 : Entries) where
+module _ (𝓔 : Entries) (exact : IsExact 𝓔) where
   open 𝓔 use {Entry, same}
 
   module _ {L : ℕ → ℕ} {s : State Entry} (i : Inv L s) (k : Bounds s) where
@@ -320,9 +320,9 @@ module _ (𝓔 : Entries) where
   unfolding run
   run-bounds {L = L} {s = s} i k [] = k
   run-bounds {L = L} {s = s} i k (st ∷ sts) =
-      run-bounds {L = (step_keeps 𝓔 i st).history} (step_keeps 𝓔 i st).inv (step-bounds i k st) sts
+      run-bounds {L = (step_keeps 𝓔 exact i st).history} (step_keeps 𝓔 exact i st).inv (step-bounds i k st) sts
 
   pub in-range : (o : Opening) → T (can_open o) → (sts : List Step) → T (in_range (outline (after 𝓔 o sts)))
   in-range o real sts =
       from-ranges (outline (after 𝓔 o sts))
-      (all_in (run-keeps 𝓔 (opened-inv o real) sts).inv (run-bounds (opened-inv o real) (opened-bounds o real) sts))
+      (all_in (run-keeps 𝓔 exact (opened-inv o real) sts).inv (run-bounds (opened-inv o real) (opened-bounds o real) sts))

@@ -17,6 +17,7 @@ use Rattle.model.proofs.Commit.{commit-carried}
 use Rattle.model.proofs.Raise.{set-normal-carried}
 use Rattle.model.proofs.Install.{install-stands}
 use Rattle.model.proofs.Answer.{zero-accepted}
+use Rattle.model.proofs.Entries.{same-entry}
 use Rattle.model.proofs.Theorem.{opened-inv, run-keeps}
 
 module _ {L : ℕ → ℕ} {s : RowState} (i : Inv L s) where
@@ -57,4 +58,4 @@ module _ {L : ℕ → ℕ} {s : RowState} (i : Inv L s) where
 
 pub carriers-hold : CarriersHold
 unfolding CarriersHold
-carriers-hold o real sts = carriers (run-keeps entries (opened-inv o real) sts).inv
+carriers-hold o real sts = carriers (run-keeps entries same-entry (opened-inv o real) sts).inv

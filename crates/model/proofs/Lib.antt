@@ -1,4 +1,5 @@
 pub mod Tests
+pub mod Entries
 pub mod Prefix
 pub mod Quorum
 pub mod Refusals

@@ -9,7 +9,7 @@ use native.Mathlib.Omega.{arith}
 use lib.Dec.{T, eqb, ltb→lt}
 use lib.ListN.{length, get_or}
 use Rattle.model.specs.Prelude.{upd}
-use Rattle.model.specs.State.{outline, Entries, Entry, entries, State, RowState, Opening, can_open, opened}
+use Rattle.model.specs.State.{outline, Entries, IsExact, Entry, entries, State, RowState, Opening, can_open, opened}
 use Rattle.model.specs.Steps.{Step, Writes, appends, commits, receives, nothing, writes, append, commit, add, remove, change_leader, refresh, join, receive, acknowledge, refresh_controller, read_leader, read, set_normal, hear, install, malformed, checks, accepted, next, step, shared}
 use Rattle.model.specs.Records.{Record, step_of}
 use Rattle.model.specs.Runs.{steps_of, run}
@@ -18,6 +18,7 @@ use Rattle.model.specs.Ranges.{every, eight, is_epoch, terms_in_range, kept_in_r
 use Rattle.model.proofs.Tests.{Holds, facts, by_cond, join-and}
 use Rattle.model.proofs.Range.{IsEpoch, to-epoch, to-eight}
 use Rattle.model.proofs.Invariant.{Inv}
+use Rattle.model.proofs.Entries.{same-entry}
 use Rattle.model.proofs.Theorem.{opened-inv, step_keeps}
 use Rattle.model.proofs.Rules.{◌then◌, by-rule}
 use Rattle.model.proofs.Bounds.{Bounds, opened-bounds, step-bounds, view_in}
@@ -58,7 +59,7 @@ Brings Q (commits b) = Unit {0}
 Brings Q (receives b) = Unit {0}
 Brings Q nothing = Unit {0}
 
-module _ (𝓔 : Entries) (P : 𝓔.Entry → Type 0) (Q : ℕ → Type 0)
+module _ (𝓔 : Entries) (exact : IsExact 𝓔) (P : 𝓔.Entry → Type 0) (Q : ℕ → Type 0)
     (made : (v t : ℕ) → Q v → IsEpoch t → P (𝓔.make v t)) where
   open 𝓔 use {Entry, make, same}
 
@@ -113,7 +114,7 @@ module _ (𝓔 : Entries) (P : 𝓔.Entry → Type 0) (Q : ℕ → Type 0)
   unfolding run
   run-made {L = L} {s = s} i k m [] w = m
   run-made {L = L} {s = s} i k m (st ∷ sts) w =
-      run-made {L = (step_keeps 𝓔 i st).history} (step_keeps 𝓔 i st).inv (step-bounds 𝓔 i k st) (step-made i k m st w.0) sts w.1
+      run-made {L = (step_keeps 𝓔 exact i st).history} (step_keeps 𝓔 exact i st).inv (step-bounds 𝓔 exact i k st) (step-made i k m st w.0) sts w.1
 
   pub all_made : (o : Opening) → T (can_open o) → (sts : List Step) → All (λ st. Brings Q (writes st)) sts
       → Kept P (after 𝓔 o sts)
@@ -148,14 +149,14 @@ anys [] = tt
 anys (st ∷ sts) = (any (writes st), anys sts)
 
 pub terms-opened : (o : Opening) → Kept TermIn (opened o)
-terms-opened o = opened-made entries TermIn Any (λ v t _ h. h) o
+terms-opened o = opened-made entries same-entry TermIn Any (λ v t _ h. h) o
 
 pub terms-step : {L : ℕ → ℕ} {s : RowState} → Inv L s → Bounds s → Kept TermIn s → (st : Step)
     → Kept TermIn (step entries s st)
-terms-step i k m st = step-made entries TermIn Any (λ v t _ h. h) i k m st (any (writes st))
+terms-step i k m st = step-made entries same-entry TermIn Any (λ v t _ h. h) i k m st (any (writes st))
 
 pub terms-run : (o : Opening) → T (can_open o) → (sts : List Step) → Kept TermIn (after entries o sts)
-terms-run o real sts = all_made entries TermIn Any (λ v t _ h. h) o real sts (anys sts)
+terms-run o real sts = all_made entries same-entry TermIn Any (λ v t _ h. h) o real sts (anys sts)
 
 -- Their values have 32 bits, if those of the records do.
 abbrev pub Word : Entry → Type 0
@@ -178,4 +179,4 @@ records-bring (r ∷ rs) w = (record-brings r w.0, records-bring rs w.1)
 
 pub words-run : (o : Opening) → T (can_open o) → (rs : List Record) → All (λ r. r.value < 2 ^ 32) rs
     → Kept Word (after entries o (steps_of rs))
-words-run o real rs w = all_made entries Word Small (λ v t h _. h) o real (steps_of rs) (records-bring rs w)
+words-run o real rs w = all_made entries same-entry Word Small (λ v t h _. h) o real (steps_of rs) (records-bring rs w)

@@ -9,7 +9,7 @@ use lib.Dec.{T, eqb_refl}
 use lib.ListN.{get_or}
 use Rattle.model.specs.Prelude.{◌⊑◌}
 use Rattle.model.specs.Members.{is_replica, only, size}
-use Rattle.model.specs.State.{outline, Entries, State, Opening, can_open, opened, first_view, no_view}
+use Rattle.model.specs.State.{outline, Entries, IsExact, State, Opening, can_open, opened, first_view, no_view}
 use Rattle.model.specs.Steps.{Step, append, commit, add, remove, change_leader, refresh, join, receive, acknowledge, refresh_controller, read_leader, read, set_normal, hear, install, malformed, writes, checks, next, accepted, step}
 use Rattle.model.specs.Runs.{run, gift, gives, given}
 use Rattle.model.specs.Claim.{LeadsUnder, after, receipts, Safe, Safety}
@@ -89,7 +89,7 @@ opened-inv {E} o k = record {
         (λ t. let lt : 1 < 1 = rw (is_true (is_replica a) t) at st.old in omega arith)
         (λ t. let e : 0 ≡ a = rw (is_false (is_replica a) t) at st.leads in st.real (sym e))
 
-module _ (𝓔 : Entries) where
+module _ (𝓔 : Entries) (exact : IsExact 𝓔) where
   open 𝓔 use {Entry, make}
 
   -- Every accepted step keeps it,
@@ -101,7 +101,7 @@ module _ (𝓔 : Entries) where
   keeps i (remove b) h = later (remove-keeps 𝓔 i b h) (omega arith)
   keeps i change_leader h = change-keeps 𝓔 i h
   keeps i (refresh b) h = later (refresh-keeps 𝓔 i b h) (omega arith)
-  keeps i (join b) h = later (join-keeps 𝓔 i b h) (omega arith)
+  keeps i (join b) h = later (join-keeps 𝓔 i exact b h) (omega arith)
   keeps i (receive b) h = later (receive-keeps 𝓔 i b h) (omega arith)
   keeps i (acknowledge a b) h = later (acknowledge-keeps 𝓔 i a b h) (omega arith)
   keeps i refresh_controller h = later (refresh-controller-keeps 𝓔 i h) (omega arith)
@@ -206,4 +206,4 @@ module _ (𝓔 : Entries) where
 -- The claim for every kind of entry.
 pub safety : Safety
 unfolding Safety
-safety 𝓔 o real sts = safe 𝓔 o real sts
+safety 𝓔 exact o real sts = safe 𝓔 exact o real sts

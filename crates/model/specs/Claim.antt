@@ -3,7 +3,7 @@
 use Rattle.std.specs.Prelude.{List, ◌++◌, ◌≢◌, ◌≡◌, ℕ, T}
 use Rattle.model.specs.Prelude.{◌⊑◌}
 use Rattle.model.specs.Members.{is_replica}
-use Rattle.model.specs.State.{Entries, entries, State, Opening, can_open, opened}
+use Rattle.model.specs.State.{Entries, IsExact, entries, State, Opening, can_open, opened}
 use Rattle.model.specs.Steps.{Step}
 use Rattle.model.specs.Runs.{run, given}
 
@@ -36,9 +36,9 @@ module _ (𝓔 : Entries) (o : Opening) where
     -- The list that the cluster keeps is the list of the receipts given.
     pub kept : (after sts).committed ≡ receipts sts
 
--- The claim for every kind of entry,
+-- The claim for every kind of entry whose test is exact,
 unfoldable pub Safety : Type 1
-Safety = (𝓔 : Entries) (o : Opening) → T (can_open o) → (sts : List Step) → Safe 𝓔 o sts
+Safety = (𝓔 : Entries) → IsExact 𝓔 → (o : Opening) → T (can_open o) → (sts : List Step) → Safe 𝓔 o sts
 
 -- and for the calls' entries: "The epoch now counts in what a receipt guarantees" (document 02, Paper 4).
 unfoldable pub DemandThree : Type 0

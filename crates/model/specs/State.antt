@@ -1,8 +1,6 @@
 -- The cluster (document 01: row): registry, replicas, controller, logs, receipts, and the opening. Cited by Steps,
 -- Claim and most contracts. Assumes nothing.
 use Rattle.std.specs.Prelude.{Bool, true, false, cond, ◌&&◌, List, [], ◌↔◌, ◌≡◌, ℕ, T, eqb, length}
-use Rattle.std.proofs.Common.{subst, eqb→eq}
-use Rattle.std.proofs.Math.Dec.{eqb_refl}
 use Rattle.model.specs.Members.{Members, is_replica, none, only}
 
 -- What an entry is: made of a value and the term of the replica that appends it, with a test for equality.
@@ -11,7 +9,10 @@ pub record Entries : Type 1 where
   pub Entry : Type 0
   pub make : ℕ → ℕ → Entry
   pub same : Entry → Entry → Bool
-  pub exact : (x y : Entry) → T (same x y) ↔ (x ≡ y)
+
+-- The test is exact: it says whether they are the same entry.
+abbrev pub IsExact : Entries → Type 0
+IsExact 𝓔 = (x y : 𝓔.Entry) → T (𝓔.same x y) ↔ (x ≡ y)
 
 -- The entry of the calls: "An entry now carries the leader epoch of the board that appended it" (document 02, Paper 4).
 -- Any numbers here: that a value has 32 bits, and that a kept epoch is 1 to 4,000, the calls see to.
@@ -26,23 +27,9 @@ entry value term = record { value = value; term = term }
 abbrev pub same_entry : Entry → Entry → Bool
 same_entry x y = eqb x.value y.value && eqb x.term y.term
 
--- (Used for the next alone: a conjunction of tests holds just where both do.)
-both : (a b : Bool) → T (a && b) ↔ (T a × T b)
-both true b = (λ t. (tt, t), λ h. h.1)
-both false b = (λ t. absurd t, λ h. h.0)
-
--- The test is exact: it says whether they are the same entry.
-pub same-entry : (x y : Entry) → T (same_entry x y) ↔ (x ≡ y)
-same-entry x y = (
-  λ t. let h = (both (eqb x.value y.value) (eqb x.term y.term)).0 t in
-      λ i. entry (eqb→eq x.value y.value h.0 i) (eqb→eq x.term y.term h.1 i),
-  λ e. subst (λ z. T (same_entry x z)) e
-      ((both (eqb x.value x.value) (eqb x.term x.term)).1 (eqb_refl x.value, eqb_refl x.term)),
-)
-
 -- The kind of entry that the calls use: here alone it is chosen.
 abbrev pub entries : Entries
-entries = record { Entry = Entry; make = entry; same = same_entry; exact = same-entry }
+entries = record { Entry = Entry; make = entry; same = same_entry }
 
 -- Epoch, leader epoch (term), leader (0: none) and members: as the registry holds them, or as a replica or the
 -- controller last took them.

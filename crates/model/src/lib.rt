@@ -4,14 +4,16 @@
 
 ghost use Rattle.model.specs.Carried.{CarriersHold};
 ghost use Rattle.model.specs.Claim.{DemandThree};
+ghost use Rattle.model.specs.State.{IsExact, entries};
 ghost use Rattle.model.specs.Majority.{Majorities};
 ghost use Rattle.model.specs.Ranges.{RunsInRange};
 ghost use Rattle.model.specs.Records.{Forms};
 ghost use Rattle.model.specs.Trials.{TrialsHold, OthersHold};
 
-// Demand 3, for every opening and every list of steps.
+// Demand 3, for every opening and every list of steps; and the test of the calls' entries says whether two are the same.
 pub fn claim()
-    ensures { DemandThree }
+    ensures safe { DemandThree }
+    ensures exact { IsExact entries }
 {}
 
 // Steps 2, 13 and 15 ask for "some majority" as document 01 says it: none answers "no majority" where one exists.

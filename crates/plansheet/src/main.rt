@@ -1,7 +1,7 @@
-#![tactic(auto)]
-
 // Reads a sheet on standard input and writes the records that lead its row to normal, or prints `refused` and the
 // number.
+#![tactic(auto)]
+
 use std::io;
 
 // Prints a refusal.

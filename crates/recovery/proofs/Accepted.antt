@@ -9,7 +9,7 @@ use lib.Dec.{T, eqb, leb, leb→le}
 use lib.ListN.{length}
 use Rattle.model.specs.Prelude.{Check, ◌else◌, first_failed, passes}
 use Rattle.model.specs.Members.{Members}
-use Rattle.model.specs.State.{outline, Entries, Status, normal, waiting, State}
+use Rattle.model.specs.State.{outline, Entries, IsExact, Status, normal, waiting, State}
 use Rattle.model.specs.Steps.{Step, set_normal, accepted, answer_of, checks, next, step}
 use Rattle.model.specs.Records.{Record, bare, of, step_of}
 use Rattle.model.specs.Runs.{steps_of, run, answers}
@@ -43,7 +43,7 @@ found-only ok xs n {ys} e = go (ok && leb (length xs) n) refl e
         let h = split-and ok (leb (length xs) n) (of-true q) in (h.0, leb→le (length xs) n h.1, cc)
     go false q e = let z : ◌≡◌ {A = ℕ} 0 1 = cc in absurd (omega arith)
 
-module _ (𝓔 : Entries) where
+module _ (𝓔 : Entries) (exact : IsExact 𝓔) where
   open 𝓔 use {Entry}
 
   answers-append : (s : State Entry) (sts more : List Step)
@@ -78,7 +78,7 @@ module _ (𝓔 : Entries) where
     put-fair : (r : Record) → Keeps (put 𝓔 r)
     unfolding put
     put-fair r d k = subst (Leading (d.sound && new) (step 𝓔 t st)) (sym (steps-append d.records (r ∷ []))) record {
-      reaches = run-append 𝓔 s sts (st ∷ []) ∙ ap (λ x. run 𝓔 x (st ∷ [])) k.reaches ∙ run-one t st;
+      reaches = run-append 𝓔 exact s sts (st ∷ []) ∙ ap (λ x. run 𝓔 x (st ∷ [])) k.reaches ∙ run-one t st;
       zeros = λ h.
           let z = split-and d.sound new h in
           subst (λ xs. T (all_zero xs)) (sym (answers-append s sts (st ∷ [])))

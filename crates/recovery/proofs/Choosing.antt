@@ -10,7 +10,7 @@ use lib.Dec.{T, eqb, leb, le→leb, ltb, lt→ltb}
 use lib.ListN.{length}
 use Rattle.model.specs.Prelude.{◌else◌}
 use Rattle.model.specs.Members.{Members, is_replica, ◌∩◌, size, quorum}
-use Rattle.model.specs.State.{outline, Entries, View, Status, normal, waiting, Stage, idle, leader, boards, Registry, Controller, State, is_choosing, stage_number}
+use Rattle.model.specs.State.{outline, Entries, IsExact, View, Status, normal, waiting, Stage, idle, leader, boards, Registry, Controller, State, is_choosing, stage_number}
 use Rattle.model.specs.Steps.{hear, install, checks, above, ranked_not_above}
 use Rattle.model.specs.Records.{of}
 use Rattle.model.proofs.Tests.{join-and, eq_test, upd_same, upd_other}
@@ -41,7 +41,7 @@ one n = omega arith
 count : (n k q : ℕ) → k ≡ q → suc (suc n + 2 * k) ≤ n + 2 + 2 * q
 count n k q e = omega arith
 
-module _ (𝓔 : Entries) where
+module _ (𝓔 : Entries) (exact : IsExact 𝓔) where
   open 𝓔 use {Entry}
 
   module _ (r : Registry) (w : T (is_choosing r.status)) (low : r.view.epoch < 4000)
@@ -61,7 +61,7 @@ module _ (𝓔 : Entries) where
 
     -- The controller is up to date and hears,
     record Hears (t : State Entry) : Type 0 where
-      known : Known 𝓔 r t
+      known : Known 𝓔 exact r t
       current : t.controller.view.epoch ≡ r.view.epoch
       stage : stage_number t.controller.stage ≡ 3
 
@@ -69,11 +69,11 @@ module _ (𝓔 : Entries) where
     abbrev Heard : ℕ → State Entry → Type 0
     Heard x t = 1 ≤ t.controller.heard x
 
-    called : {n : ℕ} {d : Draft Entry} → At 𝓔 n (Called 𝓔 r) d → At 𝓔 n Hears d
-    called {n} {d} k = at-so 𝓔 Hears (λ z. record {
+    called : {n : ℕ} {d : Draft Entry} → At 𝓔 exact n (Called 𝓔 exact r) d → At 𝓔 exact n Hears d
+    called {n} {d} k = at-so 𝓔 exact Hears (λ z. record {
       known = z.known;
       current = z.current;
-      stage = to-hear r.status d.state.controller.stage w ((control-ok 𝓔 z.known).stage z.current);
+      stage = to-hear r.status d.state.controller.stage w ((control-ok 𝓔 exact z.known).stage z.current);
     }) k
 
     module _ (b : ℕ) (real : T (is_replica b)) (member : T (m b)) where
@@ -88,9 +88,9 @@ module _ (𝓔 : Entries) where
         new : Heard b t
         old : (x : ℕ) → x ≢ b → Heard x t₀ → Heard x t
 
-      informs-to : {n : ℕ} {d : Draft Entry} → At 𝓔 n Hears d
-          → At 𝓔 (suc n) (Fresh d.state) (put_unless 𝓔 12 (of 6 b) d)
-      informs-to {n} {d} k = at-so 𝓔 (Fresh d.state) (λ z. record {
+      informs-to : {n : ℕ} {d : Draft Entry} → At 𝓔 exact n Hears d
+          → At 𝓔 exact (suc n) (Fresh d.state) (put_unless 𝓔 12 (of 6 b) d)
+      informs-to {n} {d} k = at-so 𝓔 exact (Fresh d.state) (λ z. record {
         base = record {
           known = z.known;
           current = ap (λ c. c.view.epoch) z.control ∙ k.is.current;
@@ -98,13 +98,13 @@ module _ (𝓔 : Entries) where
         };
         control = z.control;
         fresh = z.fresh;
-      }) (news-to 𝓔 r b real 12 refl k.is.known k.sound)
+      }) (news-to 𝓔 exact r b real 12 refl k.is.known k.sound)
 
       -- The hearing, left out if b was heard at its length.
-      hear-to : (t₀ : State Entry) {n : ℕ} {d : Draft Entry} → At 𝓔 n (Fresh t₀) d
-          → At 𝓔 (suc n) (Told t₀) (put_unless 𝓔 12 (of 14 b) d)
+      hear-to : (t₀ : State Entry) {n : ℕ} {d : Draft Entry} → At 𝓔 exact n (Fresh t₀) d
+          → At 𝓔 exact (suc n) (Told t₀) (put_unless 𝓔 12 (of 14 b) d)
       hear-to t₀ {n} {d} k =
-          unless-to 𝓔 (Told t₀) (of 14 b) (
+          unless-to 𝓔 exact (Told t₀) (of 14 b) (
           (is_replica b else 1)
           ∷ (eqb (stage_number c.stage) 3 else 15)
           ∷ (c.view.members b else 5)
@@ -115,7 +115,7 @@ module _ (𝓔 : Entries) where
           then eq_test (t.view b).epoch c.view.epoch (k.is.fresh ∙ sym f.current) then tt) tt
           (λ h. record {
             base = record {
-              known = still-known 𝓔 f.known (hear b) refl h;
+              known = still-known 𝓔 exact f.known (hear b) refl h;
               current = f.current;
               stage = f.stage;
             };
@@ -141,28 +141,28 @@ module _ (𝓔 : Entries) where
           n' = suc (length (t.log b))
 
           cv : c.view ≡ r.view
-          cv = (control-ok 𝓔 f.known).current f.current
+          cv = (control-ok 𝓔 exact f.known).current f.current
 
           still : (x : ℕ) → Heard x t₀ → Heard x t
           still x h = subst (λ (y : Controller). 1 ≤ y.heard x) (sym k.is.control) h
 
-      hears-to : {n : ℕ} {d : Draft Entry} → At 𝓔 n Hears d → At 𝓔 (n + 2) (Told d.state) (hears 𝓔 b d)
+      hears-to : {n : ℕ} {d : Draft Entry} → At 𝓔 exact n Hears d → At 𝓔 exact (n + 2) (Told d.state) (hears 𝓔 b d)
       unfolding hears
-      hears-to {n} {d} k = at_most 𝓔 (n + 2) (omega arith) (hear-to d.state (informs-to k))
+      hears-to {n} {d} k = at_most 𝓔 exact (n + 2) (omega arith) (hear-to d.state (informs-to k))
 
     -- With a leader installed.
     pub record Led (t : State Entry) : Type 0 where
-      pub reached : Reached 𝓔 t
+      pub reached : Reached 𝓔 exact t
       pub waits : T (is_waiting t.registry.status)
       pub epoch : t.registry.view.epoch ≡ suc r.view.epoch
       pub members : t.registry.view.members ≡ r.view.members
 
     -- All of the lowest majority are heard, and none ranks above the highest of them.
     installs : {n : ℕ} {d : Draft Entry}
-        → At 𝓔 n (λ t. Hears t × ((x : ℕ) → 1 ≤ x → x ≤ 8 → T (q x) → Heard x t)) d
-        → At 𝓔 (suc n) Led (put 𝓔 (of 15 (highest d.state.controller q)) d)
-    installs {n} {d} k = put-to 𝓔 Led (of 15 best) k.sound holds (λ h. record {
-      reached = next-reached 𝓔 f.known.reached (install best) h;
+        → At 𝓔 exact n (λ t. Hears t × ((x : ℕ) → 1 ≤ x → x ≤ 8 → T (q x) → Heard x t)) d
+        → At 𝓔 exact (suc n) Led (put 𝓔 (of 15 (highest d.state.controller q)) d)
+    installs {n} {d} k = put-to 𝓔 exact Led (of 15 best) k.sound holds (λ h. record {
+      reached = next-reached 𝓔 exact f.known.reached (install best) h;
       waits = tt;
       epoch = ap suc e;
       members = ap (λ (x : Registry). x.view.members) f.known.same;
@@ -185,7 +185,7 @@ module _ (𝓔 : Entries) where
         top = highest-in c q (omega (arith, q-size, one (size m)))
 
         cv : c.view ≡ r.view
-        cv = (control-ok 𝓔 f.known).current f.current
+        cv = (control-ok 𝓔 exact f.known).current f.current
 
         e : t.registry.view.epoch ≡ r.view.epoch
         e = ap (λ (x : Registry). x.view.epoch) f.known.same
@@ -212,16 +212,16 @@ module _ (𝓔 : Entries) where
             (subst (λ (v : View). T (has_quorum v.members (ranked_not_above c best))) (sym cv) majority)
             then lt→ltb t.registry.view.epoch 4000 (omega (arith, e)) then tt
 
-  pub choosing-to : {n : ℕ} {d : Draft Entry} → Reached 𝓔 d.state
+  pub choosing-to : {n : ℕ} {d : Draft Entry} → Reached 𝓔 exact d.state
       → (w : T (is_choosing d.state.registry.status)) (low : d.state.registry.view.epoch < 4000)
-      (some : 1 ≤ size d.state.registry.view.members) → Sound 𝓔 n d
-      → At 𝓔 (n + 2 + 2 * quorum (size d.state.registry.view.members)) (Led d.state.registry w low some)
+      (some : 1 ≤ size d.state.registry.view.members) → Sound 𝓔 exact n d
+      → At 𝓔 exact (n + 2 + 2 * quorum (size d.state.registry.view.members)) (Led d.state.registry w low some)
       (choosing_part 𝓔 d)
   unfolding choosing_part
   choosing-to {n} {d} k w low some z =
       let r = d.state.registry in
-      let b = called r w low some (control-to 𝓔 r {d = d} (record { reached = k; same = refl }) z) in
-      at_most 𝓔 _ (count n _ (quorum (size r.view.members)) (q-size r w low some)) (installs r w low some
-      (turns-to 𝓔 (q r w low some) (hears 𝓔) 2 (Hears r w low some) (Heard r w low some)
-      (λ x rx qx n d h. at-so 𝓔 _ (λ y. record { base = y.base; new = y.new; old = y.old })
+      let b = called r w low some (control-to 𝓔 exact r {d = d} (record { reached = k; same = refl }) z) in
+      at_most 𝓔 exact _ (count n _ (quorum (size r.view.members)) (q-size r w low some)) (installs r w low some
+      (turns-to 𝓔 exact (q r w low some) (hears 𝓔) 2 (Hears r w low some) (Heard r w low some)
+      (λ x rx qx n d h. at-so 𝓔 exact _ (λ y. record { base = y.base; new = y.new; old = y.old })
       (hears-to r w low some x rx (q-in r w low some x qx) h)) b))

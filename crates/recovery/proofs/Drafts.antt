@@ -10,7 +10,7 @@ use lib.Dec.{T, eqb, T_not}
 use lib.ListN.{length}
 use Rattle.model.specs.Prelude.{Check, ◌else◌, first_failed, passes}
 use Rattle.model.specs.Members.{Members, is_replica, bit, size}
-use Rattle.model.specs.State.{outline, Entries, State}
+use Rattle.model.specs.State.{outline, Entries, IsExact, State}
 use Rattle.model.specs.Steps.{checks, next, accepted}
 use Rattle.model.specs.Records.{Record, step_of}
 use Rattle.model.proofs.Tests.{Holds, facts, by_cond, join-and, is_false, is_true, eqb_same, eq-or-ne, of-true}
@@ -37,7 +37,7 @@ last-too : (cs : List Check) → Each cs → (c : Bool) (n : ℕ) → T c → Ea
 last-too [] h c n t = (t, tt)
 last-too ((a else k) ∷ cs) h c n t = (h.0, last-too cs h.1 c n t)
 
-module _ (𝓔 : Entries) where
+module _ (𝓔 : Entries) (exact : IsExact 𝓔) where
   open 𝓔 use {Entry}
 
   -- No error so far, and n records at most.

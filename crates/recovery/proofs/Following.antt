@@ -10,7 +10,7 @@ use lib.Dec.{T, eqb, eqb→eq, leb, leb→le, le→leb, ltb, lt→ltb, not_T}
 use lib.ListN.{length}
 use Rattle.model.specs.Prelude.{upd, ◌⊑◌, ◌else◌}
 use Rattle.model.specs.Members.{is_replica}
-use Rattle.model.specs.State.{outline, Entries, View, Registry, Controller, State, is_choosing, stage_number}
+use Rattle.model.specs.State.{outline, Entries, IsExact, View, Registry, Controller, State, is_choosing, stage_number}
 use Rattle.model.specs.Steps.{join, receive, read, checks, entry_at, heard_enough}
 use Rattle.model.specs.Records.{of}
 use Rattle.model.proofs.Tests.{join-and, split-and, eq_test, upd_same, upd_other, is_false}
@@ -36,7 +36,7 @@ of-heard : (h : ℕ → ℕ) (v x : ℕ) → T (leb 1 (h x) && leb (h v) (h x)) 
 of-heard h v x t =
     let z = split-and (leb 1 (h x)) (leb (h v) (h x)) t in (leb→le 1 (h x) z.0, leb→le (h v) (h x) z.1)
 
-module _ (𝓔 : Entries) where
+module _ (𝓔 : Entries) (exact : IsExact 𝓔) where
   open 𝓔 use {Entry}
 
   module _ (r : Registry) (led : T (not (is_choosing r.status))) where
@@ -44,14 +44,14 @@ module _ (𝓔 : Entries) where
     l = r.view.leader
 
     -- What is known of the leader that r names.
-    module _ {t : State Entry} (k : Known 𝓔 r t) where
-      registry-ok : RegistryOk (leaders 𝓔 k) r
-      registry-ok = subst (λ x. RegistryOk (leaders 𝓔 k) x) k.same k.reached.inv.registry
+    module _ {t : State Entry} (k : Known 𝓔 exact r t) where
+      registry-ok : RegistryOk (leaders 𝓔 exact k) r
+      registry-ok = subst (λ x. RegistryOk (leaders 𝓔 exact k) x) k.same k.reached.inv.registry
 
-      leader-is : l ≡ leaders 𝓔 k r.view.term
+      leader-is : l ≡ leaders 𝓔 exact k r.view.term
       leader-is =
           registry-ok.named
-          ∙ ap (λ x. cond x 0 (leaders 𝓔 k r.view.term)) (is_false (is_choosing r.status) led)
+          ∙ ap (λ x. cond x 0 (leaders 𝓔 exact k r.view.term)) (is_false (is_choosing r.status) led)
 
       pub leader-real : T (is_replica l)
       leader-real = subst (λ x. T (is_replica x)) (sym leader-is) (k.reached.inv.real r.view.term)
@@ -62,13 +62,13 @@ module _ (𝓔 : Entries) where
       -- Who has joined its term has a beginning of its log, once it has taken up that term.
       behind : (b : ℕ) → t.joined b ≡ r.view.term → (t.view l).term ≡ r.view.term → t.log b ⊑ t.log l
       behind b j v =
-          let c : leaders 𝓔 k (t.joined b) ≡ l = ap (leaders 𝓔 k) j ∙ sym leader-is in
+          let c : leaders 𝓔 exact k (t.joined b) ≡ l = ap (leaders 𝓔 exact k) j ∙ sym leader-is in
           subst (λ x. t.log b ⊑ t.log x) c
           (k.reached.inv.logs.follows b (ap (λ x. (t.view x).term) c ∙ v ∙ sym j))
 
     -- The controller reads boards, and the leader is up to date.
     pub record Reads (t : State Entry) : Type 0 where
-      pub known : Known 𝓔 r t
+      pub known : Known 𝓔 exact r t
       pub current : t.controller.view.epoch ≡ r.view.epoch
       pub stage : stage_number t.controller.stage ≡ 2
       pub leader : (t.view l).epoch ≡ r.view.epoch
@@ -79,10 +79,10 @@ module _ (𝓔 : Entries) where
 
     module _ {t : State Entry} (k : Reads t) where
       pub control-view : t.controller.view ≡ r.view
-      control-view = (control-ok 𝓔 k.known).current k.current
+      control-view = (control-ok 𝓔 exact k.known).current k.current
 
       leader-view : t.view l ≡ r.view
-      leader-view = (view-ok 𝓔 k.known l).current k.leader
+      leader-view = (view-ok 𝓔 exact k.known l).current k.leader
 
       -- The leader was heard, at a length that it still has.
       pub heard-leader : (1 ≤ t.controller.heard l) × (t.controller.heard l ≤ suc (length (t.log l)))
@@ -118,7 +118,7 @@ module _ (𝓔 : Entries) where
       -- The checks of steps 7 and 8, of a board that has the registry's view.
       module _ {t₀ t : State Entry} (k : Fresh t₀ t) where
         its_view : t.view b ≡ r.view
-        its_view = (view-ok 𝓔 k.reads.known b).current k.fresh
+        its_view = (view-ok 𝓔 exact k.reads.known b).current k.fresh
 
         its-leader : (t.view b).leader ≡ l
         its-leader = ap (λ v. v.leader) its_view
@@ -140,10 +140,10 @@ module _ (𝓔 : Entries) where
             (ap (λ v. v.term) its_view
             ∙ sym (ap (λ x. (t.view x).term) its-leader ∙ ap (λ v. v.term) (leader-view k.reads)))
 
-      news : {n : ℕ} {d : Draft Entry} → At 𝓔 n Reads d → At 𝓔 (suc n) (Fresh d.state) (informs 𝓔 l b d)
-      news {n} {d} k = at-so 𝓔 (Fresh d.state) new (informs-to 𝓔 r b real k.is.known k.sound)
+      news : {n : ℕ} {d : Draft Entry} → At 𝓔 exact n Reads d → At 𝓔 exact (suc n) (Fresh d.state) (informs 𝓔 l b d)
+      news {n} {d} k = at-so 𝓔 exact (Fresh d.state) new (informs-to 𝓔 exact r b real k.is.known k.sound)
         where
-          new : {t : State Entry} → Informed 𝓔 r b d.state t → Fresh d.state t
+          new : {t : State Entry} → Informed 𝓔 exact r b d.state t → Fresh d.state t
           new z = record {
             reads = record {
               known = z.known;
@@ -156,11 +156,11 @@ module _ (𝓔 : Entries) where
           }
 
       -- The join, left out where it is refused i: 11, if b has joined.
-      joins-to : (t₀ : State Entry) (i : ℕ) → i ≡ 11 → {n : ℕ} {d : Draft Entry} → At 𝓔 n (Fresh t₀) d
-          → At 𝓔 (suc n) (Joined t₀) (put_unless 𝓔 i (of 7 b) d)
+      joins-to : (t₀ : State Entry) (i : ℕ) → i ≡ 11 → {n : ℕ} {d : Draft Entry} → At 𝓔 exact n (Fresh t₀) d
+          → At 𝓔 exact (suc n) (Joined t₀) (put_unless 𝓔 i (of 7 b) d)
       joins-to t₀ i is {n} {d} k =
-          subst (λ i. At 𝓔 (suc n) (Joined t₀) (put_unless 𝓔 i (of 7 b) d)) (sym is)
-          (unless-to 𝓔 (Joined t₀) (of 7 b) (
+          subst (λ i. At 𝓔 exact (suc n) (Joined t₀) (put_unless 𝓔 i (of 7 b) d)) (sym is)
+          (unless-to 𝓔 exact (Joined t₀) (of 7 b) (
           (is_replica b else 1)
           ∷ (not (eqb (t.view b).leader 0) && not (eqb (t.view b).leader b) else 9)
           ∷ ((t.view b).members b else 5)
@@ -170,7 +170,7 @@ module _ (𝓔 : Entries) where
           (λ h. record {
             base = record {
               reads = record {
-                known = still-known 𝓔 f.reads.known (join b) refl h;
+                known = still-known 𝓔 exact f.reads.known (join b) refl h;
                 current = f.reads.current;
                 stage = f.reads.stage;
                 leader = f.reads.leader;
@@ -204,13 +204,13 @@ module _ (𝓔 : Entries) where
       )
 
       -- A receive: one entry less is lacking.
-      receive-to : (t₀ : State Entry) (i : ℕ) {n : ℕ} {d : Draft Entry} → At 𝓔 n (Lacks (suc i) t₀) d
-          → At 𝓔 (suc n) (Lacks i t₀) (put 𝓔 (of 8 b) d)
-      receive-to t₀ i {n} {d} k = put-to 𝓔 (Lacks i t₀) (of 8 b) k.sound holds (λ h. record {
+      receive-to : (t₀ : State Entry) (i : ℕ) {n : ℕ} {d : Draft Entry} → At 𝓔 exact n (Lacks (suc i) t₀) d
+          → At 𝓔 exact (suc n) (Lacks i t₀) (put 𝓔 (of 8 b) d)
+      receive-to t₀ i {n} {d} k = put-to 𝓔 exact (Lacks i t₀) (of 8 b) k.sound holds (λ h. record {
         base = record {
           base = record {
             reads = record {
-              known = still-known 𝓔 f.reads.known (receive b) refl h;
+              known = still-known 𝓔 exact f.reads.known (receive b) refl h;
               current = f.reads.current;
               stage = f.reads.stage;
               leader = f.reads.leader;
@@ -244,29 +244,29 @@ module _ (𝓔 : Entries) where
               (leader-test f)
               then term-test f then has-joined then shorter then tt
 
-      receives-all : (t₀ : State Entry) (i : ℕ) {n : ℕ} {d : Draft Entry} → At 𝓔 n (Lacks i t₀) d
-          → At 𝓔 (n + i) (Lacks 0 t₀) (times i (put 𝓔 (of 8 b)) d)
+      receives-all : (t₀ : State Entry) (i : ℕ) {n : ℕ} {d : Draft Entry} → At 𝓔 exact n (Lacks i t₀) d
+          → At 𝓔 exact (n + i) (Lacks 0 t₀) (times i (put 𝓔 (of 8 b)) d)
       unfolding times
-      receives-all t₀ zero {n} {d} k = at_most 𝓔 (n + 0) (omega arith) k
-      receives-all t₀ (suc i) {n} {d} k = at_most 𝓔 (n + suc i) (omega arith) (receives-all t₀ i (receive-to t₀ i k))
+      receives-all t₀ zero {n} {d} k = at_most 𝓔 exact (n + 0) (omega arith) k
+      receives-all t₀ (suc i) {n} {d} k = at_most 𝓔 exact (n + suc i) (omega arith) (receives-all t₀ i (receive-to t₀ i k))
 
       -- As many receives as it lacks entries: 512 at most.
-      receives-to : (t₀ : State Entry) {n : ℕ} {d : Draft Entry} → At 𝓔 n (Joined t₀) d
-          → At 𝓔 (n + 512) (Lacks 0 t₀) (receives 𝓔 l b d)
+      receives-to : (t₀ : State Entry) {n : ℕ} {d : Draft Entry} → At 𝓔 exact n (Joined t₀) d
+          → At 𝓔 exact (n + 512) (Lacks 0 t₀) (receives 𝓔 l b d)
       unfolding receives
       receives-to t₀ {n} {d} k =
-          at_most 𝓔 (n + 512) (omega (arith, k.is.base.reads.known.reached.bounds.logs.log l))
-          (receives-all t₀ _ (at-so 𝓔 (Lacks _ t₀) (λ z. record { base = z; lens = omega (arith, short) }) k))
+          at_most 𝓔 exact (n + 512) (omega (arith, k.is.base.reads.known.reached.bounds.logs.log l))
+          (receives-all t₀ _ (at-so 𝓔 exact (Lacks _ t₀) (λ z. record { base = z; lens = omega (arith, short) }) k))
         where
           short : length (d.state.log b) ≤ length (d.state.log l)
           short = begins-length (behind k.is.base.reads.known b k.is.joined
               (ap (λ v. v.term) (leader-view k.is.base.reads)))
 
       -- The reading, left out if b was heard at its length.
-      reads-to : (t₀ : State Entry) {n : ℕ} {d : Draft Entry} → At 𝓔 n (Lacks 0 t₀) d
-          → At 𝓔 (suc n) (Followed b t₀) (put_unless 𝓔 12 (of 12 b) d)
+      reads-to : (t₀ : State Entry) {n : ℕ} {d : Draft Entry} → At 𝓔 exact n (Lacks 0 t₀) d
+          → At 𝓔 exact (suc n) (Followed b t₀) (put_unless 𝓔 12 (of 12 b) d)
       reads-to t₀ {n} {d} k =
-          unless-to 𝓔 (Followed b t₀) (of 12 b) (
+          unless-to 𝓔 exact (Followed b t₀) (of 12 b) (
           (is_replica b else 1)
           ∷ (eqb (stage_number c.stage) 2 else 15)
           ∷ (not (eqb b c.view.leader) else 6)
@@ -278,7 +278,7 @@ module _ (𝓔 : Entries) where
           then eq_test (t.joined b) c.view.term (k.is.base.joined ∙ sym (ap (λ v. v.term) cv)) then tt) tt
           (λ h. (
             record {
-              known = still-known 𝓔 f.known (read b) refl h;
+              known = still-known 𝓔 exact f.known (read b) refl h;
               current = f.current;
               stage = f.stage;
               leader = f.leader;
@@ -328,8 +328,8 @@ module _ (𝓔 : Entries) where
           still x h = subst (λ y. T (heard_enough y x)) (sym k.is.base.base.control) h
 
       -- The turn of b: at most 515 records.
-      pub follows_to : {n : ℕ} {d : Draft Entry} → At 𝓔 n Reads d
-          → At 𝓔 (n + 515) (Followed b d.state) (follows 𝓔 l b d)
+      pub follows_to : {n : ℕ} {d : Draft Entry} → At 𝓔 exact n Reads d
+          → At 𝓔 exact (n + 515) (Followed b d.state) (follows 𝓔 l b d)
       unfolding follows
-      follows_to {n} {d} k = at_most 𝓔 (n + 515) (omega arith)
+      follows_to {n} {d} k = at_most 𝓔 exact (n + 515) (omega arith)
           (reads-to d.state (receives-to d.state (joins-to d.state _ (omega arith) (news k))))

@@ -9,7 +9,7 @@ use native.Mathlib.Omega.{arith}
 use lib.Dec.{T, eqb, leb→le}
 use Rattle.model.specs.Prelude.{upd}
 use Rattle.model.specs.Members.{Members, is_replica, bit, size}
-use Rattle.model.specs.State.{outline, Entries, Status, normal, waiting, Registry, Controller, State, Opening, can_open, opened, is_normal, is_choosing, stage_number, stage_for}
+use Rattle.model.specs.State.{outline, Entries, IsExact, Status, normal, waiting, Registry, Controller, State, Opening, can_open, opened, is_normal, is_choosing, stage_number, stage_for}
 use Rattle.model.specs.Steps.{Step, append, commit, add, remove, change_leader, refresh, join, receive, acknowledge, refresh_controller, read_leader, read, set_normal, hear, install, malformed, checks, next, step, accepted, succeeded, vacated}
 use Rattle.model.specs.Runs.{run}
 use Rattle.model.proofs.Tests.{Holds, facts, by_cond, upd_same, ne-fact}
@@ -60,7 +60,7 @@ one_less n k e d l m = omega arith
 more : (f : ℕ → ℕ) (b n x : ℕ) → 1 ≤ f x → 1 ≤ upd f b (suc n) x
 more f b n x h = by_cond (λ y. 1 ≤ y) (eqb x b) (λ _. omega arith) (λ _. h)
 
-module _ (𝓔 : Entries) where
+module _ (𝓔 : Entries) (exact : IsExact 𝓔) where
   open 𝓔 use {Entry}
 
   module _ {L : ℕ → ℕ} {s : State Entry} (i : Inv L s) (k : Poised s) where
@@ -139,11 +139,11 @@ module _ (𝓔 : Entries) where
   pub next-reached : {s : State Entry} → Reached s → (st : Step) → Holds (checks (outline s) st)
       → Reached (next 𝓔 s st)
   next-reached k st h =
-      let l = keeps 𝓔 k.inv st h in
+      let l = keeps 𝓔 exact k.inv st h in
       record {
         history = l.history;
         inv = l.inv;
-        bounds = bounds-keep 𝓔 k.inv k.bounds st h;
+        bounds = bounds-keep 𝓔 exact k.inv k.bounds st h;
         poised = poised-keep k.inv k.poised st h;
       }
 

@@ -8,7 +8,7 @@ use native.Mathlib.Omega.{arith}
 use lib.Dec.{T, leb, le→leb}
 use lib.ListN.{length}
 use Rattle.model.specs.Members.{Members, size, quorum}
-use Rattle.model.specs.State.{Entries, Status, normal, waiting, State, Opening, can_open, is_choosing}
+use Rattle.model.specs.State.{Entries, IsExact, Status, normal, waiting, State, Opening, can_open, is_choosing}
 use Rattle.model.specs.Steps.{Step}
 use Rattle.model.specs.Claim.{after}
 use Rattle.model.proofs.Tests.{join-and, is_true}
@@ -28,7 +28,7 @@ waiting-count n h = omega arith
 choosing-count : (n k : ℕ) → n ≤ 7 → k ≡ n → 0 + 2 + 2 * quorum n + 4 + 515 * (quorum k - 1) ≤ 2064
 choosing-count n k h e = omega arith
 
-module _ (𝓔 : Entries) where
+module _ (𝓔 : Entries) (exact : IsExact 𝓔) where
   open 𝓔 use {Entry}
 
   -- The state after the draft is normal.
@@ -36,29 +36,29 @@ module _ (𝓔 : Entries) where
   Normal t = t.registry.status ≡ normal
 
   -- Choosing raises the epoch twice, waiting once.
-  module _ (s : State Entry) (k : Reached 𝓔 s) (low : s.registry.view.epoch ≤ 3999)
+  module _ (s : State Entry) (k : Reached 𝓔 exact s) (low : s.registry.view.epoch ≤ 3999)
       (lower : T (is_choosing s.registry.status) → s.registry.view.epoch ≤ 3998) where
     abbrev m : Members
     m = s.registry.view.members
 
-    started : Sound 𝓔 0 (start s)
+    started : Sound 𝓔 exact 0 (start s)
     started = record { ok = tt; few = omega arith }
 
-    drafted : (g : Status) → s.registry.status ≡ g → At 𝓔 2064 Normal (draft 𝓔 g (start s))
+    drafted : (g : Status) → s.registry.status ≡ g → At 𝓔 exact 2064 Normal (draft 𝓔 g (start s))
     unfolding draft
-    drafted normal e = at_most 𝓔 2064 (omega arith) (record { sound = started; is = e })
-    drafted waiting e = at_most 𝓔 2064 (waiting-count (size m) (size-most m))
-        (waiting-to 𝓔 {d = start s} k (subst (λ g. T (is_waiting g)) (sym e) tt) (omega arith) started)
+    drafted normal e = at_most 𝓔 exact 2064 (omega arith) (record { sound = started; is = e })
+    drafted waiting e = at_most 𝓔 exact 2064 (waiting-count (size m) (size-most m))
+        (waiting-to 𝓔 exact {d = start s} k (subst (λ g. T (is_waiting g)) (sym e) tt) (omega arith) started)
     drafted Status.choosing e =
         let w = subst (λ g. T (is_choosing g)) (sym e) tt in
         let staff = k.poised.staffed w in
         let up : s.registry.view.epoch < 4000 = omega arith in
         let twice = lower w in
         let some : 1 ≤ size m = omega (arith, staff) in
-        let a = choosing-to 𝓔 {d = start s} k w up some started in
-        at_most 𝓔 2064 (choosing-count (size m) (size (choosing_part 𝓔 (start s)).state.registry.view.members)
+        let a = choosing-to 𝓔 exact {d = start s} k w up some started in
+        at_most 𝓔 exact 2064 (choosing-count (size m) (size (choosing_part 𝓔 (start s)).state.registry.view.members)
         staff.1 (ap size a.is.members))
-        (waiting-to 𝓔 a.is.reached a.is.waits (omega (arith, a.is.epoch)) a.sound)
+        (waiting-to 𝓔 exact a.is.reached a.is.waits (omega (arith, a.is.epoch)) a.sound)
 
     pub found-plan : LeadsToNormal 𝓔 s
     unfolding plan
@@ -69,14 +69,14 @@ module _ (𝓔 : Entries) where
         (le→leb (length d.records) 2064 a.sound.few) in
         let e : plan 𝓔 s ≡ found d.records =
         ap (λ t. cond t (found d.records) error) (is_true (d.sound && leb (length d.records) 2064) t) in
-        record { list = d.records; exists = e; leads = any-plan 𝓔 s d.records e }
+        record { list = d.records; exists = e; leads = any-plan 𝓔 exact s d.records e }
 
   pub recovers : (o : Opening) → T (can_open o) → (sts : List Step) → (after 𝓔 o sts).registry.view.epoch ≤ 3998
       → LeadsToNormal 𝓔 (after 𝓔 o sts)
   recovers o real sts low =
-      found-plan (after 𝓔 o sts) (run-reached 𝓔 (opened-reached 𝓔 o real) sts) (omega arith) (λ _. low)
+      found-plan (after 𝓔 o sts) (run-reached 𝓔 exact (opened-reached 𝓔 exact o real) sts) (omega arith) (λ _. low)
 
 -- The claim for every kind of entry.
 pub recovery : Recovery
 unfolding Recovery
-recovery 𝓔 o real sts low = recovers 𝓔 o real sts low
+recovery 𝓔 exact o real sts low = recovers 𝓔 exact o real sts low

@@ -8,7 +8,7 @@ use native.Mathlib.Omega.{arith}
 use lib.Dec.{T, eqb, eqb→eq, le→leb, lt→ltb}
 use Rattle.model.specs.Prelude.{upd}
 use Rattle.model.specs.Members.{Members, is_replica, ◌∩◌, size, quorum}
-use Rattle.model.specs.State.{outline, Entries, View, Status, normal, waiting, Stage, idle, leader, boards, Registry, Controller, State, is_choosing, stage_number}
+use Rattle.model.specs.State.{outline, Entries, IsExact, View, Status, normal, waiting, Stage, idle, leader, boards, Registry, Controller, State, is_choosing, stage_number}
 use Rattle.model.specs.Steps.{read_leader, set_normal, checks, heard_enough}
 use Rattle.model.specs.Records.{bare}
 use Rattle.model.proofs.Tests.{by_cond, join-and, eq_test, ne-fact, upd_same, upd_other}
@@ -75,7 +75,7 @@ fewer n k h f = omega arith
 count : (n k j q : ℕ) → k ≡ j → j ≤ q → suc (suc (suc (suc n)) + 515 * k) ≤ n + 4 + 515 * q
 count n k j q e h = omega arith
 
-module _ (𝓔 : Entries) where
+module _ (𝓔 : Entries) (exact : IsExact 𝓔) where
   open 𝓔 use {Entry}
 
   module _ (r : Registry) (w : T (is_waiting r.status)) (low : r.view.epoch < 4000) where
@@ -90,15 +90,15 @@ module _ (𝓔 : Entries) where
 
     -- The controller is up to date, and so is the leader.
     record Ready (t : State Entry) : Type 0 where
-      known : Known 𝓔 r t
+      known : Known 𝓔 exact r t
       current : t.controller.view.epoch ≡ r.view.epoch
       leader : (t.view l).epoch ≡ r.view.epoch
 
-    informs-leader : {n : ℕ} {d : Draft Entry} → At 𝓔 n (Called 𝓔 r) d → At 𝓔 (suc n) Ready (informs 𝓔 l l d)
+    informs-leader : {n : ℕ} {d : Draft Entry} → At 𝓔 exact n (Called 𝓔 exact r) d → At 𝓔 exact (suc n) Ready (informs 𝓔 l l d)
     informs-leader {n} {d} k =
-        at-so 𝓔 Ready new (informs-to 𝓔 r l (leader-real 𝓔 r led k.is.known) k.is.known k.sound)
+        at-so 𝓔 exact Ready new (informs-to 𝓔 exact r l (leader-real 𝓔 exact r led k.is.known) k.is.known k.sound)
       where
-        new : {t : State Entry} → Informed 𝓔 r l d.state t → Ready t
+        new : {t : State Entry} → Informed 𝓔 exact r l d.state t → Ready t
         new z = record {
           known = z.known;
           current = ap (λ c. c.view.epoch) z.control ∙ k.is.current;
@@ -106,22 +106,22 @@ module _ (𝓔 : Entries) where
         }
 
     -- The leader is read, or was.
-    reads-leader : {n : ℕ} {d : Draft Entry} → At 𝓔 n Ready d → At 𝓔 (suc n) (Reads 𝓔 r led) (reads_leader 𝓔 d)
+    reads-leader : {n : ℕ} {d : Draft Entry} → At 𝓔 exact n Ready d → At 𝓔 exact (suc n) (Reads 𝓔 exact r led) (reads_leader 𝓔 d)
     unfolding reads_leader
-    reads-leader {n} {d} k = by_cond (At 𝓔 (suc n) (Reads 𝓔 r led)) (in_boards c.stage)
-        (λ t. at_most 𝓔 (suc n) (omega arith) (at-so 𝓔 (Reads 𝓔 r led) (λ z. record {
+    reads-leader {n} {d} k = by_cond (At 𝓔 exact (suc n) (Reads 𝓔 exact r led)) (in_boards c.stage)
+        (λ t. at_most 𝓔 exact (suc n) (omega arith) (at-so 𝓔 exact (Reads 𝓔 exact r led) (λ z. record {
           known = z.known;
           current = z.current;
           stage = eqb→eq (stage_number c.stage) _ t;
           leader = z.leader;
         }) k))
-        (λ t. put-to 𝓔 (Reads 𝓔 r led) (bare 11) k.sound
-        (to_read r.status c.stage w ((control-ok 𝓔 k.is.known).stage k.is.current) t
+        (λ t. put-to 𝓔 exact (Reads 𝓔 exact r led) (bare 11) k.sound
+        (to_read r.status c.stage w ((control-ok 𝓔 exact k.is.known).stage k.is.current) t
         then eq_test (d.state.view c.view.leader).epoch c.view.epoch
         (ap (λ (v : View). (d.state.view v.leader).epoch) cv ∙ k.is.leader ∙ sym k.is.current)
         then tt)
         (λ h. record {
-          known = still-known 𝓔 k.is.known read_leader refl h;
+          known = still-known 𝓔 exact k.is.known read_leader refl h;
           current = k.is.current;
           stage = refl;
           leader = k.is.leader;
@@ -131,16 +131,16 @@ module _ (𝓔 : Entries) where
         c = d.state.controller
 
         cv : c.view ≡ r.view
-        cv = (control-ok 𝓔 k.is.known).current k.is.current
+        cv = (control-ok 𝓔 exact k.is.known).current k.is.current
 
     -- The leader and the n others make a majority, all heard at the leader's length or more.
     sets-normal : (real : T (is_replica l)) (member : T (m l)) (n : ℕ) (few : n < size m) → quorum (size m) ≤ suc n
         → {k : ℕ} {d : Draft Entry}
-        → At 𝓔 k (λ t. Reads 𝓔 r led t
-        × ((x : ℕ) → 1 ≤ x → x ≤ 8 → T (rest m l real member n few x) → Heard 𝓔 r led x t)) d
-        → At 𝓔 (suc k) (λ t. t.registry.status ≡ normal) (put 𝓔 (bare 13) d)
+        → At 𝓔 exact k (λ t. Reads 𝓔 exact r led t
+        × ((x : ℕ) → 1 ≤ x → x ≤ 8 → T (rest m l real member n few x) → Heard 𝓔 exact r led x t)) d
+        → At 𝓔 exact (suc k) (λ t. t.registry.status ≡ normal) (put 𝓔 (bare 13) d)
     sets-normal real member n few most {k} {d} a =
-        put-to 𝓔 (λ t. t.registry.status ≡ normal) (bare 13) a.sound holds (λ _. refl)
+        put-to 𝓔 exact (λ t. t.registry.status ≡ normal) (bare 13) a.sound holds (λ _. refl)
       where
         t : State Entry
         t = d.state
@@ -148,17 +148,17 @@ module _ (𝓔 : Entries) where
         c : Controller
         c = t.controller
 
-        f : Reads 𝓔 r led t
+        f : Reads 𝓔 exact r led t
         f = a.is.0
 
         cv : c.view ≡ r.view
-        cv = control-view 𝓔 r led f
+        cv = control-view 𝓔 exact r led f
 
         e : t.registry.view.epoch ≡ r.view.epoch
         e = ap (λ (x : Registry). x.view.epoch) f.known.same
 
         own : T (heard_enough c l)
-        own = to-heard c.heard c.view.leader l (heard-leader 𝓔 r led f).0
+        own = to-heard c.heard c.view.leader l (heard-leader 𝓔 exact r led f).0
             (omega (arith, ap (λ (v : View). c.heard v.leader) cv))
 
         majority : T (has_quorum m (heard_enough c))
@@ -174,27 +174,27 @@ module _ (𝓔 : Entries) where
 
     -- The n others in turn, then set normal: n is neither more nor less than makes a majority with the leader.
     ends-normal : (n : ℕ) → n ≤ quorum (size m) - 1 → quorum (size m) ≤ suc n → {k : ℕ} {d : Draft Entry}
-        → At 𝓔 (suc (suc (suc k))) (Reads 𝓔 r led) d
-        → At 𝓔 (k + 4 + 515 * (quorum (size m) - 1)) (λ t. t.registry.status ≡ normal)
+        → At 𝓔 exact (suc (suc (suc k))) (Reads 𝓔 exact r led) d
+        → At 𝓔 exact (k + 4 + 515 * (quorum (size m) - 1)) (λ t. t.registry.status ≡ normal)
         (put 𝓔 (bare 13) (turns 8 (first_of n (upd m l false)) (follows 𝓔 l) d))
     ends-normal n least most {k} {d} a =
-        let real = leader-real 𝓔 r led a.is.known in
-        let member = leader-member 𝓔 r led a.is.known in
+        let real = leader-real 𝓔 exact r led a.is.known in
+        let member = leader-member 𝓔 exact r led a.is.known in
         let few = fewer n (size m) (size-some m l real member) least in
-        at_most 𝓔 _ (count k _ n (quorum (size m) - 1) (rest-size m l real member n few) least)
+        at_most 𝓔 exact _ (count k _ n (quorum (size m) - 1) (rest-size m l real member n few) least)
         (sets-normal real member n few most
-        (turns-to 𝓔 (rest m l real member n few) (follows 𝓔 l) 515 (Reads 𝓔 r led) (Heard 𝓔 r led)
+        (turns-to 𝓔 exact (rest m l real member n few) (follows 𝓔 l) 515 (Reads 𝓔 exact r led) (Heard 𝓔 exact r led)
         (λ x rx qx n d h. let y = rest_in m l real member _ few x qx in
-        at-so 𝓔 _ (λ y. record { base = y.0; new = y.1; old = y.2 }) (follows_to 𝓔 r led x rx y.0 y.1 h)) a))
+        at-so 𝓔 exact _ (λ y. record { base = y.0; new = y.1; old = y.2 }) (follows_to 𝓔 exact r led x rx y.0 y.1 h)) a))
 
-  pub waiting-to : {n : ℕ} {d : Draft Entry} → Reached 𝓔 d.state → T (is_waiting d.state.registry.status)
-      → d.state.registry.view.epoch < 4000 → Sound 𝓔 n d
-      → At 𝓔 (n + 4 + 515 * (quorum (size d.state.registry.view.members) - 1))
+  pub waiting-to : {n : ℕ} {d : Draft Entry} → Reached 𝓔 exact d.state → T (is_waiting d.state.registry.status)
+      → d.state.registry.view.epoch < 4000 → Sound 𝓔 exact n d
+      → At 𝓔 exact (n + 4 + 515 * (quorum (size d.state.registry.view.members) - 1))
       (λ t. t.registry.status ≡ normal) (waiting_part 𝓔 d)
   unfolding waiting_part
   waiting-to {n} {d} k w low z =
       let r = d.state.registry in
-      let known : Known 𝓔 r d.state = record { reached = k; same = refl } in
-      let a = need-to 𝓔 (Known 𝓔 r) _ (leader-member 𝓔 r (led r w low) known) (record { sound = z; is = known }) in
-      let b = control-to 𝓔 r a.is a.sound in
+      let known : Known 𝓔 exact r d.state = record { reached = k; same = refl } in
+      let a = need-to 𝓔 exact (Known 𝓔 exact r) _ (leader-member 𝓔 exact r (led r w low) known) (record { sound = z; is = known }) in
+      let b = control-to 𝓔 exact r a.is a.sound in
       ends-normal r w low _ (omega arith) (omega arith) (reads-leader r w low (informs-leader r w low b))

@@ -1,7 +1,7 @@
 -- What is proved of lists that lead to normal (document 02, Paper 10), for every run. Cited by the promises of
 -- `recovery::claim` and `recovery::lists`, and by the claims of planning and guiding. Assumes nothing.
 use Rattle.std.specs.Prelude.{Bool, true, ◌&&◌, List, [], ◌∷◌, ◌≡◌, ℕ, ◌≤◌, T, eqb, length}
-use Rattle.model.specs.State.{Entries, entries, State, RowState, normal, Opening, can_open}
+use Rattle.model.specs.State.{Entries, IsExact, entries, State, RowState, normal, Opening, can_open}
 use Rattle.model.specs.Steps.{Step}
 use Rattle.model.specs.Records.{Record}
 use Rattle.model.specs.Runs.{steps_of, run, answers}
@@ -28,7 +28,7 @@ pub record LeadsToNormal (𝓔 : Entries) (s : State 𝓔.Entry) : Type 0 where
 -- "For a row that a run from an opening gave, with registry epoch at most 3,998": for every kind of entry (proved, but
 -- too large for a promise to cite),
 unfoldable pub Recovery : Type 1
-Recovery = (𝓔 : Entries) (o : Opening) → T (can_open o) → (sts : List Step)
+Recovery = (𝓔 : Entries) → IsExact 𝓔 → (o : Opening) → T (can_open o) → (sts : List Step)
     → (after 𝓔 o sts).registry.view.epoch ≤ 3998 → LeadsToNormal 𝓔 (after 𝓔 o sts)
 
 -- and for the calls' entries.

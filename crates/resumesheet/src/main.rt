@@ -1,11 +1,11 @@
-#![tactic(auto)]
-
 // Takes a row up from an image and goes on with more records: bytes on standard input and output, for tools and tests.
 // Input: 4 bytes, the image's length, low byte first; the image; then 0 to 4,095 records of 8 bytes (an opening among
 // them is answered 1). Output: 0, or the number of the refusal and no more: 2 where the input is too short for its
 // image or what follows is not so many whole records, else 17, 18 or 19 of the image. After 0 two bytes for each
 // record, its answer and the set of the boards behind it, board 1 as the lowest bit; then the image of the row after
 // them. There is none where refusal 1 turns that row away: a row that no run gives can become so.
+#![tactic(auto)]
+
 use cluster::Cluster;
 use records::Record;
 use std::io;

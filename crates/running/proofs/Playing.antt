@@ -19,6 +19,7 @@ use Rattle.model.specs.Claim.{after}
 use Rattle.model.proofs.Tests.{split-and, is_true, of-true}
 use Rattle.model.proofs.Answer.{answer-most}
 use Rattle.model.proofs.Range.{to-ranges}
+use Rattle.model.proofs.Entries.{same-entry}
 use Rattle.model.proofs.Bounds.{in-range}
 use Rattle.model.proofs.Made.{kept_in, terms-run}
 use Rattle.model.proofs.Theorem.{run-append}
@@ -128,7 +129,7 @@ module _ (s : Text) (sheet : is_sheet s ≡ true) (k : ℕ) (row : Cluster) (p :
   pub ran-fits : in_range (outline_of row) ≡ true
   ran-fits =
       ap in_range h.outlined
-      ∙ is_true (in_range (outline (state_at s k))) (in-range entries opening (sheet-real s sheet) past)
+      ∙ is_true (in_range (outline (state_at s k))) (in-range entries same-entry opening (sheet-real s sheet) past)
 
   -- The kept epochs are in range too.
   pub kept-fits : T (kept_in_range (state_at s k))
@@ -170,7 +171,7 @@ module _ (s : Text) (sheet : is_sheet s ≡ true) (k : ℕ) (row : Cluster) (p :
 
     reached : step entries (state_at s k) (step_of r) ≡ state_at s (suc k)
     unfolding run
-    reached = sym (run-append entries (opened opening) past (step_of r ∷ [])) ∙ ap (after entries opening) (sym more)
+    reached = sym (run-append entries same-entry (opened opening) past (step_of r ∷ [])) ∙ ap (after entries opening) (sym more)
 
     pub ran-more : Ran s (k + 1) x.row p' (set ns (k + 1) x.answer) (set ms (k + 1) x.behind)
     ran-more = rw (add-one k) record {

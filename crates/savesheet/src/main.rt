@@ -1,6 +1,6 @@
+// Reads a sheet on standard input and writes the image of its row, or prints `refused` and the number.
 #![tactic(auto)]
 
-// Reads a sheet on standard input and writes the image of its row, or prints `refused` and the number.
 use std::io;
 
 // Prints a refusal.

@@ -1,6 +1,6 @@
+// Reads a seed and a count of records on standard input and writes their sheet, or `refused 2`.
 #![tactic(auto)]
 
-// Reads a seed and a count of records on standard input and writes their sheet, or `refused 2`.
 use std::io;
 
 // 17 bytes of the input show what it asks for (`LinesSeen`, seedline::claim): no good line is longer than 16, and one

@@ -17,6 +17,7 @@ use Rattle.model.specs.Claim.{after, receipts}
 use Rattle.model.specs.Ranges.{every, eight, in_range, terms_in_range}
 use Rattle.model.proofs.Tests.{of-true, is_true, split-and}
 use Rattle.model.proofs.Range.{to-ranges}
+use Rattle.model.proofs.Entries.{same-entry}
 use Rattle.model.proofs.Bounds.{in-range}
 use Rattle.model.proofs.Made.{All, kept_in, terms-run, words-run}
 use Rattle.model.proofs.Theorem.{safe}
@@ -106,8 +107,8 @@ module _ (s : Text) (bytes : (i : ℕ) → get_or s i 0 < 256) (e : is_sheet s �
   end =
       let real = sheet-real s e in
       let m = outline (after entries first (steps_of rs)) in
-      let ok = is_true (in_range m) (in-range entries first real (steps_of rs)) in
-      let given = (safe entries first real (steps_of rs)).kept in
+      let ok = is_true (in_range m) (in-range entries same-entry first real (steps_of rs)) in
+      let given = (safe entries same-entry first real (steps_of rs)).kept in
       let kept = (split-and (terms_in_range (after entries first (steps_of rs)).committed)
       (every (eight (λ b. terms_in_range ((after entries first (steps_of rs)).log b))))
       (kept_in (terms-run first real (steps_of rs)))).0 in
@@ -207,7 +208,7 @@ module _ (s : Text) (e : is_sheet s ≡ true) (row : Cluster) (p : Places) (ns m
 
   -- The list holds the receipts given.
   kept : take row.issued (listed p) ≡ receipts entries opening past
-  kept = ap (λ x. x.committed) h.state ∙ (safe entries opening (sheet-real s e) past).kept
+  kept = ap (λ x. x.committed) h.state ∙ (safe entries same-entry opening (sheet-real s e) past).kept
 
   some : 1 ≤ length s
   some = omega (arith, room (length s) (sheet-whole s e))

@@ -1,6 +1,6 @@
+// Reads an image on standard input and prints the lines of its row, or `refused` and the number.
 #![tactic(auto)]
 
-// Reads an image on standard input and prints the lines of its row, or `refused` and the number.
 use std::io;
 
 // Prints a refusal.

@@ -14,6 +14,7 @@ use Rattle.model.specs.Claim.{LeadsUnder, after, receipts, Safe}
 use Rattle.model.proofs.Tests.{is_true}
 use Rattle.model.proofs.Invariant.{Inv}
 use Rattle.model.proofs.Range.{from-ranges}
+use Rattle.model.proofs.Entries.{same-entry}
 use Rattle.model.proofs.Theorem.{opened-inv, step_keeps, run-append, safe}
 use Rattle.model.proofs.Bounds.{Bounds, opened-bounds, step-bounds, all_in}
 use Rattle.model.proofs.Made.{Kept, TermIn, kept_in, terms-opened, terms-step}
@@ -56,7 +57,7 @@ pub goes : {s : RowState} {st : Step} {h h' : Held} {n q : ℕ} → Reached s �
     → Goes s st h' n q
 goes {s} {st} {h} {h'} k m d =
     let v = fit k m in
-    let i = step_keeps entries k.inv st in
+    let i = step_keeps entries same-entry k.inv st in
     record {
       answered = d.answer ∙ ap (λ t. cond t (answer_of (outline_of h.row) st) 1) v
           ∙ ap (λ x. answer_of x st) m.outlined;
@@ -65,7 +66,7 @@ goes {s} {st} {h} {h'} k m d =
       reached = record {
         history = i.history;
         inv = i.inv;
-        bounds = step-bounds entries k.inv k.bounds st;
+        bounds = step-bounds entries same-entry k.inv k.bounds st;
         kept = terms-step k.inv k.bounds k.kept st;
       };
       holds = record {
@@ -135,12 +136,12 @@ module _ (o : Opening) (h : Held) (start : Begins o h) where
     here = follow calls (opened o) open-reached opening
 
     model : Safe entries o sts
-    model = safe entries o start.real sts
+    model = safe entries same-entry o start.real sts
 
     later : (more : List Step) (h'' : Held) (ms ps : List ℕ) → Calls h' more h'' ms ps → state_of h''
         ≡ after entries o (sts ++ more)
     later more h'' ms ps cs = (follow cs (after entries o sts) here.reached here.holds).holds.state
-        ∙ sym (run-append entries (opened o) sts more)
+        ∙ sym (run-append entries same-entry (opened o) sts more)
 
     leader : h'.row.registry.view.leader ≡ (after entries o sts).registry.view.leader
     leader = ap (λ s. s.registry.view.leader) here.holds.state
@@ -160,7 +161,7 @@ module _ (o : Opening) (h : Held) (start : Begins o h) where
       kept = kept;
       lasting = λ more h'' ms ps cs. subst (λ x. x ⊑ (state_of h'').committed) (sym kept)
           (subst (λ x. receipts entries o sts ⊑ x)
-          (sym (ap (λ s. s.committed) (later more h'' ms ps cs) ∙ (safe entries o start.real (sts ++ more)).kept))
+          (sym (ap (λ s. s.committed) (later more h'' ms ps cs) ∙ (safe entries same-entry o start.real (sts ++ more)).kept))
           (model.lasting more));
       alone = λ more h'' ms ps cs x y t p q. model.alone_later more x y t
           (subst (λ s. LeadsUnder s x t) here.holds.state p)

@@ -1,8 +1,8 @@
-#![tactic(auto)]
-
 // The trials of document 01 on the calls, and three of document 02, Paper 4: after each trial's name, the answers in
 // order. P1 is about majorities, which no step answers: `model` proves it. At first every place of the second store and
 // the second list holds what no entry may: only places inside a length are looked at.
+#![tactic(auto)]
+
 use cluster::Cluster;
 use records::Record;
 use std::io;

@@ -1,4 +1,5 @@
 -- `explainsheet::main` lends only what it may: a result that is no refusal is a length within the slice.
+-- Assumes nothing.
 use Rattle.std.proofs.Common.{arith, sym, length-take-le}
 use Rattle.explain.proofs.Explaining.{readable}
 use Rattle.explainsheet.proofs.main.Goals as goal

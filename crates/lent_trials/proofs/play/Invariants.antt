@@ -1,4 +1,4 @@
--- `lent_trials::play` stays within the sheet, and ends.
+-- `lent_trials::play` stays within the sheet, and ends. Assumes nothing.
 use Rattle.std.proofs.Common.{◌-◌, ◌≤◌, length}
 use Rattle.lent_trials.proofs.play.Given as goal
 

@@ -1,5 +1,6 @@
 -- `mark::claim` meets its contract. Assumes nothing.
 use Rattle.model.specs.State.{entries}
+use Rattle.model.proofs.Entries.{same-entry}
 use Rattle.model.proofs.Theorem.{opened-inv, run-keeps}
 use Rattle.mark.specs.Mark.{MarksHold}
 use Rattle.mark.proofs.Current.{current, by-news, by-joining}
@@ -10,12 +11,12 @@ use Rattle.mark.proofs.claim.Tie as tie
 returns : tie.Need-returns
 unfolding MarksHold
 returns c = λ o real sts b.
-    let i = (run-keeps entries (opened-inv o real) sts).inv in
+    let i = (run-keeps entries same-entry (opened-inv o real) sts).inv in
     record {
       current = current i b;
       by_news = by-news i b;
       by_joining = by-joining entries i b;
-      outside = outside entries b (opened-inv o real) sts;
+      outside = outside entries same-entry b (opened-inv o real) sts;
     }
 
 pub claim_spec : {M : Type 1} → statement M

@@ -1,4 +1,5 @@
 -- `planimage::main` lends only what it may: a result that is a multiple of 8 is a length within the slice.
+-- Assumes nothing.
 use Rattle.std.proofs.Common.{arith, sym, length-take-le}
 use Rattle.guiding.proofs.Lengths.{image-readable}
 use Rattle.planimage.proofs.main.Goals as goal

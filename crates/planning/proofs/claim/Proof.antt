@@ -2,6 +2,7 @@
 use Rattle.model.specs.State.{entries}
 use Rattle.steps.proofs.Following.{calls-safe}
 use Rattle.recovery.specs.Claim.{RunsRecover}
+use Rattle.model.proofs.Entries.{same-entry}
 use Rattle.recovery.proofs.Recovering.{recovers}
 use Rattle.planning.proofs.Calling.{calls-recover, follows-recover}
 use Rattle.planning.proofs.claim.Statement.{statement}
@@ -9,7 +10,7 @@ use Rattle.planning.proofs.claim.Tie as tie
 
 runs : RunsRecover
 unfolding RunsRecover
-runs = λ o real sts low. recovers entries o real sts low
+runs = λ o real sts low. recovers entries same-entry o real sts low
 
 returns : tie.Need-returns
 returns c = (calls-recover calls-safe (follows-recover runs), follows-recover runs)

@@ -1,4 +1,5 @@
 -- `recovery::claim` meets its contract. Assumes nothing.
+use Rattle.model.proofs.Entries.{same-entry}
 use Rattle.recovery.proofs.claim.Statement.{statement}
 use Rattle.recovery.proofs.claim.Tie as tie
 use Rattle.model.specs.State.{entries}
@@ -7,7 +8,7 @@ use Rattle.recovery.proofs.Recovering.{recovers}
 
 returns : tie.Need-returns
 unfolding RunsRecover
-returns c = λ o real sts low. recovers entries o real sts low
+returns c = λ o real sts low. recovers entries same-entry o real sts low
 
 pub claim_spec : {M : Type 1} → statement M
 claim_spec = tie.close (tie.spec returns)

@@ -1,4 +1,5 @@
 -- `resumesheet::keep` lends only what it may: a result that is no refusal is a length within the slice.
+-- Assumes nothing.
 use Rattle.std.proofs.Common.{◌≡◌, ℕ, ◌≤◌, Bool, true, false, cond, ◌&&◌, leb, length, arith, refl, sym, ap, length-take-le}
 use borrow.Author.Tests.{leb-true}
 use Rattle.text.specs.Text.{Text, over}

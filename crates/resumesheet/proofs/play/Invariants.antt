@@ -1,4 +1,4 @@
--- `resumesheet::play` stays within the records, and ends.
+-- `resumesheet::play` stays within the records, and ends. Assumes nothing.
 use Rattle.std.proofs.Common.{◌-◌, ◌≤◌, length}
 use Rattle.resumesheet.proofs.play.Given as goal
 

@@ -1,4 +1,4 @@
--- `runsheet::main` lends only what it may: a result that is no refusal is a length within the slice.
+-- `runsheet::main` lends only what it may: a result that is no refusal is a length within the slice. Assumes nothing.
 use Rattle.std.proofs.Common.{arith, sym, length-take-le}
 use Rattle.sheet.proofs.Listings.{readable}
 use Rattle.runsheet.proofs.main.Goals as goal

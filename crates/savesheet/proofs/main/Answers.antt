@@ -1,4 +1,4 @@
--- `savesheet::main` lends only what it may: a result that is no refusal is a length within the slice.
+-- `savesheet::main` lends only what it may: a result that is no refusal is a length within the slice. Assumes nothing.
 use Rattle.std.proofs.Common.{arith, sym, length-take-le}
 use Rattle.archive.proofs.Lengths.{saved-readable}
 use Rattle.savesheet.proofs.main.Goals as goal

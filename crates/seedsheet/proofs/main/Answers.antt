@@ -1,4 +1,4 @@
--- `seedsheet::main` lends only what it may: what is printed stands in the slice.
+-- `seedsheet::main` lends only what it may: what is printed stands in the slice. Assumes nothing.
 use Rattle.std.proofs.Common.{arith, sym, length-take-le}
 use Rattle.seedline.proofs.Line.{printed-within}
 use Rattle.seedsheet.proofs.main.Goals as goal

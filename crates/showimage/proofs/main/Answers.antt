@@ -1,4 +1,4 @@
--- `showimage::main` lends only what it may: a result that is no refusal is a length within the slice.
+-- `showimage::main` lends only what it may: a result that is no refusal is a length within the slice. Assumes nothing.
 use Rattle.std.proofs.Common.{arith, sym, length-take-le}
 use Rattle.archive.proofs.Lengths.{shown-readable}
 use Rattle.showimage.proofs.main.Goals as goal

@@ -1,4 +1,4 @@
--- `trials::play` stays within the sheet, and ends.
+-- `trials::play` stays within the sheet, and ends. Assumes nothing.
 use Rattle.std.proofs.Common.{◌-◌, ◌≤◌, length}
 use Rattle.trials.proofs.play.Given as goal
 

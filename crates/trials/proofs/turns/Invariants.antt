@@ -1,4 +1,4 @@
--- `trials::turns` ends.
+-- `trials::turns` ends. Assumes nothing.
 use Rattle.std.proofs.Common.{◌-◌, ◌≤◌}
 use Rattle.trials.proofs.turns.Given as goal
 

@@ -1,4 +1,5 @@
 -- `read_whole` ends, since each read gives a byte or ends it, and what it put into the place is what it took.
+-- Assumes nothing.
 use Rattle.std.proofs.Common.{◌≡◌, ◌-◌, ◌≤◌, length, take}
 use Rattle.std.specs.Io.KnownBytes.{Consumes}
 use Rattle.wholeinput.proofs.read_whole.Given as goal
