@@ -13,12 +13,6 @@ loop-i-init c = (omega arith, c.requires, λ m k. plays-as (sym (times_none (put
 pub attempt-x-requires : goal.attempt-x-requires
 attempt-x-requires c = (keeps-receive c.args.b, c.loop-i.invariant.1)
 
-pub overflow_add-i : goal.overflow_add-i
-overflow_add-i c = record { fits = omega (arith, c.loop-i-test.true, c.ranges.n.fits) }
-
-pub loop-i-smaller : goal.loop-i-smaller
-loop-i-smaller c = omega (arith, c.loop-i-test.true)
-
 pub loop-i-preserved : goal.loop-i-preserved
 loop-i-preserved c =
     let l = c.loop-i in

@@ -1,11 +1,8 @@
 -- `pieces::receives` meets its contract: as many as b lacks, and one order for them. Assumes nothing.
-use Rattle.std.proofs.Common.{◌-◌, ap₂, ◌∙◌, arith}
+use Rattle.std.proofs.Common.{◌-◌, ap₂, ◌∙◌}
 use Rattle.refinement.specs.Refinement.{lent}
 use Rattle.pieces.proofs.Standing.{receives-moves}
 use Rattle.pieces.proofs.receives.Goals as goal
-
-pub add_receives-requires : goal.add_receives-requires
-add_receives-requires c = omega (arith, c.requires.1, c.receive_all-e.ensures.count)
 
 pub returns : goal.returns
 returns c =
