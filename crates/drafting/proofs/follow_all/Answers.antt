@@ -1,5 +1,5 @@
 -- `drafting::follow_all` meets its contract. Assumes nothing.
-use Rattle.std.proofs.Common.{◌≡◌, ◌+◌, ◌*◌, sym, ◌∙◌, arith}
+use Rattle.std.proofs.Common.{◌≡◌, ◌+◌, ◌*◌, arith}
 use Rattle.model.specs.State.{entries}
 use Rattle.members.specs.Mask.{bits}
 use Rattle.recovery.specs.Plan.{follows}
@@ -32,18 +32,3 @@ returns c =
     let l = c.loop-b in
     let e : l.b ≡ 8 = omega (arith, l.invariant.0, c.loop-b-test.false) in
     turns-all 4 (bits a.q) (follows entries a.l) a.d _ a.notes.now l.b e l.invariant.1
-
-pub shape_of-store : goal.shape_of-store
-shape_of-store c = c.loop-b.invariant.1.fit.full.store ∙ sym c.requires.0.full.store
-
-pub shape_of-store2 : goal.shape_of-store2
-shape_of-store2 c = c.loop-b.invariant.1.fit.full.store2 ∙ sym c.requires.0.full.store2
-
-pub shape_of-list : goal.shape_of-list
-shape_of-list c = c.loop-b.invariant.1.fit.full.list ∙ sym c.requires.0.full.list
-
-pub shape_of-list2 : goal.shape_of-list2
-shape_of-list2 c = c.loop-b.invariant.1.fit.full.list2 ∙ sym c.requires.0.full.list2
-
-pub shape_of-notes : goal.shape_of-notes
-shape_of-notes c = c.loop-b.invariant.1.room
