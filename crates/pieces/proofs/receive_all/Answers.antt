@@ -1,5 +1,5 @@
 -- `pieces::receive_all` meets its contract. Assumes nothing.
-use Rattle.std.proofs.Common.{◌≡◌, refl, sym, ap, ◌∙◌, add-one, arith}
+use Rattle.std.proofs.Common.{◌≡◌, refl, sym, ap, add-one, arith}
 use Rattle.model.specs.State.{entries}
 use Rattle.model.specs.Records.{of}
 use Rattle.recovery.specs.Plan.{times, put}

@@ -1,6 +1,6 @@
 -- `planning::plan` meets its contract: refusal 1, then 3, else the list, made on copies. Assumes nothing.
-use Rattle.std.proofs.Common.{◌≡◌, sym, ◌∙◌, arith}
-use Rattle.refinement.specs.Refinement.{Full, lent}
+use Rattle.std.proofs.Common.{sym, ◌∙◌, arith}
+use Rattle.refinement.specs.Refinement.{lent}
 use Rattle.shown.proofs.Valid.{valid-full}
 use Rattle.planning.proofs.Calling.{plans-invalid, plans-short, plans-list, copied, copies-fit, copies-give}
 use Rattle.planning.proofs.plan.Goals as goal
