@@ -1,10 +1,9 @@
 -- A row that refusal 1 lets through is one on which a list can be made. Assumes nothing.
 use mathlib.Core.Bool.{true, not}
 use mathlib.Core.Path.{◌≡◌, sym, subst}
-use Prim.Native.Nat.{ℕ, ◌≤◌}
 use native.Mathlib.Omega.{arith}
 use lib.Dec.{T}
-use Rattle.model.specs.State.{Status, waiting, is_choosing}
+use Rattle.model.specs.State.{is_choosing}
 use Rattle.model.specs.Ranges.{in_range}
 use Rattle.model.proofs.Tests.{of-true}
 use Rattle.model.proofs.Range.{to-ranges}

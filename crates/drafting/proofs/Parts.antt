@@ -1,15 +1,13 @@
 -- The parts of a list on a row: boards in turn, the choosing part, the waiting part, the whole. Assumes nothing.
 use mathlib.Core.Bool.{Bool, true, false, cond, ◌&&◌, true≢false, false≢true}
-use mathlib.Core.List.{List, []}
 use mathlib.Core.Path.{◌≡◌, refl, sym, subst, ap, ap₂, ◌∙◌}
-use Prim.Native.Nat.{ℕ, suc, ◌+◌, ◌-◌, ◌*◌, ◌≤◌, ◌<◌}
+use Prim.Native.Nat.{ℕ, ◌+◌, ◌-◌, ◌*◌, ◌≤◌}
 use native.Mathlib.Numerals.{add-one}
 use native.Mathlib.Omega.{arith}
-use lib.ListN.{length}
 use Rattle.model.specs.Prelude.{upd}
 use Rattle.model.specs.Members.{Members, size, quorum}
 use Rattle.model.specs.State.{Entry, entries, RowState, Status, normal, waiting, is_normal, is_choosing}
-use Rattle.model.specs.Records.{Record, bare, of}
+use Rattle.model.specs.Records.{bare, of}
 use Rattle.members.specs.Mask.{bits}
 use Rattle.cluster.specs.declared.Cluster.{Cluster}
 use Rattle.cluster.specs.Layout.{controller_of}

@@ -2,38 +2,37 @@
 use mathlib.Core.Bool.{Bool, true, false, cond, ◌&&◌}
 use mathlib.Core.List.{List}
 use mathlib.Core.Logic.{◌≢◌}
-use mathlib.Core.Path.{◌≡◌, refl, sym, subst, ap, ap₂, ◌∙◌}
-use Prim.Native.Nat.{ℕ, ◌-◌, ◌*◌, ◌/◌, ◌%◌, ◌≤◌, ◌<◌}
+use mathlib.Core.Path.{◌≡◌, refl, sym, ap, ap₂, ◌∙◌}
+use Prim.Native.Nat.{ℕ, ◌-◌, ◌*◌, ◌/◌, ◌≤◌, ◌<◌}
 use native.Mathlib.Omega.{arith}
-use lib.Dec.{T, leb, leb→le, eqb}
-use lib.ListN.{length, drop, replicate}
+use lib.Dec.{leb, leb→le}
+use lib.ListN.{length, replicate}
 use borrow.Author.Tests.{le-leb, lt-leb, eq-eqb, ne_eqb}
 use Rattle.model.specs.State.{RowState, entries}
 use Rattle.model.specs.Records.{Record, opening_of}
 use Rattle.model.proofs.Entries.{same-entry}
-use Rattle.model.proofs.Tests.{split-and, is_true, of-true, by_cond}
+use Rattle.model.proofs.Tests.{split-and, is_true, by_cond}
 use Rattle.cluster.specs.declared.Cluster.{Cluster}
-use Rattle.refinement.specs.Refinement.{Places, Full, abs, Shape}
+use Rattle.refinement.specs.Refinement.{Places, abs, Shape}
 use Rattle.text.specs.Text.{Text}
-use Rattle.records.specs.Bytes.{record_at, records, is_sheet}
-use Rattle.shown.specs.Shown.{lengths_fit, valid}
+use Rattle.records.specs.Bytes.{record_at, is_sheet}
+use Rattle.shown.specs.Shown.{valid}
 use Rattle.shown.proofs.Valid.{valid-full, valid-range}
-use Rattle.running.specs.Running.{state_at, Ran}
+use Rattle.running.specs.Running.{Ran}
 use Rattle.running.proofs.Playing.{ran-fits, sheet-real}
 use Rattle.marks.specs.Marks.{room}
 use Rattle.image.specs.declared.Loaded.{Loaded}
 use Rattle.image.specs.Image.{image_of, verdict, row_in, places_in}
-use Rattle.image.specs.Keeping.{lent_enough, taken, Loads, TakenFits, ReadsBack}
+use Rattle.image.specs.Keeping.{taken, Loads, TakenFits, ReadsBack}
 use Rattle.image.proofs.Fitting.{taken-fits}
 use Rattle.image.proofs.Returning.{reads-back}
 use Rattle.recovery.specs.Plan.{Plan, found, error, plan, draft, start}
-use Rattle.recovery.specs.Claim.{Leads, LeadsToNormal}
 use Rattle.recovery.proofs.Recovering.{recovers}
 use Rattle.pieces.specs.Pieces.{Fit}
 use Rattle.delivery.specs.declared.Planned.{Planned}
 use Rattle.delivery.specs.Delivery.{enough, plan_answer, plan_count, plan_left, delivered, Gives}
 use Rattle.drafting.proofs.Fitting.{ranged-fit}
-use Rattle.guiding.specs.Guiding.{plan_bytes, sheet_state, sheet_plan, sheet_result, sheet_left, blank, image_state, image_plan, lent_room, image_result, image_left, scratch_left, SheetRecovers, SheetsRecover, ImagesAgree}
+use Rattle.guiding.specs.Guiding.{plan_bytes, sheet_state, sheet_plan, sheet_result, sheet_left, blank, image_state, image_plan, image_result, image_left, scratch_left, SheetsRecover, ImagesAgree}
 
 -- No list has more than 2,064 records.
 few : (sound : Bool) (list : List Record) → plan_count (delivered sound list) ≤ 2064

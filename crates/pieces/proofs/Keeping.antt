@@ -1,13 +1,11 @@
 -- The steps of a list keep what they rely on in leaders. Assumes nothing.
-use mathlib.Core.Bool.{true, false}
 use mathlib.Core.Logic.{◌≢◌}
 use mathlib.Core.Path.{◌≡◌, sym, subst, ap}
 use Prim.Native.Nat.{ℕ, ◌≤◌}
 use native.Mathlib.Omega.{arith}
 use lib.Dec.{T}
-use Rattle.model.specs.Prelude.{upd}
 use Rattle.model.specs.Members.{is_replica}
-use Rattle.model.specs.State.{RowState, View, Status, normal, waiting, Stage, idle, entries, outline, stage_number, stage_for}
+use Rattle.model.specs.State.{RowState, View, Status, normal, waiting, entries, outline, stage_number, stage_for}
 use Rattle.model.specs.Steps.{Step, refresh, join, receive, refresh_controller, read_leader, read, set_normal, hear, install, checks, accepted, next}
 use Rattle.model.proofs.Tests.{facts, by_cond, at-or, is_true, upd_same, upd_other}
 use Rattle.model.proofs.Quorum.{replica-range}

@@ -1,9 +1,9 @@
 -- Pieces of a list on a row: a record more, one left out, one piece after the other. Assumes nothing.
-use mathlib.Core.Bool.{Bool, true, false, cond, ◌&&◌, true≢false}
+use mathlib.Core.Bool.{Bool, false, cond, ◌&&◌, true≢false}
 use mathlib.Core.List.{List, [], ◌∷◌, ◌++◌, append-nil, append_assoc}
 use mathlib.Core.Logic.{◌≢◌, ⊎_elim}
 use mathlib.Core.Path.{◌≡◌, refl, sym, subst, ap, ap₂, ◌∙◌}
-use Prim.Native.Nat.{ℕ, zero, suc, ◌+◌, ◌-◌, ◌≤◌, ◌<◌}
+use Prim.Native.Nat.{ℕ, zero, suc, ◌+◌, ◌-◌, ◌≤◌}
 use native.Mathlib.Omega.{arith}
 use lib.Dec.{eqb}
 use lib.ListN.{length, replicate}
@@ -18,7 +18,7 @@ use Rattle.members.proofs.Laws.{replica}
 use Rattle.cluster.specs.declared.Cluster.{Cluster}
 use Rattle.cluster.specs.declared.Outcome.{Outcome}
 use Rattle.cluster.specs.Layout.{at, no_view, stage_of}
-use Rattle.refinement.specs.Refinement.{Places, logged, abs, Short}
+use Rattle.refinement.specs.Refinement.{Places, logged, abs}
 use Rattle.refinement.proofs.Turning.{at_none, log-len, logged-full}
 use Rattle.text.specs.Text.{Text}
 use Rattle.recovery.specs.Plan.{in_boards, times, put, put_unless, need, receives, informs, reads_leader}

@@ -1,8 +1,7 @@
 -- From the inner step to a record that was tried. Assumes nothing.
-use mathlib.Core.Bool.{Bool, cond}
-use mathlib.Core.Path.{◌≡◌, sym, subst, ap, ◌∙◌}
-use Rattle.model.specs.State.{outline, entries}
-use Rattle.model.specs.Steps.{accepted, answer_of, step}
+use mathlib.Core.Bool.{cond}
+use mathlib.Core.Path.{sym, subst, ap, ◌∙◌}
+use Rattle.model.specs.Steps.{answer_of}
 use Rattle.model.specs.Records.{Record, step_of}
 use Rattle.model.proofs.Answer.{nonzero-refused}
 use Rattle.cluster.specs.declared.Cluster.{Cluster}

@@ -1,9 +1,8 @@
 -- From the list that was made to the whole call, and what it gives in a run of calls. Assumes nothing.
-use mathlib.Core.Bool.{Bool, true, false, cond, ◌&&◌}
+use mathlib.Core.Bool.{true, false, cond, ◌&&◌}
 use mathlib.Core.List.{List}
-use mathlib.Core.Path.{◌≡◌, refl, sym, subst, ap, ap₂, ◌∙◌}
+use mathlib.Core.Path.{◌≡◌, sym, subst, ap, ap₂, ◌∙◌}
 use Prim.Native.Nat.{ℕ, ◌≤◌, ◌<◌}
-use lib.Dec.{leb}
 use lib.ListN.{length}
 use borrow.Author.Tests.{le-leb, lt-leb}
 use Rattle.model.specs.State.{entries, RowState}
@@ -13,14 +12,14 @@ use Rattle.refinement.specs.Refinement.{Places, lent, abs, Shape}
 use Rattle.text.specs.Text.{Text}
 use Rattle.shown.specs.Shown.{valid}
 use Rattle.shown.proofs.Valid.{valid-full, valid-range}
-use Rattle.steps.specs.Calls.{Follows, CallsSafe}
+use Rattle.steps.specs.Calls.{CallsSafe}
 use Rattle.recovery.specs.Plan.{found, plan}
-use Rattle.recovery.specs.Claim.{Leads, LeadsToNormal, RunsRecover}
+use Rattle.recovery.specs.Claim.{Leads, RunsRecover}
 use Rattle.pieces.specs.Pieces.{Fit}
 use Rattle.delivery.specs.declared.Planned.{Planned}
 use Rattle.delivery.specs.Delivery.{enough, plan_answer, plan_count, plan_left, Gives}
 use Rattle.drafting.proofs.Fitting.{ranged-fit}
-use Rattle.planning.specs.Planning.{Plans, Recovers, CallsRecover, FollowsRecover}
+use Rattle.planning.specs.Planning.{Plans, CallsRecover, FollowsRecover}
 
 -- The three ways in which a call ends.
 module _ (row : Cluster) (p : Places) (out : Text) where

@@ -5,15 +5,11 @@ use Rattle.recovery.specs.Claim.{RunsRecover}
 use Rattle.model.proofs.Entries.{same-entry}
 use Rattle.recovery.proofs.Recovering.{recovers}
 use Rattle.planning.proofs.Calling.{calls-recover, follows-recover}
-use Rattle.planning.proofs.claim.Statement.{statement}
-use Rattle.planning.proofs.claim.Tie as tie
+use Rattle.planning.proofs.claim.Goals as goal
 
 runs : RunsRecover
 unfolding RunsRecover
 runs = λ o real sts low. recovers entries same-entry o real sts low
 
-returns : tie.Need-returns
+pub returns : goal.returns
 returns c = (calls-recover calls-safe (follows-recover runs), follows-recover runs)
-
-pub claim_spec : {M : Type 1} → statement M
-claim_spec = tie.close (tie.spec returns)
