@@ -37,47 +37,27 @@ few c =
     let f = fit s in
     omega (arith, c.total.ensures, sum-most r.len r.issued f.short.eight f.short.most f.issued)
 
-slice-aggregate-total : tie.Need-slice_bounds-total-end
-slice-aggregate-total c = search rules
-
-cast-total : tie.Need-overflow_cast-count
-cast-total c = search rules
-
-total-requires : tie.Need-total-requires
-total-requires c κs =
-    let f = fit c.before.before.before.before.before.before.before in
-    (f.short.eight, f.short.most, f.issued)
-
-mul-n : tie.Need-overflow_mul-n
-mul-n c = record { fits = omega (arith, few c) }
-
-add-n : tie.Need-overflow_add-n
-add-n c = record { fits = omega (arith, few c) }
-
-returns : tie.Need-returns-then-out-n
-returns c =
-    let d = c.before in
+pub put_image_spec : {M : Type 1} → statement M
+unfolding nine_lists
+put_image_spec =
+    tie.close
+    (tie.spec
+    (λ c. search rules)
+    (λ c. search rules)
+    (λ c κs. let f = fit c.before.before.before.before.before.before.before in
+    (f.short.eight, f.short.most, f.issued))
+    (λ c. record { fits = omega (arith, few c) })
+    (λ c. record { fits = omega (arith, few c) })
+    (λ c. let d = c.before in
     let s = start d in
     too_short s.args.row (places s) s.requires.1 s.requires.0 s.args.out.now (258 + 8 * d.total.result)
-    (ap (λ n. 258 + 8 * n) d.total.ensures) (omega (arith, c.if-out-n.true))
-
-firsts-requires : tie.Need-firsts-firsts-requires
-firsts-requires c κs = (fit (start c.before)).short.most
-
-put-head-requires : tie.Need-put_head-requires
-put-head-requires c κs = search rules
-
-slice-aggregate-put-chains : tie.Need-slice_bounds-put_chains-end
-slice-aggregate-put-chains c = search rules
-
-cast-put-chains : tie.Need-overflow_cast-count-2
-cast-put-chains c =
-    let f = fit (start c.before.before.before.before.before.before.before.before) in
-    record { fits = omega (arith, f.issued) }
-
-put-chains-requires : tie.Need-put_chains-requires
-put-chains-requires c κs =
-    let h = c.before.before.before.before in
+    (ap (λ n. 258 + 8 * n) d.total.ensures) (omega arith))
+    (λ c κs. (fit (start c.before)).short.most)
+    (λ c κs. search rules)
+    (λ c. search rules)
+    (λ c. let f = fit (start c.before.before.before.before.before.before.before.before) in
+    record { fits = omega (arith, f.issued) })
+    (λ c κs. let h = c.before.before.before.before in
     let d = h.before.before.before.before in
     let s = start d in
     let a = s.args in
@@ -92,41 +72,17 @@ put-chains-requires c κs =
       f.list,
       f.list2,
       r.issued,
-      omega (arith, l, d.total.ensures, h.before.before.before.if-out-n.false),
-    )
-
-same_length : tie.Need-shape_of-out
-same_length c = search rules
-
-returns-2 : tie.Need-returns
-unfolding nine_lists
-returns-2 c =
-    let e = c.before.before in
+      omega (arith, l, d.total.ensures),
+    ))
+    (λ c. search rules)
+    (λ c. let e = c.before.before in
     let h = e.before.before.before.before.before in
     let g = h.before.before in
     let d = g.before.before in
     let s = start d in
     let a = s.args in
     stored a.row (places s) s.requires.1 s.requires.0 a.out.now (258 + 8 * d.total.result)
-    (ap (λ n. 258 + 8 * n) d.total.ensures) g.before.if-out-n.false _ _
+    (ap (λ n. 258 + 8 * n) d.total.ensures) (omega arith) _ _
     (h.put_head.ensures.text
     ∙ ap (λ f. over a.out.now 0 (head_bytes (outline_of a.row) f)) g.firsts-firsts.ensures)
-    e.put_chains.ensures
-
-pub put_image_spec : {M : Type 1} → statement M
-put_image_spec =
-    tie.close
-    (tie.spec
-    slice-aggregate-total
-    cast-total
-    total-requires
-    mul-n
-    add-n
-    returns
-    firsts-requires
-    put-head-requires
-    slice-aggregate-put-chains
-    cast-put-chains
-    put-chains-requires
-    same_length
-    returns-2)
+    e.put_chains.ensures))
