@@ -12,8 +12,8 @@ pub struct Planned {
     pub count: usize,
 }
 
-// Gives out the list that was noted as `count` orders, or error 20 where `ok` is false or the list is too long. Inner
-// layer: callers see to the orders and the room.
+// Gives out the list that was noted as `count` orders, or error 20 where `ok` is false or the list is too long.
+// Inner layer: callers see to the orders and the room.
 pub fn deliver(ok: bool, count: usize, notes: &[u8], out: &mut [u8]) -> Planned
     requires { (count ≤ 54) × (256 ≤ length notes.now) × (16512 ≤ length out.old) }
     ensures { Gives (delivered ok (orders count notes.now)) out.old result out.new }

@@ -67,7 +67,7 @@ fn add(d: Draft, x: Outcome, notes: &mut [u8], step: u8, board: u8) -> Draft
     }
 }
 
-// One record more. Callers see to the step.
+// One record more. Inner layer: callers see to the step and to the places.
 pub fn put(
     d: Draft,
     store: &mut [u32],
@@ -97,7 +97,8 @@ pub fn put(
     add(d, x, &mut *notes, step, board)
 }
 
-// One record more, left out where it would be refused with `skip`. Callers see to the step, and to a refusal.
+// One record more, left out where it would be refused with `skip`. Inner layer: callers see to the step, to a refusal and
+// to the places.
 pub fn put_unless(
     d: Draft,
     store: &mut [u32],
@@ -131,7 +132,7 @@ pub fn put_unless(
     add(d, x, &mut *notes, step, board)
 }
 
-// Choosing: news and hearing of b.
+// Choosing: news and hearing of b. Inner layer: callers see to the places.
 pub fn hears(
     d: Draft,
     store: &mut [u32],
@@ -259,7 +260,7 @@ fn lacks(m: u16, n: u16) -> u16
     m - n
 }
 
-// As many receives as bring b to the length of l: one order.
+// As many receives as bring b to the length of l: one order. Inner layer: callers see to the places.
 pub fn receives(
     d: Draft,
     store: &mut [u32],
@@ -283,7 +284,7 @@ pub fn receives(
     add_receives(e, &mut *notes, b, n)
 }
 
-// Waiting: news of b, after which it has the leader l in its view.
+// Waiting: news of b, after which it has the leader l in its view. Inner layer: callers see to the places.
 pub fn informs(
     d: Draft,
     store: &mut [u32],
@@ -321,7 +322,7 @@ pub fn informs(
     }
 }
 
-// News, join, receives and reading of b, for the leader l.
+// News, join, receives and reading of b, for the leader l. Inner layer: callers see to the places.
 pub fn follows(
     d: Draft,
     store: &mut [u32],
@@ -382,7 +383,7 @@ pub fn follows(
     )
 }
 
-// Read leader, left out in stage boards.
+// Read leader, left out in stage boards. Inner layer: callers see to the places.
 pub fn reads_leader(
     d: Draft,
     store: &mut [u32],
