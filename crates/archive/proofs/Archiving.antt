@@ -1,17 +1,20 @@
 -- A sheet's image and an image's lines: what was handed back and left is what the definitions say. Assumes nothing.
 use mathlib.Core.Bool.{Bool, true, false, cond, ◌&&◌}
 use mathlib.Core.List.{List}
-use mathlib.Core.Logic.{◌≢◌}
 use mathlib.Core.Path.{◌≡◌, refl, sym, ap, subst, ◌∙◌}
 use Prim.Native.Nat.{ℕ, ◌-◌, ◌/◌, ◌≤◌}
 use native.Mathlib.Omega.{arith}
-use lib.Dec.{T, leb, eqb}
-use lib.ListN.{length, take, replicate}
+use lib.Dec.{leb, eqb}
+use lib.ListN.{length, take}
+use Rattle.std.specs.Prelude.{Result, Err}
+use Rattle.refusal.specs.declared.Refusal.{Refusal}
+use Rattle.refusal.specs.declared.Refusal.TheVariants.{Invalid, Sheet, Room, Status, Membership, Leader, EpochsUsedUp, NotLeader, FollowsNone, TermsDiffer, Joining, NothingDue, LogFull, NoMajority, Stage, EpochsDiffer, ImageLength, ImageNumber, ImageLinks, NoPlan}
+use Rattle.refusal.specs.Refusal.{number, returned}
 use borrow.Author.Tests.{ne_eqb, eq-eqb}
 use Rattle.model.specs.Ranges.{every, eight, in_range, terms_in_range, kept_in_range}
 use Rattle.model.proofs.Tests.{of-true, is_true, split-and}
 use Rattle.model.proofs.Range.{to-ranges}
-use Rattle.text.specs.Text.{Text, over, Delivered}
+use Rattle.text.specs.Text.{Text, Delivers}
 use Rattle.cluster.specs.declared.Cluster.{Cluster}
 use Rattle.cluster.specs.Layout.{outline_of}
 use Rattle.refinement.specs.Refinement.{Places, Full, listed, abs}
@@ -22,16 +25,15 @@ use Rattle.ending.specs.Ending.{ending}
 use Rattle.marks.specs.Marks.{room}
 use Rattle.running.specs.Running.{state_at, Ran}
 use Rattle.running.proofs.Playing.{ran-fits, kept-fits}
-use Rattle.image.specs.declared.Loaded.{Loaded}
-use Rattle.image.specs.Image.{image_of, verdict, row_in, places_in}
-use Rattle.image.specs.Keeping.{Saves, Loads, taken, TakenFits}
+use Rattle.image.specs.Image.{image_of, length_fits, numbers_fit, links_fit, verdict, row_in, places_in}
+use Rattle.image.specs.Keeping.{saved, Saves, Loaded, Loads, taken, TakenFits}
 use Rattle.image.proofs.Fitting.{taken-fits, receipts-there, places-full}
-use Rattle.archive.specs.Archive.{sheet_image, save_result, save_left, receipts_in, image_text, show_result, show_left, scratch_left}
+use Rattle.archive.specs.Archive.{sheet_image, save_outcome, save_left, image_text, show_outcome, show_left, scratch_left}
 
 -- A sheet's image
 
-pub no-sheet : (s out : Text) → is_sheet s ≡ false → (2 ≡ save_result s out) × (out ≡ save_left s out)
-unfolding save_result save_left
+pub no-sheet : (s out : Text) → is_sheet s ≡ false → (Err Sheet ≡ save_outcome s out) × (out ≡ save_left s out)
+unfolding save_outcome save_left
 no-sheet s out e = (rw e, rw e)
 
 module _ (s : Text) (e : is_sheet s ≡ true) (row : Cluster) (p : Places) (ns qs : List ℕ)
@@ -46,22 +48,89 @@ module _ (s : Text) (e : is_sheet s ≡ true) (row : Cluster) (p : Places) (ns q
   unfolding sheet_image
   same = ap image_of h.state
 
-  pub sheet-saved : (out : Text) (r : ℕ) (out' : Text) → Saves row p out r out'
-      → (r ≡ save_result s out) × (out' ≡ save_left s out)
-  unfolding save_result save_left
-  sheet-saved out r out' w = (
-    w.answer ∙ rw (ran-valid, same, e),
-    w.left ∙ rw (ran-valid, same, e),
+  -- The writer was lent the places of the run, read as q.
+  pub sheet-saved : (q : Places) (out : Text) (r : Result ℕ Refusal) (out' : Text) → q ≡ p → r ≡ saved row q out
+      → Saves row q out (returned r) out' → (r ≡ save_outcome s out) × (out' ≡ save_left s out)
+  unfolding save_outcome save_left
+  sheet-saved q out r out' l a w = (
+    a ∙ rw (l, ran-valid, same, e),
+    w.left ∙ rw (l, ran-valid, same, e),
   )
 
 -- An image's lines
 
-pub too_short : (text out : Text) → leb (length text) (length out) ≡ false → Delivered text out out 3
-too_short text out e = record { answer = sym (rw e); left = sym (rw e) }
+-- The refusal of a number.
+abbrev named : ℕ → Refusal
+named n =
+    cond (eqb n 1) Invalid (cond (eqb n 2) Sheet (cond (eqb n 3) Room (cond (eqb n 4) Status (cond (eqb n 5)
+    Membership (cond (eqb n 6) Leader (cond (eqb n 7) EpochsUsedUp (cond (eqb n 8) NotLeader (cond (eqb n 9)
+    FollowsNone (cond (eqb n 10) TermsDiffer (cond (eqb n 11) Joining (cond (eqb n 12) NothingDue (cond (eqb n 13)
+    LogFull (cond (eqb n 14) NoMajority (cond (eqb n 15) Stage (cond (eqb n 16) EpochsDiffer (cond (eqb n 17)
+    ImageLength (cond (eqb n 18) ImageNumber (cond (eqb n 19) ImageLinks (NoPlan)))))))))))))))))))
 
-pub written : (text out out' : Text) (r : ℕ) → leb (length text) (length out) ≡ true → r ≡ length text
-    → out' ≡ over out 0 text → Delivered text out out' r
-written text out out' r e a b = record { answer = a ∙ sym (rw e); left = b ∙ sym (rw e) }
+named-is : (e : Refusal) → named (number e) ≡ e
+named-is Invalid = refl
+named-is Sheet = refl
+named-is Room = refl
+named-is Status = refl
+named-is Membership = refl
+named-is Leader = refl
+named-is EpochsUsedUp = refl
+named-is NotLeader = refl
+named-is FollowsNone = refl
+named-is TermsDiffer = refl
+named-is Joining = refl
+named-is NothingDue = refl
+named-is LogFull = refl
+named-is NoMajority = refl
+named-is Stage = refl
+named-is EpochsDiffer = refl
+named-is ImageLength = refl
+named-is ImageNumber = refl
+named-is ImageLinks = refl
+named-is NoPlan = refl
+
+by-number : (e : Refusal) (n : ℕ) → number e ≡ n → e ≡ named n
+by-number e n q = sym (named-is e) ∙ ap named q
+
+number-least : (e : Refusal) → 1 ≤ number e
+number-least Invalid = omega arith
+number-least Sheet = omega arith
+number-least Room = omega arith
+number-least Status = omega arith
+number-least Membership = omega arith
+number-least Leader = omega arith
+number-least EpochsUsedUp = omega arith
+number-least NotLeader = omega arith
+number-least FollowsNone = omega arith
+number-least TermsDiffer = omega arith
+number-least Joining = omega arith
+number-least NothingDue = omega arith
+number-least LogFull = omega arith
+number-least NoMajority = omega arith
+number-least Stage = omega arith
+number-least EpochsDiffer = omega arith
+number-least ImageLength = omega arith
+number-least ImageNumber = omega arith
+number-least ImageLinks = omega arith
+number-least NoPlan = omega arith
+
+-- The refusal of an image is known from its number.
+by-errors : (a b c d : Bool) (n : ℕ) (t : Result ℕ Refusal) (e : Refusal)
+    → n ≡ cond a (cond b (cond c (cond d 0 19) 18) 17) 3 → n ≡ number e
+    → Err e ≡ cond a (cond b (cond c (cond d t (Err ImageLinks)) (Err ImageNumber)) (Err ImageLength)) (Err Room)
+by-errors true true true true n t e p q = absurd (omega (arith, p, q, number-least e))
+by-errors true true true false n t e p q = ap (λ x. Err x) (by-number e 19 (sym q ∙ p))
+by-errors true true false d n t e p q = ap (λ x. Err x) (by-number e 18 (sym q ∙ p))
+by-errors true false c d n t e p q = ap (λ x. Err x) (by-number e 17 (sym q ∙ p))
+by-errors false b c d n t e p q = ap (λ x. Err x) (by-number e 3 (sym q ∙ p))
+
+-- An image with no error passed each test.
+no-error : (b c d : Bool) → ◌≡◌ {A = ℕ} (cond b (cond c (cond d 0 19) 18) 17) 0 → (b ≡ true) × (c ≡ true) × (d ≡ true)
+no-error true true true e = (refl, refl, refl)
+no-error true true false e = absurd (omega (arith, e))
+no-error true false d e = absurd (omega (arith, e))
+no-error false c d e = absurd (omega (arith, e))
 
 module _ (image : Text) (given : Cluster) (p : Places) (s : Text) (x : Loaded) (p' : Places) (s' : Text)
     (fit : lengths_fit p ≡ true) (l : Loads image given p s x p' s') where
@@ -71,18 +140,22 @@ module _ (image : Text) (given : Cluster) (p : Places) (s : Text) (x : Loaded) (
   cleared : s' ≡ scratch_left s
   cleared = l.scratch ∙ rw fit
 
-  pub not-shown : (out : Text) → x.answer ≢ 0
-      → (x.answer ≡ show_result image out s) × (out ≡ show_left image out s) × (s' ≡ scratch_left s)
-  unfolding show_result show_left
-  not-shown out d = go (leb room (length s)) refl
+  pub not-shown : (out : Text) (e : Refusal) → x.answer ≡ number e
+      → (Err e ≡ show_outcome image out s) × (out ≡ show_left image out s) × (s' ≡ scratch_left s)
+  unfolding show_outcome show_left
+  not-shown out e q = (
+    by-errors (leb room (length s)) (length_fits image) (numbers_fit image) (links_fit image) x.answer _ e answered q,
+    alone (leb room (length s)) refl,
+    cleared,
+  )
     where
-      go : (t : Bool) → leb room (length s) ≡ t
-          → (x.answer ≡ show_result image out s) × (out ≡ show_left image out s) × (s' ≡ scratch_left s)
-      go true q =
-          let a : x.answer ≡ verdict image = answered ∙ rw q in
-          let z : eqb (verdict image) 0 ≡ false = ne_eqb (verdict image) 0 (λ e. d (a ∙ e)) in
-          (a ∙ sym (rw (q, z)), sym (rw (q, z)), cleared)
-      go false q = (answered ∙ sym (rw q), sym (rw q), cleared)
+      alone : (t : Bool) → leb room (length s) ≡ t → out ≡ show_left image out s
+      alone true r =
+          let a : x.answer ≡ verdict image = answered ∙ rw r in
+          let z : eqb (verdict image) 0 ≡ false =
+          ne_eqb (verdict image) 0 (λ h. omega (arith, h, a, q, number-least e)) in
+          sym (rw (r, z))
+      alone false r = sym (rw r)
 
   module _ (e : x.answer ≡ 0) where
     tests : (t : Bool) → leb room (length s) ≡ t → (leb room (length s) ≡ true) × (verdict image ≡ 0)
@@ -133,11 +206,12 @@ module _ (image : Text) (given : Cluster) (p : Places) (s : Text) (x : Loaded) (
         (λ i. ending (outline_of (the_row i)) (take (the_row i).issued (listed (the_places i))))
         ∙ ap (ending (outline_of (row_in image))) (receipts-there image good p full)
 
-    pub is-shown : (text out out' : Text) (r : ℕ)
-        → text ≡ ending (outline_of x.row) (take x.row.issued (listed p')) → Delivered text out out' r
-        → (r ≡ show_result image out s) × (out' ≡ show_left image out s) × (s' ≡ scratch_left s)
-    unfolding show_result show_left
+    pub is-shown : (text out out' : Text) (r : Result ℕ Refusal)
+        → text ≡ ending (outline_of x.row) (take x.row.issued (listed p')) → Delivers text out out' r
+        → (r ≡ show_outcome image out s) × (out' ≡ show_left image out s) × (s' ≡ scratch_left s)
+    unfolding show_outcome show_left
     is-shown text out out' r t d =
         let z : eqb (verdict image) 0 ≡ true = eq-eqb (verdict image) 0 good in
-        let f = subst (λ y. Delivered y out out' r) (t ∙ the-text) d in
-        (f.answer ∙ sym (rw (enough, z)), f.left ∙ sym (rw (enough, z)), cleared)
+        let f = subst (λ y. Delivers y out out' r) (t ∙ the-text) d in
+        let n = no-error (length_fits image) (numbers_fit image) (links_fit image) good in
+        (f.answer ∙ sym (rw (enough, n.0, n.1, n.2)), f.left ∙ sym (rw (enough, z)), cleared)

@@ -1,13 +1,12 @@
 -- The sample, how long an image and its lines are, and what a caller reads back of them. Assumes nothing.
 use mathlib.Core.Bool.{Bool, true, false, cond, ◌&&◌}
-use mathlib.Core.List.{List, [], ◌∷◌, ◌++◌, map}
-use mathlib.Core.Path.{◌≡◌, refl, sym, ap, subst, ◌∙◌}
+use mathlib.Core.List.{List, [], ◌∷◌}
+use mathlib.Core.Path.{◌≡◌, refl, sym, ap, ◌∙◌}
 use Prim.Native.Nat.{ℕ, zero, suc, ◌+◌, ◌-◌, ◌*◌, ◌/◌, ◌^◌, ◌<◌, ◌≤◌}
 use native.Mathlib.Omega.{arith}
 use lib.Dec.{T, leb, eqb}
-use lib.ListN.{length, get_or, take, drop, replicate, length-append, length-map}
-use Rattle.model.specs.Members.{is_replica}
-use Rattle.model.specs.State.{RowState, entries, outline, Opening, can_open}
+use lib.ListN.{length, get_or, drop, replicate, length-map}
+use Rattle.model.specs.State.{entries, outline, Opening, can_open}
 use Rattle.model.specs.Steps.{Step}
 use Rattle.model.specs.Claim.{after}
 use Rattle.model.specs.Records.{opening_of}
@@ -19,6 +18,9 @@ use Rattle.model.proofs.Range.{InRange, to-ranges}
 use Rattle.model.proofs.Entries.{same-entry}
 use Rattle.model.proofs.Bounds.{in-range}
 use Rattle.text.specs.Text.{Text, over, digits, digits_within}
+use Rattle.text.proofs.Laws.{ok-within}
+use Rattle.std.specs.Prelude.{Ok, Err}
+use Rattle.refusal.specs.declared.Refusal.TheVariants.{Sheet, Room, ImageLength, ImageNumber, ImageLinks}
 use Rattle.members.specs.Mask.{bits}
 use Rattle.cluster.specs.Layout.{outline_of}
 use Rattle.records.specs.Bytes.{record_at, records, is_sheet}
@@ -30,22 +32,19 @@ use Rattle.logstore.proofs.Laws.{pairs-length}
 use Rattle.refinement.specs.Refinement.{Places, lent, abs}
 use Rattle.shown.specs.Shown.{lengths_fit}
 use Rattle.head.specs.Head.{head_bytes, row_at}
-use Rattle.head.proofs.Back.{head-length}
-use Rattle.saving.specs.Saved.{firsts_for, records_for, records_all, bytes_of, sum_of}
-use Rattle.saving.proofs.Bytes.{bytes-length}
-use Rattle.running.specs.Sample.{sample_sheet}
+use Rattle.saving.specs.Saved.{firsts_for, records_for, records_all, bytes_of}
 use Rattle.running.proofs.Playing.{sheet-real}
-use Rattle.running.proofs.Results.{within, kept-length}
+use Rattle.running.proofs.Results.{kept-length}
 use Rattle.marks.specs.Marks.{room}
 use borrow.Author.Tests.{leb-true}
 use Rattle.chains.specs.Chain.{chain, chains_of, well_linked, joined, has, distinct, up_to}
 use Rattle.chains.specs.Image.{value_of, epoch_of, firsts_from, values_of, epochs_of}
 use Rattle.loading.specs.Read.{receipts_of}
-use Rattle.image.specs.Image.{lists_of, image_of, length_fits, numbers_fit, links_fit, verdict, row_in, places_in}
+use Rattle.image.specs.Image.{image_of, length_fits, numbers_fit, links_fit, verdict, row_in, places_in}
 use Rattle.image.specs.Keeping.{TakenFits}
 use Rattle.image.proofs.Writing.{image-least, image-most}
 use Rattle.image.proofs.Fitting.{range-fit, taken-fits, receipts-there}
-use Rattle.archive.specs.Archive.{sheet_image, save_result, save_left, receipts_in, image_text, show_result, show_left, SampleHolds, LengthsTell}
+use Rattle.archive.specs.Archive.{sheet_image, save_outcome, save_left, receipts_in, image_text, show_outcome, show_left, SampleHolds, LengthsTell}
 
 pub sample-holds : SampleHolds
 unfolding SampleHolds sheet_image image_text image_of head_bytes firsts_for records_for records_all bytes_of row_in row_at
@@ -131,49 +130,41 @@ lengths-tell = (
 )
 
 -- A caller can read back what is no refusal.
-pub saved-readable : (s out : Text) {r : ℕ} {out' : Text} → (r ≡ save_result s out) × (out' ≡ save_left s out) → 4 ≤ r
-    → r ≤ length out'
-unfolding save_result save_left
-saved-readable s out p h =
+pub saved-readable : (s out : Text) {n : ℕ} {out' : Text} → Ok n ≡ save_outcome s out → out' ≡ save_left s out
+    → n ≤ length out'
+unfolding save_outcome save_left
+saved-readable s out {n} e l =
     let im = sheet_image s in
     let t = leb (length im) (length out) in
     omega (
       arith,
-      p.0,
-      within (is_sheet s) t (length im) (length out) refl (omega (arith, h, p.0)),
-      ap length p.1,
+      ok-within (is_sheet s) t (length im) (length out) n Room Sheet refl e,
+      ap length l,
       kept-length (is_sheet s && t) out im,
     )
 
--- No error of an image is above 19.
-verdict-most : (image : Text) → verdict image ≤ 19
-verdict-most image = go (length_fits image) (numbers_fit image) (links_fit image)
-  where
-    go : (a b c : Bool) → cond a (cond b (cond c 0 19) 18) 17 ≤ 19
-    go true true true = omega arith
-    go true true false = omega arith
-    go true false c = omega arith
-    go false b c = omega arith
+shown-within : (a b c d t : Bool) (n m k : ℕ) → leb n m ≡ t
+    → Ok k
+    ≡ cond a (cond b (cond c (cond d (cond t (Ok n) (Err Room)) (Err ImageLinks)) (Err ImageNumber)) (Err ImageLength))
+    (Err Room)
+    → k ≤ m
+shown-within true true true true true n m k e q = let same : k ≡ n = cc in omega (arith, leb-true n m e)
+shown-within true true true true false n m k e q = absurd cc
+shown-within true true true false t n m k e q = absurd cc
+shown-within true true false d t n m k e q = absurd cc
+shown-within true false c d t n m k e q = absurd cc
+shown-within false b c d t n m k e q = absurd cc
 
-shown-within : (a b c : Bool) (n m v : ℕ) → leb n m ≡ c → v ≤ 19 → 20 ≤ cond a (cond b (cond c n 3) v) 3
-    → cond a (cond b (cond c n 3) v) 3 ≤ m
-shown-within true true true n m v e l h = leb-true n m e
-shown-within true true false n m v e l h = absurd (omega (arith, h))
-shown-within true false c n m v e l h = absurd (omega (arith, h, l))
-shown-within false b c n m v e l h = absurd (omega (arith, h))
-
-pub shown-readable : (image out s : Text) {r : ℕ} {out' : Text}
-    → r ≡ show_result image out s → out' ≡ show_left image out s → 20 ≤ r → r ≤ length out'
-unfolding show_result show_left
-shown-readable image out s e f h =
+pub shown-readable : (image out s : Text) {n : ℕ} {out' : Text} → Ok n ≡ show_outcome image out s
+    → out' ≡ show_left image out s → n ≤ length out'
+unfolding show_outcome show_left
+shown-readable image out s {n} e l =
     let text = image_text image in
     let a = leb room (length s) in
-    let b = eqb (verdict image) 0 in
-    let c = leb (length text) (length out) in
+    let t = leb (length text) (length out) in
     omega (
       arith,
-      e,
-      shown-within a b c (length text) (length out) (verdict image) refl (verdict-most image) (omega (arith, h, e)),
-      ap length f,
-      kept-length (a && (b && c)) out text,
+      shown-within a (length_fits image) (numbers_fit image) (links_fit image) t (length text) (length out) n refl e,
+      ap length l,
+      kept-length (a && (eqb (verdict image) 0 && t)) out text,
     )

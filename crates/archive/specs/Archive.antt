@@ -1,6 +1,9 @@
 -- The image of a sheet's row, and the lines of an image's row (document 02, Paper 7, for the hub and for people). Cited
 -- by the promises of `save_sheet`, `show_image` and `sample`. Assumes nothing.
-use Rattle.std.specs.Prelude.{Bool, true, cond, ◌&&◌, List, [], ◌∷◌, ◌++◌, ◌≡◌, ℕ, zero, suc, ◌-◌, ◌/◌, ◌≤◌, leb, eqb, length, drop, get_or, replicate}
+use Rattle.std.specs.Prelude.{Bool, true, cond, ◌&&◌, List, [], ◌∷◌, ◌++◌, ◌≡◌, ℕ, zero, suc, ◌-◌, ◌/◌, ◌≤◌, leb, eqb, length, drop, get_or, replicate, Result, Ok, Err}
+use Rattle.refusal.specs.declared.Refusal.{Refusal}
+use Rattle.refusal.specs.declared.Refusal.TheVariants.{Sheet, Room, ImageLength, ImageNumber, ImageLinks}
+use Rattle.refusal.specs.Refusal.{returned}
 use Rattle.model.specs.State.{Entry, entries}
 use Rattle.model.specs.Records.{opening_of}
 use Rattle.model.specs.Runs.{steps_of}
@@ -15,7 +18,7 @@ use Rattle.running.specs.Sample.{sample_sheet}
 use Rattle.marks.specs.Marks.{room}
 use Rattle.chains.specs.Image.{values_of, epochs_of}
 use Rattle.loading.specs.Read.{receipts_of}
-use Rattle.image.specs.Image.{image_of, verdict, row_in}
+use Rattle.image.specs.Image.{image_of, length_fits, numbers_fit, links_fit, verdict, row_in}
 
 -- A sheet's image
 
@@ -26,8 +29,13 @@ sheet_image s =
     image_of (after entries (opening_of (record_at s)) (steps_of (records (length s / 8 - 1) (drop 8 s))))
 
 -- The call, with the sheet s and a slice whose bytes are `out`: document 01's refusal 2, then 3; "both change nothing".
-unfoldable pub save_result : Text → Text → ℕ
-save_result s out = cond (is_sheet s) (cond (leb (length (sheet_image s)) (length out)) (length (sheet_image s)) 3) 2
+unfoldable pub save_outcome : Text → Text → Result ℕ Refusal
+save_outcome s out =
+    cond (is_sheet s) (cond (leb (length (sheet_image s)) (length out)) (Ok (length (sheet_image s))) (Err Room)) (Err Sheet)
+
+-- As C has it.
+abbrev pub save_result : Text → Text → ℕ
+save_result s out = returned (save_outcome s out)
 
 unfoldable pub save_left : Text → Text → Text
 save_left s out = cond (is_sheet s && leb (length (sheet_image s)) (length out)) (over out 0 (sheet_image s)) out
@@ -46,12 +54,22 @@ image_text image = ending (outline_of (row_in image)) (receipts_in image)
 abbrev pub fits_text : Text → Text → Bool
 fits_text image out = eqb (verdict image) 0 && leb (length (image_text image)) (length out)
 
+-- The errors of an image, 17, 18 and 19; x of one that has none.
+abbrev pub judged : Text → Result ℕ Refusal → Result ℕ Refusal
+judged image x =
+    cond (length_fits image) (cond (numbers_fit image) (cond (links_fit image) x (Err ImageLinks)) (Err ImageNumber))
+    (Err ImageLength)
+
 -- The call, with an image, a slice whose bytes are `out`, and a scratch s: 3 for a scratch that is too short; then 17,
 -- 18 and 19; then 3 for a slice that is shorter than the lines.
-unfoldable pub show_result : Text → Text → Text → ℕ
-show_result image out s = cond (leb room (length s))
-    (cond (eqb (verdict image) 0) (cond (leb (length (image_text image)) (length out)) (length (image_text image)) 3)
-    (verdict image)) 3
+unfoldable pub show_outcome : Text → Text → Text → Result ℕ Refusal
+show_outcome image out s = cond (leb room (length s))
+    (judged image (cond (leb (length (image_text image)) (length out)) (Ok (length (image_text image))) (Err Room)))
+    (Err Room)
+
+-- As C has it.
+abbrev pub show_result : Text → Text → Text → ℕ
+show_result image out s = returned (show_outcome image out s)
 
 unfoldable pub show_left : Text → Text → Text → Text
 show_left image out s = cond (leb room (length s) && fits_text image out) (over out 0 (image_text image)) out

@@ -2,13 +2,14 @@
 -- up. Assumes nothing.
 use mathlib.Core.Bool.{Bool, true, false, not, ◌&&◌, ◌||◌, and-false, and-true, and-eq-true_iff, or-false}
 use mathlib.Core.List.{List, [], ◌∷◌, ◌++◌, map}
-use mathlib.Core.Path.{◌≡◌, refl, sym, ap, subst, ◌∙◌, fun_ext}
-use Prim.Native.Nat.{ℕ, zero, suc, ◌+◌, ◌-◌, ◌≤◌}
+use mathlib.Core.Path.{◌≡◌, refl, sym, ap, ◌∙◌, fun_ext}
+use Prim.Native.Nat.{ℕ, zero, suc, ◌+◌, ◌≤◌}
 use native.Mathlib.Nat.{add-zero}
 use native.Mathlib.Omega.{arith}
 use lib.Dec.{eqb, leb, eqb-suc-suc}
 use lib.ListN.{length}
 use borrow.Author.Tests.{le-leb, lt-leb, leb-true, leb-false, eqb-true, eqb-false, eq-eqb, ne_eqb, not-true}
+use Rattle.std.specs.List.{list_all, range_with_len}
 use Rattle.model.specs.Ranges as R
 use Rattle.marks.specs.Marks.{Numbers, none, adding}
 use Rattle.chains.specs.Chain.{is_short, is_record, every, joined, has, distinct, up_to, well_linked, linked, adding_all, good}
@@ -223,14 +224,23 @@ well-linked-is n kss =
     (closing (every is_short kss) (every (is_record n) (joined kss)) (distinct (joined kss)) (up_to n (has (joined kss)))
     (eqb (length (joined kss)) n) (λ e. met_all n (joined kss) (linked-none n (joined kss) ∙ e)))
 
--- One number less
+-- One after the other
 
-pub up_to-step : (n : ℕ) (m : Numbers) → 1 ≤ n → up_to n m ≡ (m n && up_to (n - 1) m)
-unfolding up_to
-up_to-step n m h =
-    let e : n ≡ suc (n - 1) = omega arith in
-    subst (λ i. up_to i m ≡ (m i && up_to (n - 1) m)) (sym e) refl
+-- A test of numbers from a on, with its last one first.
+list_all-last : (m : Numbers) (a n : ℕ)
+    → list_all m (range_with_len a (suc n)) ≡ (m (a + n) && list_all m (range_with_len a n))
+list_all-last m a zero = rw (add-zero a)
+list_all-last m a (suc n) =
+    let e : a + 1 + n ≡ a + suc n = omega arith in
+    rw (list_all-last m (a + 1) n, e) (go (m a) (m (a + suc n)) (list_all m (range_with_len (a + 1) n)))
+  where
+    go : (x y z : Bool) → (x && (y && z)) ≡ (y && (x && z))
+    go true y z = refl
+    go false true z = refl
+    go false false z = refl
 
-pub up_to-zero : (n : ℕ) (m : Numbers) → n ≡ 0 → up_to n m ≡ true
+-- The numbers 1 to n in turn.
+pub up_to-list : (n : ℕ) (m : Numbers) → list_all m (range_with_len 1 n) ≡ up_to n m
 unfolding up_to
-up_to-zero n m e = rw e
+up_to-list zero m = refl
+up_to-list (suc n) m = let e : 1 + n ≡ suc n = omega arith in rw (list_all-last m 1 n, e, up_to-list n m)

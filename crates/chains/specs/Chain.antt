@@ -1,6 +1,8 @@
 -- Chains of records, by their numbers, and when those of an image are well linked: no word of a scratch. Cited by the
 -- contracts of chains and loading, and by what speaks of an image. Assumes nothing.
-use Rattle.std.specs.Prelude.{Bool, true, false, not, cond, ◌&&◌, ◌||◌, List, [], ◌∷◌, ◌++◌, map, ◌≡◌, ℕ, zero, suc, eqb, leb, length}
+use Rattle.std.specs.Prelude.{Bool, true, false, not, cond, ◌&&◌, ◌||◌, List, [], ◌∷◌, ◌++◌, map, ◌≡◌, ℕ, zero, suc, eqb, leb, length, Result, Ok, Err}
+use Rattle.refusal.specs.declared.Refusal.{Refusal}
+use Rattle.refusal.specs.declared.Refusal.TheVariants.{ImageLinks}
 use Rattle.model.specs.Ranges as R
 use Rattle.marks.specs.Marks.{Numbers, adding}
 
@@ -54,6 +56,10 @@ well_linked n kss =
     R.every (map is_short kss)
     && (R.every (map (is_record n) (joined kss)) && (distinct (joined kss) && up_to n (has (joined kss))))
 
+-- What is answered of chains that are well linked or not.
+abbrev pub linking : Bool → Result Unit Refusal
+linking ok = cond ok (Ok tt) (Err ImageLinks)
+
 -- One chain after others (for the contract of the walk alone)
 
 -- The chain ks after those that met the records `met`: its records are the image's, new, and none of them twice.
@@ -70,9 +76,9 @@ adding_all (k ∷ ks) met = adding_all ks (adding k met)
 abbrev pub good : ℕ → Numbers → List ℕ → Bool
 good n met ks = linked n met ks && is_short ks
 
--- What a walk of it answers, its length or 513, and what is met after a good one.
-pub record Walked (n : ℕ) (ks : List ℕ) (met met' : Numbers) (r : ℕ) : Type 0 where
-  pub answer : r ≡ cond (good n met ks) (length ks) 513
+-- What a walk of it answers, its length or error 19, and what is met after a good one.
+pub record Walked (n : ℕ) (ks : List ℕ) (met met' : Numbers) (r : Result ℕ Refusal) : Type 0 where
+  pub answer : r ≡ cond (good n met ks) (Ok (length ks)) (Err ImageLinks)
   pub marks : good n met ks ≡ true → met' ≡ adding_all ks met
 
 -- All of xs pass the test p: what the model's `every` says of their tests (`every-is`).

@@ -1,112 +1,107 @@
-// The chains of an image (document 02, Paper 7): the first record of a list, a record's next and epoch; error 19, found
-// by walking all nine chains over a scratch of marks; and the records' part of error 18. Inner layer: callers see to it
-// that an image has its length, 258 bytes and 8 for each of n records.
+// The chains of an image (document 02, Paper 7): the first record of a list, a record's next, epoch and value; error 19,
+// found by walking all nine chains over a scratch of marks; and the records' part of error 18.
 #![tactic(auto)]
 
 ghost use Rattle.std.specs.Prelude.{◌≡◌, ◌+◌, ◌*◌, ◌<◌, ◌≤◌, length, replicate};
 ghost use Rattle.marks.specs.Marks.{none, most, room, marked};
-ghost use Rattle.chains.specs.Image.{next_of, epoch_of, first_of, firsts_of, epochs_fit};
-ghost use Rattle.chains.specs.Chain.{chain_of, chains_of, Walked, well_linked};
+ghost use Rattle.chains.specs.Image.{next_of, epoch_of, value_of, first_of, epochs_fit, holds};
+ghost use Rattle.chains.specs.Chain.{chain_of, Walked, linking};
 
-// The record after the record k. Inner layer: callers see to k.
-pub fn next(image: &[u8], k: usize) -> usize
-    requires { 8 * k + 258 ≤ length image.now }
-    ensures { result ≡ next_of image.now k }
-{
-    fields::two_at(image, 8 * k + 256) as usize
+use refusal::{Refusal, ensure};
+
+// An image that error 17 lets through: 258 bytes of head, and 8 bytes for each of its records, at most 4,608.
+#[derive(Clone, Copy)]
+pub struct Image<'a> {
+    pub bytes: &'a [u8],
+    pub records: usize,
+    ghost whole: { length bytes.now ≡ 8 * records + 258 },
+    ghost few: { records ≤ most },
 }
 
-// The epoch of the record k. Inner layer: callers see to k.
-pub fn term(image: &[u8], k: usize) -> u16
-    requires { 8 * k + 258 ≤ length image.now }
-    ensures { result ≡ epoch_of image.now k }
-{
-    fields::two_at(image, 8 * k + 254)
-}
-
-// The first record of the list b, 0 to 7 for the boards, 8 for the receipts. Inner layer: callers see to b and to the
-// head.
-pub fn first(image: &[u8], b: usize) -> usize
-    requires { (258 ≤ length image.now) × (b < 9) }
-    ensures { result ≡ first_of image.now b }
-{
-    if b == 8 {
-        return fields::two_at(image, 256) as usize;
+impl<'a> Image<'a> {
+    // The record after the record k. Inner layer: callers see to k.
+    pub fn next(self, k: usize) -> usize
+        requires { k ≤ self.records }
+        ensures { result ≡ next_of self.entry.bytes.now k }
+    {
+        fields::two_at(self.bytes, 8 * k + 256) as usize
     }
-    fields::two_at(image, 26 * b + 72) as usize
-}
 
-// Walks the chain that starts at first and marks its records: its length, or 513 where it points past the last record,
-// passes 512 entries, or meets a record again. Callers see to the lengths.
-fn walk(image: &[u8], n: usize, first: usize, scratch: &mut [u8]) -> usize
-    requires { (length image.now ≡ 8 * n + 258) × (n ≤ most) × (room ≤ length scratch.old) }
-    ensures { Walked n (chain_of (next_of image.now) first)
-        (marked scratch.old) (marked scratch.new) result }
-{
-    let mut at = first;
-    let mut len: usize = 0;
-    while at != 0 {
-        if at > n {
-            return 513;
-        }
-        if len == 512 {
-            return 513;
-        }
-        if marks::is_marked(&*scratch, at) {
-            return 513;
-        }
-        marks::mark(&mut *scratch, at);
-        at = next(image, at);
-        len += 1;
+    // The epoch of the record k. Inner layer: callers see to k.
+    pub fn term(self, k: usize) -> u16
+        requires { k ≤ self.records }
+        ensures { result ≡ epoch_of self.entry.bytes.now k }
+    {
+        fields::two_at(self.bytes, 8 * k + 254)
     }
-    len
-}
 
-// Walks all nine chains: whether they are well linked. Callers see to the lengths, and that nothing is marked.
-fn walk_all(image: &[u8], n: usize, scratch: &mut [u8]) -> bool
-    requires { (length image.now ≡ 8 * n + 258) × (n ≤ most)
-        × (room ≤ length scratch.old) × (marked scratch.old ≡ none) }
-    ensures { result ≡ well_linked n (chains_of (next_of image.now) (firsts_of image.now)) }
-{
-    let mut b: usize = 0;
-    let mut total: usize = 0;
-    while b < 9 {
-        let start = first(image, b);
-        let len = walk(image, n, start, &mut *scratch);
-        if len == 513 {
-            return false;
-        }
-        total += len;
-        b += 1;
+    // The value of the record k. Inner layer: callers see to k.
+    pub fn value(self, k: usize) -> u32
+        requires { k ≤ self.records }
+        ensures { result ≡ value_of self.entry.bytes.now k }
+    {
+        fields::four_at(self.bytes, 8 * k + 250)
     }
-    total == n
-}
 
-// Whether an image of n records is well linked: not error 19. "The whole scratch ends as zeros." Inner layer: callers
-// see to the lengths.
-pub fn well_linked(image: &[u8], n: usize, scratch: &mut [u8]) -> bool
-    requires { (length image.now ≡ 8 * n + 258) × (n ≤ most) × (room ≤ length scratch.old) }
-    ensures { (result ≡ well_linked n (chains_of (next_of image.now) (firsts_of image.now)))
-        × (scratch.new ≡ replicate (length scratch.old) 0) }
-{
-    marks::clear(&mut *scratch);
-    let ok = walk_all(image, n, &mut *scratch);
-    marks::clear(&mut *scratch);
-    ok
-}
-
-// Whether the epoch of every record, met or not, is 1 to 4,000: a part of error 18. Inner layer: callers see to the
-// length.
-pub fn epochs_fit(image: &[u8], n: usize) -> bool
-    requires { length image.now ≡ 8 * n + 258 }
-    ensures { result ≡ epochs_fit n image.now }
-{
-    let mut k = n;
-    while k > 0 {
-        if !cluster::ranges::epoch(term(image, k)) {
-            return false;
-        }
-        k -= 1;
+    // The first record of the list b, 0 to 7 for the boards, 8 for the receipts. Inner layer: callers see to b.
+    pub fn first(self, b: usize) -> usize
+        requires { b < 9 }
+        ensures { result ≡ first_of self.entry.bytes.now b }
+    {
+        let at = if b == 8 { 256 } else { 26 * b + 72 };
+        fields::two_at(self.bytes, at) as usize
     }
-    true
+
+    // Walks the chain that starts at first and marks its records: its length, or error 19 where it points past the
+    // last record, passes 512 entries, or meets a record again. Callers see to the scratch.
+    fn walk(self, first: usize, scratch: &mut [u8]) -> Result<usize, Refusal>
+        requires { room ≤ length scratch.old }
+        ensures { let image = self.entry in Walked image.records (chain_of (next_of image.bytes.now) first)
+            (marked scratch.old) (marked scratch.new) result }
+    {
+        let mut at = first;
+        for len in 0..513 {
+            if at == 0 {
+                return Ok(len);
+            }
+            ensure(at <= self.records, Refusal::ImageLinks)?;
+            ensure(!marks::is_marked(&*scratch, at), Refusal::ImageLinks)?;
+            marks::mark(&mut *scratch, at);
+            at = self.next(at);
+        }
+        Err(Refusal::ImageLinks)
+    }
+
+    // Walks all nine chains: error 19 where they are not well linked. Callers see to the scratch, and that nothing is
+    // marked.
+    fn walk_all(self, scratch: &mut [u8]) -> Result<(), Refusal>
+        requires { (room ≤ length scratch.old) × (marked scratch.old ≡ none) }
+        ensures { result ≡ linking (holds self.entry.records self.entry.bytes.now) }
+    {
+        let mut total = 0;
+        for b in 0..9 {
+            total += self.walk(self.first(b), &mut *scratch)?;
+        }
+        ensure(total == self.records, Refusal::ImageLinks)
+    }
+
+    // Error 19 of an image that is not well linked. "The whole scratch ends as zeros." Inner layer: callers see to the
+    // scratch.
+    pub fn well_linked(self, scratch: &mut [u8]) -> Result<(), Refusal>
+        requires { room ≤ length scratch.old }
+        ensures answer { result ≡ linking (holds self.entry.records self.entry.bytes.now) }
+        ensures scratch { scratch.new ≡ replicate (length scratch.old) 0 }
+    {
+        marks::clear(&mut *scratch);
+        let linked = self.walk_all(&mut *scratch);
+        marks::clear(&mut *scratch);
+        linked
+    }
+
+    // Whether the epoch of every record, met or not, is 1 to 4,000: a part of error 18.
+    pub fn epochs_fit(self) -> bool
+        ensures { result ≡ epochs_fit self.entry.records self.entry.bytes.now }
+    {
+        (1..self.records + 1).all(|k| cluster::ranges::epoch(self.term(k)))
+    }
 }

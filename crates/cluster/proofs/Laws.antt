@@ -1,31 +1,18 @@
--- Checks, the raise, places by replica, and a controller that has heard nothing. Assumes nothing.
-use mathlib.Core.Bool.{Bool, true, false, cond}
+-- Places by replica, and a controller that has heard nothing. Assumes nothing.
 use mathlib.Core.List.{List, ◌∷◌}
-use mathlib.Core.Path.{◌≡◌, refl, sym, ap, ◌∙◌, fun_ext}
+use mathlib.Core.Path.{◌≡◌, refl, ap, ◌∙◌, fun_ext}
 use Prim.Native.Nat.{ℕ, zero, suc, ◌-◌, ◌≤◌}
 use native.Mathlib.Omega.{arith}
-use lib.Dec.{T, ltb}
 use lib.ListN.{length, get_or, set, replicate}
 use lib.Seq.{get_or-set_same, get_or-set_other}
 use borrow.Author.Tests.{ne_eqb}
 use Rattle.model.specs.Prelude.{upd}
-use Rattle.model.specs.Members.{is_replica}
 use Rattle.model.specs.State.{zeros}
 use Rattle.model.specs.Steps.{deaf}
-use Rattle.model.proofs.Tests.{at-or, eqb_same, is_true}
-use Rattle.model.proofs.Quorum.{replica-range}
+use Rattle.model.proofs.Tests.{at-or, eqb_same}
 use Rattle.cluster.specs.declared.View.{View}
 use Rattle.cluster.specs.declared.Stage.{Stage}
 use Rattle.cluster.specs.Layout.{view_of, stage_of, at, controller_of}
-
--- A choice whose first branch need be known only where it is taken.
-pub guarded : {A : Type 0} (t : Bool) (x y z : A) → (t ≡ true → x ≡ y) → cond t x z ≡ cond t y z
-guarded true x y z f = f refl
-guarded false x y z f = refl
-
--- What a passed raise makes of an epoch.
-pub raise-passed : (e up : ℕ) → up ≡ cond (ltb e 4000) (suc e) e → T (ltb e 4000) → up ≡ suc e
-raise-passed e up h t = h ∙ ap (λ u. cond u (suc e) e) (is_true (ltb e 4000) t)
 
 -- A list of what is found outside it.
 pub get_d-same : {A : Type 0} (d : A) (n i : ℕ) → get_or (replicate n d) i d ≡ d
@@ -44,12 +31,6 @@ deaf-of v g =
 -- What a replica's number finds in a list.
 pub at-index : {A : Type 0} (d : A) (xs : List A) (b : ℕ) → 1 ≤ b → at d xs b ≡ get_or xs (b - 1) d
 at-index d xs b h = let p : b ≡ suc (b - 1) = omega arith in ap (λ n. get_or (d ∷ xs) n d) p
-
--- What stands at the seat k of b, if b is a replica, is b's.
-pub at-seat : {A : Type 0} (d : A) (xs : List A) (b k : ℕ) → (is_replica b ≡ true → k ≡ b) → T (is_replica b)
-    → get_or xs (k - 1) d ≡ at d xs b
-at-seat d xs b k seat t =
-    ap (λ x. get_or xs (x - 1) d) (seat (is_true (is_replica b) t)) ∙ sym (at-index d xs b (replica-range b t).0)
 
 -- A write at a replica's place is the model's point update.
 pub at_set : {A : Type 0} (d : A) (xs : List A) (b : ℕ) (v : A) → 1 ≤ b → b ≤ 8 → length xs ≡ 8

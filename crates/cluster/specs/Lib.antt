@@ -1,3 +1,5 @@
 pub mod Layout
 pub mod Parts
 pub mod Stages
+pub mod Ended
+pub mod Codes

@@ -7,9 +7,7 @@ use Rattle.model.specs.Steps.{Step, answer_of, behind, step, with_registry, with
 use Rattle.members.specs.Mask.{bits}
 use Rattle.cluster.specs.declared.Registry.{Registry}
 use Rattle.cluster.specs.declared.Controller.{Controller}
-use Rattle.cluster.specs.declared.Ruled.{Ruled}
-use Rattle.cluster.specs.declared.Told.{Told}
-use Rattle.cluster.specs.declared.Settled.{Settled}
+use Rattle.cluster.specs.Ended.{Ruled, Told, Settled}
 use Rattle.cluster.specs.Layout.{registry_of, controller_of}
 
 -- The registry r, and what the step st of any state that has it answers and leaves.

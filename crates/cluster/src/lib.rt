@@ -1,11 +1,15 @@
-// A row as the hub keeps it, what a step answers and leaves, and what the crates of steps share: seats, checks, epochs,
-// words by number. Refusal 1 of a row's numbers stands in ranges.
+// A row as the hub keeps it, and its parts. Refusal 1 of a row's numbers stands in ranges.
 #![tactic(auto)]
 
-ghost use Rattle.std.specs.Prelude.{◌≡◌, true, cond, ◌≤◌, suc, ltb};
+ghost use Rattle.std.specs.Prelude.{◌≡◌};
 ghost use Rattle.model.specs.Members as Q;
 ghost use Rattle.model.specs.State as M;
-ghost use Rattle.cluster.specs.Layout.{status_of, stage_of};
+ghost use Rattle.model.specs.Steps as S;
+ghost use Rattle.cluster.specs.Layout.{status_of, stage_of, view_of, controller_of, at, at_pair, no_view};
+ghost use Rattle.cluster.specs.Codes.{status_in, stage_in};
+
+use members::Board;
+use refusal::Refusal;
 
 pub mod ranges;
 
@@ -19,19 +23,65 @@ pub struct View {
     pub members: u8,
 }
 
-#[derive(Clone, Copy)]
+// Numbered in document 01's order, as an image has them.
+#[derive(Clone, Copy, Debug, PartialEq, Eq)]
 pub enum Status {
-    Normal,
-    Waiting,
-    Choosing,
+    Normal = 0,
+    Waiting = 1,
+    Choosing = 2,
 }
 
-#[derive(Clone, Copy)]
+#[derive(Clone, Copy, Debug, PartialEq, Eq)]
 pub enum Stage {
-    Idle,
-    Leader,
-    Boards,
-    Choosing,
+    Idle = 0,
+    Leader = 1,
+    Boards = 2,
+    Choosing = 3,
+}
+
+// By number; refusal 18 of an image past the last.
+impl TryFrom<u8> for Status {
+    type Error = Refusal;
+
+    ghost try_from_gives = { λ n r. r ≡ status_in n };
+
+    fn try_from(n: u8) -> Result<Status, Refusal> {
+        match n {
+            0 => Ok(Status::Normal),
+            1 => Ok(Status::Waiting),
+            2 => Ok(Status::Choosing),
+            _ => Err(Refusal::ImageNumber),
+        }
+    }
+}
+
+impl TryFrom<u8> for Stage {
+    type Error = Refusal;
+
+    ghost try_from_gives = { λ n r. r ≡ stage_in n };
+
+    fn try_from(n: u8) -> Result<Stage, Refusal> {
+        match n {
+            0 => Ok(Stage::Idle),
+            1 => Ok(Stage::Leader),
+            2 => Ok(Stage::Boards),
+            3 => Ok(Stage::Choosing),
+            _ => Err(Refusal::ImageNumber),
+        }
+    }
+}
+
+// Step 10: the controller's stage for the registry's status.
+impl From<Status> for Stage {
+    ghost from_gives = { λ g r. stage_of r ≡ M.stage_for (status_of g) };
+
+    fn from(g: Status) -> Stage {
+        match g {
+            Status::Normal => Stage::Idle,
+            Status::Waiting => Stage::Leader,
+            Status::Choosing => Stage::Choosing,
+        }
+    }
 }
 
 #[derive(Clone, Copy)]
@@ -49,6 +99,28 @@ pub struct Controller {
     pub joined: [u16; 8],
 }
 
+impl Controller {
+    // The controller of this view and stage that has heard nothing.
+    pub fn deaf(view: View, stage: Stage) -> Controller
+        ensures { controller_of result ≡ S.deaf (view_of view) (stage_of stage) }
+    {
+        Controller {
+            view,
+            stage,
+            heard: [0; 8],
+            joined: [0; 8],
+        }
+    }
+
+    // Whether x ranks above b as they are heard: "by joined epoch first, then length".
+    pub fn ranks_above(&self, x: Board, b: Board) -> bool
+        ensures { result ≡ S.above (controller_of self.now) b.number x.number }
+    {
+        let (x, b) = (x.index(), b.index());
+        (self.joined[b], self.heard[b]) < (self.joined[x], self.heard[x])
+    }
+}
+
 // A row of document 01. By replica, 1 first: its view, its joined epoch, the length of its log; acked has a's count for
 // b at 8 (a - 1) + b - 1. Then the number of receipts. The entries stand in the lent places.
 #[derive(Clone, Copy)]
@@ -62,97 +134,43 @@ pub struct Cluster {
     pub issued: u16,
 }
 
-// What a step answers, the members behind it as a mask (the empty set for a refused step and for one that asks no
-// majority), and the row it leaves.
-#[derive(Clone, Copy)]
-pub struct Outcome {
-    pub answer: u8,
-    pub behind: u8,
-    pub row: Cluster,
-}
+// What a row has of a replica: its view, its joined epoch, the length of its log; and what one has counted of another.
+impl Cluster {
+    pub fn view(&self, b: Board) -> View
+        ensures { result ≡ at no_view self.now.views b.number }
+    {
+        self.views[b.index()]
+    }
 
-// What a step of the registry answers, and the registry it leaves.
-#[derive(Clone, Copy)]
-pub struct Ruled {
-    pub answer: u8,
-    pub registry: Registry,
-}
+    pub fn joined(&self, b: Board) -> u16
+        ensures { result ≡ at 0 self.now.joined b.number }
+    {
+        self.joined[b.index()]
+    }
 
-// What a step of the controller answers, and the controller it leaves.
-#[derive(Clone, Copy)]
-pub struct Told {
-    pub answer: u8,
-    pub controller: Controller,
-}
+    pub fn len(&self, b: Board) -> u16
+        ensures { result ≡ at 0 self.now.len b.number }
+    {
+        self.len[b.index()]
+    }
 
-// What a step of both answers, the members behind it, and what it leaves; `steps_central` has every step of either in
-// this form.
-#[derive(Clone, Copy)]
-pub struct Settled {
-    pub answer: u8,
-    pub behind: u8,
-    pub registry: Registry,
-    pub controller: Controller,
+    pub fn acked(&self, a: Board, b: Board) -> u16
+        ensures { result ≡ at_pair self.now.acked a.number b.number }
+    {
+        self.acked[8 * a.index() + b.index()]
+    }
 }
 
 // Whether b is a replica.
 pub fn replica(b: u8) -> bool
     ensures { result ≡ Q.is_replica b }
 {
-    1 <= b && b <= 8
-}
-
-// A replica in any case, and b if b is one: so that a refused number is no index either.
-pub fn seat(b: u8) -> u8
-    ensures { (1 ≤ result) × (result ≤ 8) × (Q.is_replica b ≡ true → result ≡ b) }
-{
-    (b % 16 + 7) % 8 + 1
-}
-
-// A check: what follows where it passes, else its refusal.
-pub fn check(ok: bool, next: u8, code: u8) -> u8
-    ensures { result ≡ cond ok next code }
-{
-    if ok { next } else { code }
-}
-
-// The epoch after a raise. 4,000 stays: check 7 refuses there.
-pub fn raised(e: u16) -> u16
-    ensures { result ≡ cond (ltb e 4000) (suc e) e }
-{
-    if e < 4000 { e + 1 } else { e }
-}
-
-// Whether the registry is choosing.
-pub fn choosing(g: Status) -> bool
-    ensures { result ≡ M.is_choosing (status_of g) }
-{
-    match g {
-        Status::Normal => false,
-        Status::Waiting => false,
-        Status::Choosing => true,
-    }
-}
-
-// Whether the registry is normal.
-pub fn normal(g: Status) -> bool
-    ensures { result ≡ M.is_normal (status_of g) }
-{
-    match g {
-        Status::Normal => true,
-        Status::Waiting => false,
-        Status::Choosing => false,
-    }
+    Board::new(b).is_ok()
 }
 
 // A stage by its place in document 01's list.
 pub fn number(g: Stage) -> u8
     ensures { result ≡ M.stage_number (stage_of g) }
 {
-    match g {
-        Stage::Idle => 0,
-        Stage::Leader => 1,
-        Stage::Boards => 2,
-        Stage::Choosing => 3,
-    }
+    g as u8
 }

@@ -5,7 +5,7 @@ use Rattle.model.specs.Records.{Record}
 use Rattle.text.specs.Text.{Text, over}
 use Rattle.records.specs.Bytes.{sheet_bytes}
 use Rattle.recovery.specs.Plan.{Plan, found, error}
-use Rattle.delivery.specs.declared.Planned.{Planned}
+use Rattle.delivery.specs.Planned.{Planned}
 
 -- A whole draft as a list: error 20 where something was met that is it, or "there are more than 2,064".
 abbrev pub delivered : Bool → List Record → Plan

@@ -12,7 +12,7 @@ use Rattle.cluster.specs.declared.Cluster.{Cluster}
 use Rattle.cluster.specs.Layout.{outline_of}
 use Rattle.refinement.specs.Refinement.{Places, Full, Shape}
 use Rattle.shown.proofs.Valid.{ready}
-use Rattle.pieces.specs.Pieces.{Fit}
+use Rattle.pieces.specs.Fitting.{Fit}
 
 pub ranged-fit : (row : Cluster) (p : Places) → Shape row → in_range (outline_of row) ≡ true → Full p → Fit row p
 ranged-fit row p s e f =

@@ -1,219 +1,227 @@
--- The parts of a list on a row: boards in turn, the choosing part, the waiting part, the whole. Assumes nothing.
-use mathlib.Core.Bool.{Bool, true, false, cond, ◌&&◌, true≢false, false≢true}
+-- The parts of a list on a row: the choosing part, the waiting part, the whole. Assumes nothing.
+use mathlib.Core.Bool.{Bool, true, false, ◌&&◌}
+use mathlib.Core.List.{[]}
 use mathlib.Core.Path.{◌≡◌, refl, sym, subst, ap, ap₂, ◌∙◌}
-use Prim.Native.Nat.{ℕ, ◌+◌, ◌-◌, ◌*◌, ◌≤◌}
-use native.Mathlib.Numerals.{add-one}
+use Prim.Native.Nat.{ℕ, ◌-◌, ◌≤◌}
 use native.Mathlib.Omega.{arith}
+use Rattle.std.specs.Prelude.{Result, Ok, Err}
+use Rattle.refusal.specs.declared.Refusal.{Refusal}
+use Rattle.refusal.specs.declared.Refusal.TheVariants.{NoPlan}
 use Rattle.model.specs.Prelude.{upd}
-use Rattle.model.specs.Members.{Members, size, quorum}
-use Rattle.model.specs.State.{Entry, entries, RowState, Status, normal, waiting, is_normal, is_choosing}
+use Rattle.model.specs.Members.{Members, is_replica, size, quorum}
+use Rattle.model.specs.State.{Entry, entries, RowState, Status, normal, waiting}
 use Rattle.model.specs.Records.{bare, of}
 use Rattle.members.specs.Mask.{bits}
-use Rattle.cluster.specs.declared.Cluster.{Cluster}
 use Rattle.cluster.specs.Layout.{controller_of}
-use Rattle.refinement.specs.Refinement.{Places, abs}
 use Rattle.text.specs.Text.{Text}
-use Rattle.recovery.specs.Plan.{first_of, highest, start, turns, found, error, put, put_unless, need, informs_controller, hears, choosing_part, informs, follows, reads_leader, waiting_part, draft, plan}
-use Rattle.recovery.specs.Plan as P
-use Rattle.orders.specs.Orders.{orders}
-use Rattle.pieces.specs.declared.Draft.{Draft}
-use Rattle.pieces.specs.Pieces.{Fit, Stands, Moves}
-use Rattle.pieces.proofs.Standing.{moves-as, moves-none, moves-then}
-use Rattle.delivery.specs.declared.Planned.{Planned}
+use Rattle.refinement.specs.Refinement.{abs}
+use Rattle.refinement.specs.Lent.{places_in}
+use Rattle.recovery.specs.Plan.{Draft, first_of, highest, start, turns, error, put, put_unless, need, informs_controller, hears, choosing_part, informs, follows, reads_leader, waiting_part, draft, plan}
+use Rattle.orders.specs.Orders.{noted}
+use Rattle.delivery.specs.Planned.{Planned, planned}
 use Rattle.delivery.specs.Delivery.{delivered, Gives}
-use Rattle.drafting.specs.Drafting.{Drafted}
+use Rattle.pieces.specs.declared.Sketch.{Sketch}
+use Rattle.pieces.specs.Pieces.{Stands, Moves}
+use Rattle.pieces.proofs.Sinking.{Sinks, sinks-put, sinks-unless, sinks-need, sinks-turns, sinks-informs, sinks-follows, sinks-reads-leader}
+use Rattle.pieces.proofs.Standing.{moves-as, moves-none, moves-then, moves-stop, moves-error}
+use Rattle.drafting.proofs.Turning.{moves-within}
 
--- A board that has no turn, and one that has.
-module _ (k : ℕ) (q b : ℕ) (f : P.Draft Entry → P.Draft Entry) (d : Draft) (p : Places) (o : Text) where
-  pub no-turn : bits q b ≡ false → Fit d.row p → Moves k (λ m. cond (bits q b) (f m) m) d p o d p o
-  no-turn e h = moves-as (λ m s. ap (λ t. cond t (f m) m) (sym e)) (moves-none k d p o h)
+-- The choosing part, of the boards q: up to the last hearing, and whole.
+unfoldable pub heard : Members → Draft Entry → Draft Entry
+heard q m = turns 8 q (hears entries) (put_unless entries 12 (bare 10) m)
 
-  pub one-turn : bits q b ≡ true → {x : Draft} {p' : Places} {o' : Text} → Moves k f d p o x p' o'
-      → Moves k (λ m. cond (bits q b) (f m) m) d p o x p' o'
-  one-turn e h = moves-as (λ m s. ap (λ t. cond t (f m) m) (sym e)) h
+chosen : Members → Draft Entry → Draft Entry
+chosen q m = put entries (of 15 (highest (heard q m).state.controller q)) (heard q m)
 
--- Boards in turn: none yet, and one more.
-module _ (k : ℕ) (q : Members) (f : ℕ → P.Draft Entry → P.Draft Entry) (d : Draft) (p : Places) (o : Text) where
-  pub turns-none : Fit d.row p → Moves 0 (turns 0 q f) d p o d p o
-  unfolding turns
-  turns-none h = moves-none 0 d p o h
+and-false : (b : Bool) → (b && false) ≡ false
+and-false true = refl
+and-false false = refl
 
-  pub turns_more : (n b : ℕ) {e x : Draft} {p₁ p₂ : Places} {o₁ o₂ : Text} → Moves n (turns b q f) d p o e p₁ o₁
-      → Moves k (λ m. cond (q (b + 1)) (f (b + 1) m) m) e p₁ o₁ x p₂ o₂
-      → Moves (n + k) (turns (b + 1) q f) d p o x p₂ o₂
-  unfolding turns
-  turns_more n b h j = rw (add-one b) (moves-then h (rw (add-one b) at j))
+-- What is no replica is not installed.
+unnamed : (m : Draft Entry) (n : ℕ) → is_replica n ≡ false → (put entries (of 15 n) m).sound ≡ false
+unfolding put
+unnamed m n e = rw e (and-false m.sound)
 
-  -- All of them had their turn.
-  pub turns-all : (b : ℕ) → b ≡ 8 → {x : Draft} {p' : Places} {o' : Text} → Moves (k * b) (turns b q f) d p o x p' o'
-      → Moves (k * 8) (turns 8 q f) d p o x p' o'
-  turns-all b e {x} {p'} {o'} h = subst (λ n. Moves (k * n) (turns n q f) d p o x p' o') e h
-
--- Fewer orders are as many at most.
-pub moves-within : {k : ℕ} {f : P.Draft Entry → P.Draft Entry} {d d' : Draft} {p p' : Places} {o o' : Text} (n : ℕ)
-    → k ≤ n → Moves k f d p o d' p' o' → Moves n f d p o d' p' o'
-moves-within n h j = record { fit = j.fit; room = j.room; few = omega (arith, h, j.few); stands = j.stands }
-
--- A test of a draft more, which adds nothing.
-pub need-moves : (t : Bool) (d : Draft) (p : Places) (o : Text) → Fit d.row p
-    → Moves 0 (need entries t) d p o (record { row = d.row; count = d.count; ok = d.ok && t }) p o
-unfolding need
-need-moves t d p o f = record {
-  fit = f;
-  room = refl;
-  few = omega arith;
-  stands = λ m s. record {
-    plays = record { state = s.plays.state; sound = ap (λ u. u && t) s.plays.sound };
-    records = s.records;
-  };
-}
-
--- The choosing part, of the boards q.
-chosen : Members → P.Draft Entry → P.Draft Entry
-chosen q m = let e = turns 8 q (hears entries) (informs_controller entries m) in
-    put entries (of 15 (highest e.state.controller q)) e
-
-module _ (d : Draft) (p : Places) (o : Text) where
+module _ (s : Sketch) (q : ℕ) where
   abbrev members : Members
-  members = bits d.row.registry.view.members
+  members = bits s.row.registry.view.members
 
-  pub choosing-moves : (q : ℕ) → bits q ≡ first_of (quorum (size members)) members
-      → {e f x : Draft} {p₁ p₂ p₃ : Places} {o₁ o₂ o₃ : Text}
-      → Moves 1 (put_unless entries 12 (bare 10)) d p o e p₁ o₁
-      → Moves 16 (turns 8 (bits q) (hears entries)) e p₁ o₁ f p₂ o₂
-      → (b : ℕ) → b ≡ highest (controller_of f.row.controller) (bits q)
-      → Moves 1 (put entries (of 15 b)) f p₂ o₂ x p₃ o₃ → Moves 18 (choosing_part entries) d p o x p₃ o₃
-  unfolding choosing_part chosen informs_controller
-  choosing-moves q eq {e} {f} {x} {p₁} {p₂} {p₃} {o₁} {o₂} {o₃} h j b eb k = record {
-    fit = k.fit;
-    room = k.room ∙ j.room ∙ h.room;
-    few = omega (arith, k.few, j.few, h.few);
-    stands = λ m s.
-        let n = turns 8 (bits q) (hears entries) (put_unless entries 12 (bare 10) m) in
-        let z : Stands n f p₂ o₂ = j.stands _ (h.stands m s) in
-        let named : b ≡ highest n.state.controller (bits q) =
-        eb ∙ ap (λ (t : RowState). highest t.controller (bits q)) z.plays.state in
-        let whole : put entries (of 15 b) n ≡ choosing_part entries m =
-        ap (λ i. put entries (of 15 i) n) named
-        ∙ ap (λ g. chosen g m) (eq ∙ ap (λ (t : RowState). first_of (quorum (size t.registry.view.members))
-        t.registry.view.members) s.plays.state) in
-        subst (λ w. Stands w x p₃ o₃) whole (k.stands n z);
-  }
+  module _ (eq : bits q ≡ first_of (quorum (size members)) members) where
+    chosen-is : (m : Draft Entry) → Stands m s → chosen (bits q) m ≡ choosing_part entries m
+    unfolding choosing_part chosen heard informs_controller
+    chosen-is m j =
+        ap (λ g. chosen g m)
+        (eq ∙ ap (λ (t : RowState). first_of (quorum (size t.registry.view.members)) t.registry.view.members)
+        j.plays.state)
 
--- Up to the leader's reading: the controller, the leader l and the members m.
-prepared : ℕ → Members → P.Draft Entry → P.Draft Entry
-prepared l m w = reads_leader entries (informs entries l l (informs_controller entries (need entries (m l) w)))
+    -- Error 20 before an install,
+    pub choosing-stop : {t : Sketch} {e : Refusal} → Moves 17 (heard (bits q)) s (Err e) t
+        → {y : Result (Unit {0}) Refusal} → y ≡ Err e → Moves 18 (choosing_part entries) s y t
+    unfolding chosen
+    choosing-stop h i =
+        moves-as chosen-is
+        (moves-stop 1 (λ m. put entries (of 15 (highest m.state.controller (bits q))) m)
+        (λ m. sinks-put (of 15 (highest m.state.controller (bits q))) m) i h)
 
-pub prepare-moves : (l m : ℕ) {d e f x : Draft} {p p₁ p₂ p₃ : Places} {o o₁ o₂ o₃ : Text} → Fit d.row p
-    → (t : Bool) → t ≡ bits m l
-    → Moves 1 (put_unless entries 12 (bare 10)) (record { row = d.row; count = d.count; ok = d.ok && t }) p o e p₁ o₁
-    → Moves 1 (informs entries l l) e p₁ o₁ f p₂ o₂
-    → Moves 1 (reads_leader entries) f p₂ o₂ x p₃ o₃
-    → Moves 3 (λ w. reads_leader entries (informs entries l l (informs_controller entries (need entries (bits m l) w))))
-    d p o x p₃ o₃
-unfolding informs_controller
-prepare-moves l m {d} {p = p} {o = o} fit t e me mf mx =
-    moves-as (λ w s. ap (λ u. reads_leader entries (informs entries l l (informs_controller entries (need entries u w)))) e)
-    (moves-then (moves-then (moves-then (need-moves t d p o fit) me) mf) mx)
+    module _ {t : Sketch} {v : Unit {0}} (h : Moves 17 (heard (bits q)) s (Ok v) t) where
+      named : (b : ℕ) → b ≡ highest (controller_of t.row.controller) (bits q) → (m : Draft Entry) → Stands m s
+          → b ≡ highest (heard (bits q) m).state.controller (bits q)
+      named b e m j =
+          e ∙ ap (λ (w : RowState). highest w.controller (bits q)) (h.stands m j).plays.state
 
--- The waiting part, for the leader l, the members m and the boards q.
-waited : ℕ → Members → Members → P.Draft Entry → P.Draft Entry
+      -- no one to install,
+      pub choosing-no-one : is_replica (highest (controller_of t.row.controller) (bits q)) ≡ false
+          → {y : Result (Unit {0}) Refusal} → y ≡ Err NoPlan → Moves 18 (choosing_part entries) s y t
+      unfolding chosen
+      choosing-no-one e i = moves-error i (omega (arith, h.few)) (λ m j.
+          ap (λ (d : Draft Entry). d.sound) (sym (chosen-is m j))
+          ∙ unnamed (heard (bits q) m) _ (ap is_replica (sym (named _ refl m j)) ∙ e))
+
+      -- and an install.
+      pub choosing-moves : (b : ℕ) → b ≡ highest (controller_of t.row.controller) (bits q)
+          → {u : Sketch} {y : Result (Unit {0}) Refusal} → Moves 1 (put entries (of 15 b)) t y u
+          → Moves 18 (choosing_part entries) s y u
+      unfolding chosen
+      choosing-moves b e k =
+          moves-as (λ m j. ap (λ i. put entries (of 15 i) (heard (bits q) m)) (named b e m j) ∙ chosen-is m j)
+          (moves-then h k)
+
+-- The waiting part, for the leader l, the members m and the boards q: up to the leader's reading, and whole.
+
+unfoldable pub prepared : ℕ → Members → Draft Entry → Draft Entry
+prepared l m w = reads_leader entries (informs entries l l (put_unless entries 12 (bare 10) (need entries (m l) w)))
+
+unfoldable pub waited : ℕ → Members → Members → Draft Entry → Draft Entry
 unfolding prepared
 waited l m q w = put entries (bare 13) (turns 8 q (follows entries l) (prepared l m w))
 
-module _ (d : Draft) (p : Places) (o : Text) where
-  abbrev leader : ℕ
-  leader = d.row.registry.view.leader
+-- What is left of it after the first test, after the controller's news, the leader's news, and the leader's reading.
 
-  pub waiting-moves : (q : ℕ) → bits q ≡ first_of (quorum (size (members d p o)) - 1) (upd (members d p o) leader false)
-      → {e f x : Draft} {p₁ p₂ p₃ : Places} {o₁ o₂ o₃ : Text}
-      → Moves 3 (λ w. reads_leader entries (informs entries leader leader
-      (informs_controller entries (need entries (members d p o leader) w)))) d p o e p₁ o₁
-      → Moves 32 (turns 8 (bits q) (follows entries leader)) e p₁ o₁ f p₂ o₂
-      → Moves 1 (put entries (bare 13)) f p₂ o₂ x p₃ o₃
-      → Moves 36 (waiting_part entries) d p o x p₃ o₃
-  unfolding waiting_part waited prepared
-  waiting-moves q eq me mf mx =
-      moves-as (λ w s.
-      ap (λ r. waited leader (members d p o) r w) eq
-      ∙ ap (λ (t : RowState).
-      let l = t.registry.view.leader in
-      let m = t.registry.view.members in
-      waited l m (first_of (quorum (size m) - 1) (upd m l false)) w) s.plays.state)
-      (moves-then (moves-then me mf) mx)
+abbrev pub after_test : ℕ → Members → Draft Entry → Draft Entry
+after_test l q w =
+    put entries (bare 13)
+    (turns 8 q (follows entries l) (reads_leader entries (informs entries l l (put_unless entries 12 (bare 10) w))))
+
+abbrev pub after_told : ℕ → Members → Draft Entry → Draft Entry
+after_told l q w = put entries (bare 13) (turns 8 q (follows entries l) (reads_leader entries (informs entries l l w)))
+
+abbrev pub after_informed : ℕ → Members → Draft Entry → Draft Entry
+after_informed l q w = put entries (bare 13) (turns 8 q (follows entries l) (reads_leader entries w))
+
+abbrev pub after_read : ℕ → Members → Draft Entry → Draft Entry
+after_read l q w = put entries (bare 13) (turns 8 q (follows entries l) w)
+
+module _ (l : ℕ) (q : Members) where
+  pub sinks-read : Sinks (after_read l q)
+  sinks-read m e =
+      sinks-put (bare 13) _ (sinks-turns 8 q (follows entries l) (sinks-follows l) m e)
+
+  pub sinks-informed : Sinks (after_informed l q)
+  sinks-informed m e = sinks-read _ (sinks-reads-leader m e)
+
+  pub sinks-told : Sinks (after_told l q)
+  sinks-told m e = sinks-informed _ (sinks-informs l l m e)
+
+  sinks-tested : Sinks (after_test l q)
+  sinks-tested m e = sinks-told _ (sinks-unless 12 (bare 10) m e)
+
+-- A test of a draft that holds adds nothing.
+pub need-moves : (t : Bool) (s : Sketch) → t ≡ true → Moves 0 (need entries t) s (Ok tt) s
+unfolding need
+need-moves t s e = record {
+  few = omega arith;
+  stands = λ m j. record {
+    plays = record { state = j.plays.state; sound = ap₂ ◌&&◌ j.plays.sound e };
+    records = j.records;
+  };
+}
+
+need-error : (m : Draft Entry) → (need entries false m).sound ≡ false
+unfolding need
+need-error m = and-false m.sound
+
+module _ (s : Sketch) (l : ℕ) (el : l ≡ s.row.registry.view.leader) where
+  -- The leader is no member.
+  pub waiting-unled : bits s.row.registry.view.members l ≡ false → {y : Result (Unit {0}) Refusal} → y ≡ Err NoPlan
+      → Moves 36 (waiting_part entries) s y s
+  unfolding waiting_part informs_controller
+  waiting-unled e i = moves-error i (omega arith) (λ m j.
+      let r = m.state.registry.view in
+      let q = first_of (quorum (size r.members) - 1) (upd r.members r.leader false) in
+      let no : r.members r.leader ≡ false =
+      sym (ap (λ (t : RowState). t.registry.view.members t.registry.view.leader) j.plays.state)
+      ∙ ap (bits s.row.registry.view.members) (sym el) ∙ e in
+      sinks-tested r.leader q (need entries (r.members r.leader) m)
+      (ap (λ t. (need entries t m).sound) no ∙ need-error m))
+
+  module _ (q : ℕ) (eq : bits q ≡ first_of (quorum (size (members s q)) - 1) (upd (members s q) l false)) where
+    waited-is : (m : Draft Entry) → Stands m s → waited l (members s q) (bits q) m ≡ waiting_part entries m
+    unfolding waiting_part waited prepared informs_controller
+    waited-is w j =
+        ap (λ r. waited l (members s q) r w) eq
+        ∙ ap (λ k. waited k (members s q) (first_of (quorum (size (members s q)) - 1) (upd (members s q) k false)) w) el
+        ∙ ap (λ (t : RowState).
+        let k = t.registry.view.leader in
+        let m = t.registry.view.members in
+        waited k m (first_of (quorum (size m) - 1) (upd m k false)) w) j.plays.state
+
+    -- Error 20 on the way, with the rest g still to come,
+    pub waiting-stop : {k : ℕ} {f : Draft Entry → Draft Entry} {t : Sketch} {e : Refusal} (g : Draft Entry → Draft Entry)
+        → Sinks g → ((w : Draft Entry) → g (f w) ≡ waited l (members s q) (bits q) w) → k ≤ 36 → Moves k f s (Err e) t
+        → {y : Result (Unit {0}) Refusal} → y ≡ Err e → Moves 36 (waiting_part entries) s y t
+    waiting-stop {k} g sinks is h j i =
+        moves-as (λ m w. is m ∙ waited-is m w) (moves-within 36 (omega arith) (moves-stop 0 g sinks i j))
+
+    -- and the whole.
+    pub waiting-moves : {t : Sketch} {y : Result (Unit {0}) Refusal}
+        → Moves 36 (waited l (members s q) (bits q)) s y t → Moves 36 (waiting_part entries) s y t
+    waiting-moves h = moves-as waited-is h
+
+-- The whole
 
 -- Nothing is noted yet.
-pub start-stands : (row : Cluster) (p : Places) (o : Text)
-    → Stands (start (abs row p)) (record { row = row; count = 0; ok = true }) p o
-unfolding orders
-start-stands row p o = record { plays = record { state = refl; sound = refl }; records = refl }
+pub start-stands : (s : Sketch) → noted s.orders ≡ [] → Stands (start (abs s.row (places_in s.places))) s
+start-stands s e = record { plays = record { state = refl; sound = refl }; records = e }
 
 -- The part that a status asks for.
-module _ (s : RowState) (d : P.Draft Entry) where
-  abbrev status : Status
-  status = s.registry.status
+pub draft-normal : {s : Sketch} (g : Status) → g ≡ normal → Moves 54 (draft entries g) s (Ok tt) s
+unfolding draft
+draft-normal {s} g e = subst (λ h. Moves 54 (draft entries h) s (Ok tt) s) (sym e) (moves-none 54 s)
 
-  when-normal : (g : Status) → is_normal g ≡ true → draft entries g d ≡ d
+module _ {s t : Sketch} {y : Result (Unit {0}) Refusal} where
+  pub draft-waiting : (g : Status) → g ≡ waiting → Moves 36 (waiting_part entries) s y t → Moves 54 (draft entries g) s y t
   unfolding draft
-  when-normal normal e = refl
-  when-normal waiting e = absurd (false≢true e)
-  when-normal Status.choosing e = absurd (false≢true e)
+  draft-waiting g e h = subst (λ i. Moves 54 (draft entries i) s y t) (sym e) (moves-within 54 (omega arith) h)
 
-  when-choosing : (g : Status) → is_choosing g ≡ true
-      → draft entries g d ≡ waiting_part entries (choosing_part entries d)
+  pub draft-choosing : (g : Status) → g ≡ Status.choosing
+      → Moves 54 (λ m. waiting_part entries (choosing_part entries m)) s y t → Moves 54 (draft entries g) s y t
   unfolding draft
-  when-choosing normal e = absurd (false≢true e)
-  when-choosing waiting e = absurd (false≢true e)
-  when-choosing Status.choosing e = refl
+  draft-choosing g e h = subst (λ i. Moves 54 (draft entries i) s y t) (sym e) h
 
-  when-waiting : (g : Status) → is_normal g ≡ false → is_choosing g ≡ false → draft entries g d ≡ waiting_part entries d
-  unfolding draft
-  when-waiting normal e f = absurd (true≢false e)
-  when-waiting waiting e f = refl
-  when-waiting Status.choosing e f = absurd (true≢false f)
+pub sinks-waiting : Sinks (waiting_part entries)
+unfolding waiting_part informs_controller
+sinks-waiting m e =
+    let r = m.state.registry.view in
+    sinks-tested r.leader (first_of (quorum (size r.members) - 1) (upd r.members r.leader false)) _
+    (sinks-need (r.members r.leader) m e)
 
-module _ (row : Cluster) (p : Places) (o : Text) where
-  abbrev first : Draft
-  first = record { row = row; count = 0; ok = true }
+module _ (w : RowState) where
+  drafted : Draft Entry
+  drafted = draft entries w.registry.status (start w)
 
-  abbrev stood : RowState
-  stood = abs row p
+  -- What was made is the list of the state,
+  pub gives-plan : (s : Sketch) → Stands (draft entries w.registry.status (start w)) s
+      → {out out' : Text} {x : Planned} → Gives (delivered true (noted s.orders)) out x out' → Gives (plan entries w) out x out'
+  unfolding plan
+  gives-plan s j {out} {out'} {x} g =
+      subst (λ q. Gives q out x out') (ap₂ delivered (sym j.plays.sound) j.records) g
 
-  pub drafts-nothing : is_normal stood.registry.status ≡ true → Drafted stood o first p o
-  drafts-nothing e = record {
-    room = refl;
-    few = omega arith;
-    stands = subst (λ m. Stands m first p o) (sym (when-normal stood (start stood) _ e)) (start-stands row p o);
-  }
-
-  pub drafts-both : is_choosing stood.registry.status ≡ true → {e x : Draft} {p₁ p₂ : Places} {o₁ o₂ : Text}
-      → Moves 18 (choosing_part entries) first p o e p₁ o₁ → Moves 36 (waiting_part entries) e p₁ o₁ x p₂ o₂
-      → Drafted stood o x p₂ o₂
-  drafts-both t {x = x} {p₂ = p₂} {o₂ = o₂} h k = record {
-    room = k.room ∙ h.room;
-    few = omega (arith, k.few, h.few);
-    stands = subst (λ m. Stands m x p₂ o₂) (sym (when-choosing stood (start stood) _ t))
-        (k.stands _ (h.stands _ (start-stands row p o)));
-  }
-
-  pub drafts-waiting : is_normal stood.registry.status ≡ false → is_choosing stood.registry.status ≡ false
-      → {x : Draft} {p₁ : Places} {o₁ : Text} → Moves 36 (waiting_part entries) first p o x p₁ o₁
-      → Drafted stood o x p₁ o₁
-  drafts-waiting t u {x} {p₁} {o₁} h = record {
-    room = h.room;
-    few = omega (arith, h.few);
-    stands = subst (λ m. Stands m x p₁ o₁) (sym (when-waiting stood (start stood) _ t u))
-        (h.stands _ (start-stands row p o));
-  }
-
--- What was made is the list of the state.
-plan-is : (s : RowState) (o : Text) {d : Draft} {p' : Places} {o' : Text} → Drafted s o d p' o'
-    → delivered d.ok (orders d.count o') ≡ plan entries s
-unfolding plan
-plan-is s o h = ap₂ delivered h.stands.plays.sound h.stands.records
-
--- And so it is given out.
-pub gives-plan : (s : RowState) (o : Text) {d : Draft} {p' : Places} {o' : Text} → Drafted s o d p' o'
-    → {out out' : Text} {x : Planned} → Gives (delivered d.ok (orders d.count o')) out x out'
-    → Gives (plan entries s) out x out'
-gives-plan s o h {out} {out'} {x} g = subst (λ q. Gives q out x out') (plan-is s o h) g
+  -- or error 20 was met, and the state has none.
+  pub gives-error : {e : Refusal} → (e ≡ NoPlan) × ((draft entries w.registry.status (start w)).sound ≡ false)
+      → {y : Result ℕ Refusal} → y ≡ Err e → {out : Text} → Gives (plan entries w) out (planned y) out
+  unfolding plan drafted
+  gives-error h {y} i {out} =
+      let none : delivered drafted.sound drafted.records ≡ error = ap (λ t. delivered t drafted.records) h.1 in
+      subst (λ z. Gives (plan entries w) out (planned z) out) (sym (i ∙ ap Err h.0))
+      (subst (λ q. Gives q out (planned (Err NoPlan)) out) (sym none)
+      (record { answer = refl; count = refl; left = refl }))

@@ -2,391 +2,94 @@
 // whole. Inner layer: the places are written, so callers lend copies, or places that they have done with.
 #![tactic(auto)]
 
-ghost use Rattle.std.specs.Prelude.{cond, ◌≡◌, ◌+◌, ◌*◌, ◌≤◌, length};
+ghost use Rattle.std.specs.Prelude.{◌≡◌, ◌+◌, ◌≤◌, length};
 ghost use Rattle.model.specs.State.{entries};
-ghost use Rattle.members.specs.Mask.{bits};
-ghost use Rattle.refinement.specs.Refinement.{lent, abs};
+ghost use Rattle.cluster.specs.Layout.{status_of};
+ghost use Rattle.refinement.specs.Refinement.{abs};
+ghost use Rattle.refinement.specs.Lent.{places_in};
 ghost use Rattle.recovery.specs.Plan as P;
-ghost use Rattle.pieces.specs.Pieces.{Fit, Moves};
+ghost use Rattle.pieces.specs.Fitting.{Fit};
+ghost use Rattle.pieces.specs.Pieces.{Moves};
+ghost use Rattle.delivery.specs.Planned.{planned};
 ghost use Rattle.delivery.specs.Delivery.{Gives};
-ghost use Rattle.drafting.specs.Drafting.{Drafted};
 
-use cluster::Cluster;
-use delivery::Planned;
-use pieces::{Draft, follows, hears, informs, put, put_unless, reads_leader};
-
-// News and hearing of b, if it is of q.
-fn hear_one(
-    d: Draft,
-    store: &mut [u32],
-    store2: &mut [u16],
-    list: &mut [u32],
-    list2: &mut [u16],
-    notes: &mut [u8],
-    q: u8,
-    b: u8,
-) -> Draft
-    requires { Fit d.row (lent store.old store2.old list.old list2.old)
-        × (4 * (d.count + 2) ≤ length notes.old) }
-    ensures { Moves 2 (λ m. cond (bits q b) (P.hears entries b m) m)
-        d (lent store.old store2.old list.old list2.old) notes.old
-        result (lent store.new store2.new list.new list2.new) notes.new }
-{
-    if !ranking::contains(q, b) {
-        return d;
-    }
-    hears(
-        d,
-        &mut *store,
-        &mut *store2,
-        &mut *list,
-        &mut *list2,
-        &mut *notes,
-        b,
-    )
-}
-
-// News and hearing of the boards of q, the lowest first.
-fn hear_all(
-    d: Draft,
-    store: &mut [u32],
-    store2: &mut [u16],
-    list: &mut [u32],
-    list2: &mut [u16],
-    notes: &mut [u8],
-    q: u8,
-) -> Draft
-    requires { Fit d.row (lent store.old store2.old list.old list2.old)
-        × (4 * (d.count + 16) ≤ length notes.old) }
-    ensures { Moves 16 (P.turns 8 (bits q) (P.hears entries))
-        d (lent store.old store2.old list.old list2.old) notes.old
-        result (lent store.new store2.new list.new list2.new) notes.new }
-{
-    let mut e = d;
-    let mut b: u8 = 0;
-    while b < 8 {
-        let k = b + 1;
-        e = hear_one(
-            e,
-            &mut *store,
-            &mut *store2,
-            &mut *list,
-            &mut *list2,
-            &mut *notes,
-            q,
-            k,
-        );
-        b = k;
-    }
-    e
-}
-
-// News, join, receives and reading of b for the leader l, if b is of q.
-fn follow_one(
-    d: Draft,
-    store: &mut [u32],
-    store2: &mut [u16],
-    list: &mut [u32],
-    list2: &mut [u16],
-    notes: &mut [u8],
-    q: u8,
-    l: u8,
-    b: u8,
-) -> Draft
-    requires { Fit d.row (lent store.old store2.old list.old list2.old)
-        × (4 * (d.count + 4) ≤ length notes.old) }
-    ensures { Moves 4 (λ m. cond (bits q b) (P.follows entries l b m) m)
-        d (lent store.old store2.old list.old list2.old) notes.old
-        result (lent store.new store2.new list.new list2.new) notes.new }
-{
-    if !ranking::contains(q, b) {
-        return d;
-    }
-    follows(
-        d,
-        &mut *store,
-        &mut *store2,
-        &mut *list,
-        &mut *list2,
-        &mut *notes,
-        l,
-        b,
-    )
-}
-
-// The boards of q follow the leader l, the lowest first.
-fn follow_all(
-    d: Draft,
-    store: &mut [u32],
-    store2: &mut [u16],
-    list: &mut [u32],
-    list2: &mut [u16],
-    notes: &mut [u8],
-    q: u8,
-    l: u8,
-) -> Draft
-    requires { Fit d.row (lent store.old store2.old list.old list2.old)
-        × (4 * (d.count + 32) ≤ length notes.old) }
-    ensures { Moves 32 (P.turns 8 (bits q) (P.follows entries l))
-        d (lent store.old store2.old list.old list2.old) notes.old
-        result (lent store.new store2.new list.new list2.new) notes.new }
-{
-    let mut e = d;
-    let mut b: u8 = 0;
-    while b < 8 {
-        let k = b + 1;
-        e = follow_one(
-            e,
-            &mut *store,
-            &mut *store2,
-            &mut *list,
-            &mut *list2,
-            &mut *notes,
-            q,
-            l,
-            k,
-        );
-        b = k;
-    }
-    e
-}
+use cluster::{Cluster, Status};
+use members::Board;
+use orders::Orders;
+use pieces::{Sketch, Step};
+use refinement::LentMut;
+use refusal::{Refusal, ensure};
 
 // If choosing: from controller news to install.
-fn choosing_part(
-    d: Draft,
-    store: &mut [u32],
-    store2: &mut [u16],
-    list: &mut [u32],
-    list2: &mut [u16],
-    notes: &mut [u8],
-) -> Draft
-    requires { Fit d.row (lent store.old store2.old list.old list2.old)
-        × (4 * (d.count + 18) ≤ length notes.old) }
-    ensures { Moves 18 (P.choosing_part entries)
-        d (lent store.old store2.old list.old list2.old) notes.old
-        result (lent store.new store2.new list.new list2.new) notes.new }
+fn choosing_part(s: &mut Sketch<'_>) -> Result<(), Refusal>
+    requires { s.old.orders.count + 18 ≤ 54 }
+    ensures { Moves 18 (P.choosing_part entries) s.old result s.new }
 {
-    let row = d.row;
-    let g = row.registry;
-    let v = g.view;
-    let q = ranking::first(v.members, members::majority(v.members));
-    let e = put_unless(
-        d,
-        &mut *store,
-        &mut *store2,
-        &mut *list,
-        &mut *list2,
-        &mut *notes,
-        10,
-        0,
-        12,
-    );
-    let f = hear_all(
-        e,
-        &mut *store,
-        &mut *store2,
-        &mut *list,
-        &mut *list2,
-        &mut *notes,
-        q,
-    );
-    let after = f.row;
-    let c = after.controller;
-    let b = ranking::highest(c, q);
-    put(
-        f,
-        &mut *store,
-        &mut *store2,
-        &mut *list,
-        &mut *list2,
-        &mut *notes,
-        15,
-        b,
-    )
-}
-
-// Waiting, for the leader l and the members m: controller news, leader's news, read leader.
-fn prepare(
-    d: Draft,
-    store: &mut [u32],
-    store2: &mut [u16],
-    list: &mut [u32],
-    list2: &mut [u16],
-    notes: &mut [u8],
-    l: u8,
-    m: u8,
-) -> Draft
-    requires { Fit d.row (lent store.old store2.old list.old list2.old)
-        × (4 * (d.count + 3) ≤ length notes.old) }
-    ensures { Moves 3 (λ w. P.reads_leader entries (P.informs entries l l (P.informs_controller entries (P.need entries (bits m l) w))))
-        d (lent store.old store2.old list.old list2.old) notes.old
-        result (lent store.new store2.new list.new list2.new) notes.new }
-{
-    let row = d.row;
-    let start = Draft {
-        row: row,
-        count: d.count,
-        ok: d.ok & ranking::contains(m, l),
-    };
-    let e = put_unless(
-        start,
-        &mut *store,
-        &mut *store2,
-        &mut *list,
-        &mut *list2,
-        &mut *notes,
-        10,
-        0,
-        12,
-    );
-    let f = informs(
-        e,
-        &mut *store,
-        &mut *store2,
-        &mut *list,
-        &mut *list2,
-        &mut *notes,
-        l,
-        l,
-    );
-    reads_leader(
-        f,
-        &mut *store,
-        &mut *store2,
-        &mut *list,
-        &mut *list2,
-        &mut *notes,
-    )
+    let m = s.row.registry.view.members;
+    let q = ranking::first(m, members::majority(m));
+    s.put_unless(Step::RefreshController, Refusal::NothingDue)?;
+    for i in 0..8 {
+        let b = Board::at(i);
+        if members::has(q, b) {
+            s.hears(b)?;
+        }
+    }
+    let b = Board::new(ranking::highest(&s.row.controller, q)).map_err(|_| Refusal::NoPlan)?;
+    s.put(Step::Install(b))
 }
 
 // If waiting: from controller news to set normal.
-fn waiting_part(
-    d: Draft,
-    store: &mut [u32],
-    store2: &mut [u16],
-    list: &mut [u32],
-    list2: &mut [u16],
-    notes: &mut [u8],
-) -> Draft
-    requires { Fit d.row (lent store.old store2.old list.old list2.old)
-        × (4 * (d.count + 36) ≤ length notes.old) }
-    ensures { Moves 36 (P.waiting_part entries)
-        d (lent store.old store2.old list.old list2.old) notes.old
-        result (lent store.new store2.new list.new list2.new) notes.new }
+fn waiting_part(s: &mut Sketch<'_>) -> Result<(), Refusal>
+    requires { s.old.orders.count + 36 ≤ 54 }
+    ensures { Moves 36 (P.waiting_part entries) s.old result s.new }
 {
-    let row = d.row;
-    let g = row.registry;
-    let v = g.view;
-    let l = v.leader;
+    let v = s.row.registry.view;
+    let l = Board::new(v.leader).map_err(|_| Refusal::NoPlan)?;
+    ensure(members::has(v.members, l), Refusal::NoPlan)?;
     let q = ranking::first(
-        ranking::without(v.members, l),
+        members::remove(v.members, l),
         members::majority(v.members) - 1,
     );
-    let e = prepare(
-        d,
-        &mut *store,
-        &mut *store2,
-        &mut *list,
-        &mut *list2,
-        &mut *notes,
-        l,
-        v.members,
-    );
-    let f = follow_all(
-        e,
-        &mut *store,
-        &mut *store2,
-        &mut *list,
-        &mut *list2,
-        &mut *notes,
-        q,
-        l,
-    );
-    put(
-        f,
-        &mut *store,
-        &mut *store2,
-        &mut *list,
-        &mut *list2,
-        &mut *notes,
-        13,
-        0,
-    )
+    s.put_unless(Step::RefreshController, Refusal::NothingDue)?;
+    s.informs(l, l)?;
+    s.reads_leader()?;
+    for i in 0..8 {
+        let b = Board::at(i);
+        if members::has(q, b) {
+            s.follows(l, b)?;
+        }
+    }
+    s.put(Step::SetNormal)
 }
 
-// The whole list of a row. Callers see to the row, the places and the notes.
-fn draft(
-    row: Cluster,
-    store: &mut [u32],
-    store2: &mut [u16],
-    list: &mut [u32],
-    list2: &mut [u16],
-    notes: &mut [u8],
-) -> Draft
-    requires { Fit row (lent store.old store2.old list.old list2.old) × (256 ≤ length notes.old) }
-    ensures { Drafted (abs row (lent store.old store2.old list.old list2.old)) notes.old
-        result (lent store.new store2.new list.new list2.new) notes.new }
+// The whole list: "none if normal. If choosing: ..; then as waiting."
+fn draft(s: &mut Sketch<'_>) -> Result<(), Refusal>
+    requires { s.old.orders.count ≡ 0 }
+    ensures { Moves 54 (P.draft entries (status_of s.old.row.registry.status)) s.old result s.new }
 {
-    let d = Draft {
-        row: row,
-        count: 0,
-        ok: true,
+    match s.row.registry.status {
+        Status::Normal => Ok(()),
+        Status::Waiting => waiting_part(&mut *s),
+        Status::Choosing => {
+            choosing_part(&mut *s)?;
+            waiting_part(&mut *s)
+        }
+    }
+}
+
+// The list of a row, given out in a slice of at least 16,512 bytes, and how many records it has; refusal 20 where there
+// is none. Inner layer: callers see to the row, the places and that room; the places are left as the steps of the list
+// leave them.
+pub fn plan(row: &Cluster, places: LentMut<'_>, out: &mut [u8]) -> Result<usize, Refusal>
+    requires fit { Fit row.now (places_in places) }
+    requires room { 16512 ≤ length out.old }
+    ensures { Gives (P.plan entries (abs row.now (places_in places.entry))) out.old (planned result) out.new }
+{
+    let mut s = Sketch {
+        row: *row,
+        places,
+        orders: Orders::new(),
     };
-    let g = row.registry;
-    let s = g.status;
-    if cluster::normal(s) {
-        return d;
-    }
-    if cluster::choosing(s) {
-        let e = choosing_part(
-            d,
-            &mut *store,
-            &mut *store2,
-            &mut *list,
-            &mut *list2,
-            &mut *notes,
-        );
-        return waiting_part(
-            e,
-            &mut *store,
-            &mut *store2,
-            &mut *list,
-            &mut *list2,
-            &mut *notes,
-        );
-    }
-    waiting_part(
-        d,
-        &mut *store,
-        &mut *store2,
-        &mut *list,
-        &mut *list2,
-        &mut *notes,
-    )
-}
-
-// The list of a row, given out in a slice of at least 16,512 bytes. Inner layer: callers see to the row, the places and
-// that room; the places are left as the steps of the list leave them.
-pub fn plan(
-    row: Cluster,
-    store: &mut [u32],
-    store2: &mut [u16],
-    list: &mut [u32],
-    list2: &mut [u16],
-    out: &mut [u8],
-) -> Planned
-    requires { Fit row (lent store.old store2.old list.old list2.old) × (16512 ≤ length out.old) }
-    ensures { Gives (P.plan entries (abs row (lent store.old store2.old list.old list2.old)))
-        out.old result out.new }
-{
-    let mut notes = [0u8; 256];
-    let d = draft(
-        row,
-        &mut *store,
-        &mut *store2,
-        &mut *list,
-        &mut *list2,
-        &mut notes,
-    );
-    delivery::deliver(d.ok, d.count, &notes, &mut *out)
+    draft(&mut s)?;
+    delivery::deliver(&s.orders, &mut *out)
 }

@@ -1,5 +1,5 @@
--- The generator of document 02, Paper 2, from the single draw up to the records of a sheet. Cited by Drawn, the
--- contracts of draws and generator, and generator's Seeded and Trials. Assumes nothing.
+-- The generator of document 02, Paper 2, from the single draw up to the records of a sheet. Cited by the
+-- contracts of draws and generator, and by generator's Seeded and Trials. Assumes nothing.
 use Rattle.std.specs.Prelude.{ℕ, zero, suc, ◌+◌, ◌*◌, ◌/◌, ◌%◌, ◌^◌, cond, List, [], ◌∷◌, ◌==◌, bit_xor}
 use Rattle.model.specs.Records.{Record, bare, of, of_both, of_value, boardless}
 

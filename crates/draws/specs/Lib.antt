@@ -1,2 +1,1 @@
 pub mod Draws
-pub mod Drawn

@@ -1,47 +1,71 @@
 // The draws of a seed, and the records that are drawn: the opening, and each later one by itself.
 #![tactic(auto)]
 
-ghost use Rattle.std.specs.Prelude.{◌≡◌, ◌≤◌};
-ghost use Rattle.model.specs.Records.{of, boardless};
-ghost use Rattle.draws.specs.Draws.{advance, draw, step_from, board_from, second_board, drawn, draw_record};
-ghost use Rattle.draws.specs.Drawn.{drawn_of};
+ghost use Rattle.std.specs.Prelude.{◌≡◌, ◌+◌, ◌%◌, ◌≤◌};
+ghost use Rattle.model.specs.Records.{of};
+ghost use Rattle.draws.specs.Draws.{advance, draw, board_from, second_board, drawn, draw_record};
+ghost use Rattle.records.specs.Record.{record_of};
 
-use records::Record;
+use records::{Record, boardless};
 
-// A record that was drawn, and the state of its last draw.
-#[derive(Clone, Copy)]
-pub struct Drawn {
-    pub made: Record,
+// The generator, after its last draw.
+#[derive(Clone, Copy, Debug, PartialEq, Eq)]
+pub struct Draws {
     pub state: u32,
 }
 
-// The state of the draw after the one in s.
-fn advance(s: u32) -> u32
-    ensures { result ≡ advance s }
-{
-    std::num::wrapping_add_u32(s, 2654435769)
-}
+impl Draws {
+    // Advances the state and draws from it. The draw is not fed back into the state.
+    #[tactic(auto, using(crate::proofs::Drawing::low_first), unfolding(crate::specs::Draws::advance))]
+    fn next(&mut self) -> u32
+        ensures state { self.new.state ≡ advance self.old.state }
+        ensures drawn { result ≡ draw self.new.state }
+    {
+        self.state = self.state.wrapping_add(2654435769);
+        let t = self.state ^ (self.state >> 16);
+        t ^ (t << 7)
+    }
 
-// The draw that is made in the state s. The state stays as it is: the draw is not fed back.
-fn draw(s: u32) -> u32
-    ensures { result ≡ draw s }
-{
-    let t = s ^ (s >> 16);
-    t ^ (t << 7)
-}
+    // Draws a number, 1 to n.
+    fn next_of(&mut self, n: u8) -> u8
+        requires { 1 ≤ n }
+        ensures state { self.new.state ≡ advance self.old.state }
+        ensures drawn { result ≡ 1 + draw self.new.state % n }
+    {
+        1 + (self.next() % n as u32) as u8
+    }
 
-// A step, drawn in the state s.
-fn step_from(s: u32) -> u8
-    ensures { result ≡ step_from s }
-{
-    1 + (draw(s) % 15) as u8
-}
+    // Draws the opening.
+    pub fn next_opening(&mut self) -> Record
+        ensures { drawn (record_of result) self.new.state
+            ≡ drawn (of 0 (board_from (advance self.old.state))) (advance self.old.state) }
+    {
+        Record {
+            board: self.next_of(8),
+            ..Record::default()
+        }
+    }
 
-// A board, drawn in the state s.
-fn board_from(s: u32) -> u8
-    ensures { result ≡ board_from s }
-{
-    1 + (draw(s) % 8) as u8
+    // Draws a record after the opening. A field that the step does not use is 0 and takes no draw.
+    #[tactic(auto, unfolding(crate::specs::Draws::draw_record))]
+    pub fn next_record(&mut self) -> Record
+        ensures { drawn (record_of result) self.new.state ≡ draw_record self.old.state }
+    {
+        let mut r = Record {
+            step: self.next_of(15),
+            ..Record::default()
+        };
+        if boardless(r.step) {
+            return r;
+        }
+        r.board = self.next_of(8);
+        match r.step {
+            9 => r.other = second_board(r.board, self.next_of(8)),
+            1 => r.value = self.next(),
+            _ => {}
+        }
+        r
+    }
 }
 
 // The second board: b, or the next number where b is the first board a.
@@ -49,69 +73,9 @@ fn second_board(a: u8, b: u8) -> u8
     requires { b ≤ 8 }
     ensures { result ≡ second_board a b }
 {
-    if b != a {
-        return b;
+    match b {
+        _ if b != a => b,
+        8 => 1,
+        _ => b + 1,
     }
-    if b == 8 {
-        return 1;
-    }
-    b + 1
-}
-
-// Whether a step names no board.
-fn boardless(n: u8) -> bool
-    ensures { result ≡ boardless n }
-{
-    (n == 5) | (n == 10) | (n == 11) | (n == 13)
-}
-
-// A record with these fields, and the state of its last draw.
-fn with_fields(n: u8, a: u8, b: u8, v: u32, s: u32) -> Drawn
-    ensures { drawn_of result ≡ drawn (record { step = n; board = a; other = b; spare = 0; value = v }) s }
-{
-    Drawn {
-        made: Record {
-            step: n,
-            board: a,
-            other: b,
-            spare: 0,
-            value: v,
-        },
-        state: s,
-    }
-}
-
-// Draws the opening of the seed s.
-pub fn draw_opening(s: u32) -> Drawn
-    ensures { drawn_of result ≡ drawn (of 0 (board_from (advance s))) (advance s) }
-{
-    let t = advance(s);
-    let b = board_from(t);
-    with_fields(0, b, 0, 0, t)
-}
-
-// Draws a record after the opening; s is the state of the draw before it. A field that the step does not use is 0 and
-// takes no draw.
-pub fn draw_record(s: u32) -> Drawn
-    ensures { drawn_of result ≡ draw_record s }
-{
-    let s1 = advance(s);
-    let n = step_from(s1);
-    if boardless(n) {
-        return with_fields(n, 0, 0, 0, s1);
-    }
-    let s2 = advance(s1);
-    let a = board_from(s2);
-    if n == 9 {
-        let s3 = advance(s2);
-        let b = board_from(s3);
-        let c = second_board(a, b);
-        return with_fields(n, a, c, 0, s3);
-    }
-    if n == 1 {
-        let s3 = advance(s2);
-        let v = draw(s3);
-        return with_fields(n, a, 0, v, s3);
-    }
-    with_fields(n, a, 0, 0, s2)
 }

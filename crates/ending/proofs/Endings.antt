@@ -1,45 +1,49 @@
 -- The ending of a listing: its parts from the row and the list, and how long it is. Assumes nothing.
-use mathlib.Core.Bool.{true}
+use mathlib.Core.Bool.{Bool, true}
 use mathlib.Core.List.{List, [], ◌∷◌, ◌++◌, append-nil, append_assoc}
-use mathlib.Core.Path.{◌≡◌, refl, ap, subst, ◌∙◌}
+use mathlib.Core.Path.{◌≡◌, refl, sym, ap, ◌∙◌}
 use Prim.Native.Nat.{ℕ, zero, suc, ◌+◌, ◌-◌, ◌*◌, ◌^◌, ◌<◌, ◌≤◌}
 use native.Mathlib.Numerals.{add-one}
 use native.Mathlib.Omega.{arith}
 use lib.Dec.{T}
 use lib.ListN.{length, get_or, take, drop, length-append, length-take}
-use lib.Seq.{take-suc, take-take, get_or-take, length-take-le, split_at}
+use lib.Seq.{take-suc}
+use Rattle.std.proofs.Common.{take-append-drop, Fits, w32}
 use Rattle.model.specs.Members.{is_replica}
 use Rattle.model.specs.State as M
 use Rattle.model.specs.State.{Entry, entry}
-use Rattle.model.specs.Ranges.{every, is_epoch, in_range, terms_in_range}
+use Rattle.model.specs.Ranges.{is_epoch, in_range, terms_in_range}
 use Rattle.model.proofs.Tests.{of-true, split-and}
 use Rattle.model.proofs.Quorum.{replica-range}
 use Rattle.model.proofs.Made.{All, Word}
 use Rattle.model.proofs.Range.{InRange, epoch-of, to-ranges}
 use Rattle.logstore.specs.Log.{pairs}
-use Rattle.cluster.specs.declared.View.{View}
-use Rattle.cluster.specs.Layout.{view_of, at, no_view}
+use Rattle.logstore.proofs.Laws.{pairs-length, pairs-at, pairs-take}
+use Rattle.cluster.specs.declared.Cluster.{Cluster}
+use Rattle.cluster.specs.Layout.{view_of, no_view, outline_of}
 use Rattle.cluster.proofs.Laws.{at-index}
-use Rattle.text.specs.Text.{Text, Wrote, digits}
-use Rattle.text.proofs.Laws.{rest, digits-most-4, digits-most-10}
+use Rattle.text.specs.declared.Page.{Page}
+use Rattle.text.specs.Text.{Puts, HasRoom, each_of, digits}
+use Rattle.text.proofs.Laws.{room_as, room-first, room-rest, digits-most-4, digits-most-10}
 use Rattle.lines.specs.Lines.{word, space, newline, board_text, receipt_text, registry_line, control_line}
+use Rattle.lines.proofs.Eights.{eight-each}
 use Rattle.lines.proofs.Lengths.{three-digits, eight-most, registry-most, control-most, board-most}
 use Rattle.mark.specs.Mark.{late, late_in}
 use Rattle.ending.specs.Ending.{board_line, board_lines, receipts_text, receipts_line, ending}
 
--- The line of the replica b, from the row's parts and the registry's view.
-abbrev pub replica : List View → List ℕ → List ℕ → View → ℕ → Text
-replica views joined len r b =
-    let v = view_of (at no_view views b) in
-    board_text b v (at 0 joined b) (at 0 len b) (late v (at 0 joined b) (view_of r))
+-- The line of the replica b, from its place in the row's arrays.
+pub board-line-is : (row : Cluster) (b i : ℕ) (l : Bool) → 1 ≤ b → i ≡ b - 1
+    → l ≡ late (view_of (get_or row.views i no_view)) (get_or row.joined i 0) (view_of row.registry.view)
+    → board_line (outline_of row) b
+    ≡ board_text b (view_of (get_or row.views i no_view)) (get_or row.joined i 0) (get_or row.len i 0) l
+unfolding board_line
+board-line-is row b i l h e q =
+    rw (q, e, at-index no_view row.views b h, at-index 0 row.joined b h, at-index 0 row.len b h)
 
--- It is the line from the places of the arrays.
-pub replica-is :
-    (views : List View) (joined len : List ℕ) (r : View) (b : ℕ) → 1 ≤ b
-    → replica views joined len r b
-    ≡ board_text b (view_of (get_or views (b - 1) no_view)) (get_or joined (b - 1) 0) (get_or len (b - 1) 0)
-    (late (view_of (get_or views (b - 1) no_view)) (get_or joined (b - 1) 0) (view_of r))
-replica-is views joined len r b h = rw (at-index no_view views b h, at-index 0 joined b h, at-index 0 len b h)
+-- The lines of the eight, as a loop writes them.
+pub board-lines-each : (m : M.Outline) → board_lines m ≡ each_of (λ k. board_line m (k + 1)) 8
+unfolding board_lines
+board-lines-each m = eight-each (board_line m)
 
 -- Receipts, one after the other
 
@@ -57,34 +61,39 @@ receipts-next s i h =
     let x = get_or s i (entry 0 0) in
     rw (add-one i, take-suc s i (entry 0 0) h, receipts-append (take i s) (x ∷ []), append-nil (receipt_text x))
 
--- What is left of n receipts once i are written.
-abbrev pub receipts_left : List Entry → ℕ → ℕ → Text
-receipts_left s n i = receipts_text (drop (suc i) (take n s))
+-- Receipts of values and terms: the one at place i, v and t.
+module _ (vs ts : List ℕ) (i v t : ℕ) (same : length vs ≡ length ts) (h : i < length vs) (p : v ≡ get_or vs i 0)
+    (q : t ≡ get_or ts i 0) where
+  pub entries-next : receipts_text (take (i + 1) (pairs vs ts))
+      ≡ receipts_text (take i (pairs vs ts)) ++ (space ++ receipt_text (entry v t))
+  entries-next =
+      receipts-next (pairs vs ts) i (omega (arith, pairs-length vs ts same))
+      ∙ rw (pairs-at vs ts i same, p, q)
 
-receipts-split : (s : List Entry) (n i : ℕ) → i < n → n ≤ length s
-    → receipts_text (take n s)
-    ≡ receipts_text (take i s) ++ (space ++ (receipt_text (get_or s i (entry 0 0)) ++ receipts_left s n i))
+  -- Room for all is room for it, once those before it are written.
+  pub entries-room : {x y : Page} → Puts x (receipts_text (take i (pairs vs ts))) y
+      → HasRoom x (receipts_text (pairs vs ts)) → HasRoom y (space ++ receipt_text (entry v t))
+  entries-room {x} {y} w r =
+      let s = pairs vs ts in
+      let one = space ++ receipt_text (entry v t) in
+      let front = receipts_text (take i s) in
+      let whole : receipts_text s ≡ front ++ (one ++ receipts_text (drop (i + 1) s)) =
+      ap receipts_text (sym (take-append-drop (i + 1) s)) ∙ receipts-append (take (i + 1) s) (drop (i + 1) s)
+      ∙ rw (entries-next, append_assoc front one (receipts_text (drop (i + 1) s))) in
+      room-first y one (receipts_text (drop (i + 1) s)) (room-rest front _ w (room_as x whole r))
+
+pub receipts_none : receipts_text [] ≡ []
 unfolding receipts_text
-receipts-split s n i h k =
-    let l : length (take n s) ≡ n = length-take-le n s k in
-    ap receipts_text (split_at (take n s) i (entry 0 0) (omega arith)) ∙ receipts-append (take i (take n s))
-    (get_or (take n s) i (entry 0 0) ∷ drop (suc i) (take n s))
-    ∙ rw (take-take i n s (omega arith), get_or-take n s i (entry 0 0) h)
+receipts_none = refl
 
--- There is room for one more of them.
-pub receipts-room :
-    {d e : Text} {at p : ℕ} (s : List Entry) (n i : ℕ) → i < n → n ≤ length s → Wrote d at (receipts_text (take i s)) e p
-    → at + length (receipts_text (take n s)) ≤ length d
-    → p + length (space ++ (receipt_text (get_or s i (entry 0 0)) ++ receipts_left s n i)) ≤ length e
-receipts-room {d} {e} {at} {p} s n i h k w r =
-    rest (receipts_text (take i s)) (space ++ (receipt_text (get_or s i (entry 0 0)) ++ receipts_left s n i)) w
-    (subst (λ t. at + length t ≤ length d) (receipts-split s n i h k) r)
-
--- The line of n receipts.
-pub receipts-is : (s : List Entry) (n : ℕ) → n ≤ length s
-    → receipts_line (take n s) ≡ word "receipts " ++ (digits n ++ (receipts_text (take n s) ++ newline))
+-- The line of as many receipts as there are values.
+pub receipts-line-is : (vs ts : List ℕ) → length vs ≡ length ts
+    → receipts_line (pairs vs ts) ≡ word "receipts " ++ (digits (length vs) ++ (receipts_text (pairs vs ts) ++ newline))
 unfolding receipts_line
-receipts-is s n h = rw (length-take-le n s h)
+receipts-line-is vs ts e = rw (pairs-length vs ts e)
+
+-- For the writers of receipts.
+pub ruleset receipts = (receipts_none, pairs-length, pairs-take)
 
 -- How long it is
 
@@ -146,3 +155,12 @@ words-taken vs ts zero h = tt
 words-taken [] ts (suc n) h = tt
 words-taken (v ∷ vs) [] (suc n) h = tt
 words-taken (v ∷ vs) (t ∷ ts) (suc n) h = (h 0, words-taken vs ts n (λ i. h (suc i)))
+
+-- So the ending of a row in range is short.
+pub ending-fits : (row : Cluster) (vs ts : List ℕ) → in_range (outline_of row) ≡ true
+    → terms_in_range (take row.issued (pairs vs ts)) ≡ true → ((i : ℕ) → Fits w32 (get_or vs i 0))
+    → length (ending (outline_of row) (take row.issued (pairs vs ts))) ≤ 8650
+ending-fits row vs ts h k w =
+    let few = (to-ranges (outline_of row) (of-true h)).committed in
+    ending-most (outline_of row) (take row.issued (pairs vs ts)) h
+    (omega (arith, few, length-take row.issued (pairs vs ts))) (words-taken vs ts row.issued (λ i. omega (arith, w i))) k

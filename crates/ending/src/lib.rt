@@ -1,114 +1,81 @@
 // The ending of a listing, the lines after the answers, from the row, the committed list and its terms. Inner layer:
-// callers see to the room, and that b is a replica.
-#![tactic(auto)]
+// callers see to the room.
+#![tactic(auto, using(text::proofs::Laws::pages))]
 
-ghost use Rattle.std.specs.Prelude.{true, ◌≡◌, ◌+◌, ◌-◌, ◌≤◌, length, get_or, take};
-ghost use Rattle.model.specs.Ranges.{every, in_range, terms_in_range};
+ghost use Rattle.std.specs.Prelude.{true, ◌≡◌, ◌+◌, ◌≤◌, length, take};
+ghost use Rattle.model.specs.Ranges.{in_range, terms_in_range};
 ghost use Rattle.logstore.specs.Log.{pairs};
-ghost use Rattle.cluster.specs.Layout.{view_of, no_view, outline_of};
-ghost use Rattle.text.specs.Text.{Wrote};
-ghost use Rattle.lines.specs.Lines.{board_text};
-ghost use Rattle.mark.specs.Mark.{late};
-ghost use Rattle.ending.specs.Ending.{board_lines, receipts_text, receipts_line, ending};
+ghost use Rattle.cluster.specs.Layout.{outline_of};
+ghost use Rattle.text.specs.Text.{Puts, HasRoom};
+ghost use Rattle.ending.specs.Ending.{board_line, board_lines, receipts_text, receipts_line, ending};
 
-use cluster::{Cluster, View};
+use cluster::Cluster;
+use members::Board;
+use text::Page;
 
-// Writes the line of the replica b, where r is the registry's view.
-fn put_replica(
-    out: &mut [u8],
-    at: usize,
-    b: u8,
-    views: [View; 8],
-    joined: [u16; 8],
-    len: [u16; 8],
-    r: View,
-) -> usize
-    requires { (1 ≤ b)
-        × (b ≤ 8)
-        × (at + length (board_text b
-        (view_of (get_or views (b - 1) no_view)) (get_or joined (b - 1) 0) (get_or len (b - 1) 0)
-        (late (view_of (get_or views (b - 1) no_view)) (get_or joined (b - 1) 0) (view_of r)))
-        ≤ length out.old) }
-    ensures { Wrote out.old at
-        (board_text b
-        (view_of (get_or views (b - 1) no_view)) (get_or joined (b - 1) 0) (get_or len (b - 1) 0)
-        (late (view_of (get_or views (b - 1) no_view)) (get_or joined (b - 1) 0) (view_of r)))
-        out.new result }
+// Writes the line of a replica.
+fn put_replica(page: &mut Page<'_>, row: &Cluster, b: Board)
+    requires { HasRoom page.old (board_line (outline_of row.now) b.number) }
+    ensures { Puts page.old (board_line (outline_of row.now) b.number) page.new }
 {
-    let i = (b - 1) as usize;
-    let v = views[i];
-    let j = joined[i];
-    let n = len[i];
-    let late = mark::is_late(v, j, r);
-    state_lines::put_board(&mut *out, at, b, v, j, n, late)
+    let i = b.index();
+    let late = mark::is_late(row.views[i], row.joined[i], row.registry.view);
+    state_lines::put_board(page, b, &row.views[i], row.joined[i], row.len[i], late);
 }
 
 // Writes the lines of the eight replicas.
-fn put_replicas(out: &mut [u8], at: usize, row: Cluster) -> usize
-    requires { at + length (board_lines (outline_of row)) ≤ length out.old }
-    ensures { Wrote out.old at (board_lines (outline_of row)) out.new result }
+#[tactic(auto, using(text::proofs::Laws::each_page))]
+fn put_replicas(page: &mut Page<'_>, row: &Cluster)
+    requires { HasRoom page.old (board_lines (outline_of row.now)) }
+    ensures { Puts page.old (board_lines (outline_of row.now)) page.new }
 {
-    let views = row.views;
-    let joined = row.joined;
-    let len = row.len;
-    let g = row.registry;
-    let w = g.view;
-    let mut p = at;
-    let mut b: u8 = 0;
-    while b < 8 {
-        b += 1;
-        p = put_replica(&mut *out, p, b, views, joined, len, w);
+    for i in 0..8 {
+        put_replica(page, row, Board::at(i));
     }
-    p
 }
 
-// Writes the first n receipts of two lists, values and terms.
-fn put_entries(out: &mut [u8], at: usize, list: &[u32], list2: &[u16], n: usize) -> usize
-    requires { (n ≤ length list.now) × (length list.now ≡ length list2.now)
-        × (at + length (receipts_text (take n (pairs list.now list2.now))) ≤ length out.old) }
-    ensures { Wrote out.old at (receipts_text (take n (pairs list.now list2.now)))
-        out.new result }
+// Writes receipts, of their values and terms.
+#[tactic(auto, using(text::proofs::Laws::pages, crate::proofs::Endings::receipts))]
+fn put_entries(page: &mut Page<'_>, values: &[u32], terms: &[u16])
+    requires same { length values.now ≡ length terms.now }
+    requires room { HasRoom page.old (receipts_text (pairs values.now terms.now)) }
+    ensures { Puts page.old (receipts_text (pairs values.now terms.now)) page.new }
 {
-    let mut i = 0;
-    let mut p = at;
-    while i < n {
-        let q = text::put_byte(&mut *out, p, 32);
-        p = state_lines::put_receipt(&mut *out, q, list[i], list2[i]);
-        i += 1;
+    for (value, term) in values.iter().zip(terms) {
+        page.put_byte(b' ');
+        state_lines::put_receipt(page, *value, *term);
     }
-    p
 }
 
 // Writes the line of the receipts: how many, and each.
-fn put_receipts(out: &mut [u8], at: usize, list: &[u32], list2: &[u16], n: u16) -> usize
-    requires { (n ≤ length list.now) × (length list.now ≡ length list2.now)
-        × (at + length (receipts_line (take n (pairs list.now list2.now))) ≤ length out.old) }
-    ensures { Wrote out.old at (receipts_line (take n (pairs list.now list2.now)))
-        out.new result }
+#[tactic(auto, using(text::proofs::Laws::pages, crate::proofs::Endings::receipts), unfolding(crate::specs::Ending::receipts_line))]
+fn put_receipts(page: &mut Page<'_>, values: &[u32], terms: &[u16])
+    requires same { length values.now ≡ length terms.now }
+    requires few { length values.now ≤ 512 }
+    requires room { HasRoom page.old (receipts_line (pairs values.now terms.now)) }
+    ensures { Puts page.old (receipts_line (pairs values.now terms.now)) page.new }
 {
-    let a = text::put_bytes(&mut *out, at, b"receipts ");
-    let b = text::put_number(&mut *out, a, n as u32);
-    let c = put_entries(&mut *out, b, list, list2, n as usize);
-    text::put_byte(&mut *out, c, 10)
+    page.put_bytes(b"receipts ");
+    page.put_number(values.len() as u32);
+    put_entries(page, values, terms);
+    page.put_byte(b'\n');
 }
 
-// Writes the ending at the start of a slice: the registry, the controller, the replicas, the receipts. Inner layer:
-// callers see to it that the row and the kept epochs of its receipts are in range, the two lists as long as it says,
-// and the slice long enough for any ending.
-pub fn put_ending(out: &mut [u8], row: Cluster, list: &[u32], list2: &[u16]) -> usize
-    requires { (in_range (outline_of row) ≡ true)
-        × (terms_in_range (take row.issued (pairs list.now list2.now)) ≡ true)
-        × (row.issued ≤ length list.now) × (length list.now ≡ length list2.now) × (8704 ≤ length out.old) }
-    ensures { Wrote out.old 0
-        (ending (outline_of row) (take row.issued (pairs list.now list2.now)))
-        out.new result
-        × (result ≤ 8704) }
+// Writes the ending: the registry, the controller, the replicas, the receipts. Inner layer: callers see to it that the
+// row and the kept epochs of its receipts are in range, the two lists as long as it says, and the page with room for
+// any ending.
+pub fn put_ending(page: &mut Page<'_>, row: &Cluster, list: &[u32], list2: &[u16])
+    requires row { in_range (outline_of row.now) ≡ true }
+    requires terms { terms_in_range (take row.now.issued (pairs list.now list2.now)) ≡ true }
+    requires long { (row.now.issued ≤ length list.now) × (length list.now ≡ length list2.now) }
+    requires room { page.old.at + 8704 ≤ length page.old.out.now }
+    ensures text { Puts page.old
+        (ending (outline_of row.now) (take row.now.issued (pairs list.now list2.now))) page.new }
+    ensures most { page.new.at ≤ page.old.at + 8704 }
 {
-    let g = row.registry;
-    let k = row.controller;
-    let n = row.issued;
-    let a = state_lines::put_registry(&mut *out, 0, g);
-    let b = state_lines::put_control(&mut *out, a, k);
-    let c = put_replicas(&mut *out, b, row);
-    put_receipts(&mut *out, c, list, list2, n)
+    let n = row.issued as usize;
+    state_lines::put_registry(page, &row.registry);
+    state_lines::put_control(page, &row.controller);
+    put_replicas(page, row);
+    put_receipts(page, &list[..n], &list2[..n]);
 }

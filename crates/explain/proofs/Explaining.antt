@@ -1,15 +1,20 @@
 -- A sheet that was run, and its text: what was written is what the definition says. Assumes nothing.
-use mathlib.Core.Bool.{true, false, ◌&&◌}
+use mathlib.Core.Bool.{Bool, true, false, cond, ◌&&◌}
+use Rattle.std.specs.Prelude.{Result, Ok, Err}
+use Rattle.refusal.specs.declared.Refusal.{Refusal}
+use Rattle.refusal.specs.declared.Refusal.TheVariants.{Sheet, Room}
 use mathlib.Core.List.{List}
 use mathlib.Core.Path.{◌≡◌, refl, sym, ap, subst, ◌∙◌}
-use Prim.Native.Nat.{ℕ, ◌+◌, ◌-◌, ◌*◌, ◌/◌, ◌<◌, ◌≤◌}
+use Prim.Native.Nat.{ℕ, ◌+◌, ◌*◌, ◌/◌, ◌<◌, ◌≤◌}
 use native.Mathlib.Omega.{arith}
 use lib.Dec.{leb}
-use lib.ListN.{length, get_or, take, drop}
-use lib.Seq.{get_or-take, get_or-drop}
-use borrow.Author.Tests.{le-leb}
-use Rattle.text.specs.Text.{Text, Delivered, each_of}
-use Rattle.text.proofs.Laws.{each_same, each-room, each-most}
+use lib.ListN.{length, get_or, drop}
+use lib.Seq.{get_or-drop}
+use borrow.Author.Tests.{le-leb, leb-true}
+use Rattle.text.specs.declared.Page.{Page}
+use Rattle.model.specs.Records.{Record}
+use Rattle.text.specs.Text.{Text, over, each_of, Puts, HasRoom, Delivers}
+use Rattle.text.proofs.Laws.{over-length, each-room, each-most, room-next}
 use Rattle.records.specs.Bytes.{record_at, is_sheet}
 use Rattle.records.proofs.Decoding.{room}
 use Rattle.phrases.specs.Phrases.{is_listed}
@@ -18,40 +23,22 @@ use Rattle.phrases.proofs.Listed.{covers}
 use Rattle.phrases.proofs.Lengths.{line-most, line-least, value-small}
 use Rattle.running.specs.Running.{answers_of}
 use Rattle.running.proofs.Playing.{sheet-whole, answers-most}
-use Rattle.running.proofs.Results.{within, kept-length}
-use Rattle.explain.specs.Explain.{line_at, explained, result_of, left, LengthsTell}
+use Rattle.explain.specs.Explain.{line_at, lines_of, explained, outcome_of, left, LengthsTell}
 
 -- An answer up to 16 is on the list.
 pub listed-most : (a : ℕ) → a ≤ 16 → is_listed a ≡ true
 listed-most a h = covers.listed a ∙ le-leb a 19 (omega (arith, h))
 
--- Refusal 2.
-pub no-sheet : (s out : Text) → is_sheet s ≡ false → (2 ≡ result_of s out) × (out ≡ left s out)
-unfolding result_of left
-no-sheet s out e = (rw e, rw e)
+-- The answers of a run are on the list.
+pub all_listed : (s : Text) (i : ℕ) → is_listed (get_or (answers_of s) i 0) ≡ true
+all_listed s i = listed-most (get_or (answers_of s) i 0) (answers-most s i)
 
-module _ (s : Text) (ns : List ℕ) (h : take (length s / 8) ns ≡ answers_of s) where
-  -- The answers that were kept are those of the run,
-  answer-is : (i : ℕ) → i < length s / 8 → get_or ns i 0 ≡ get_or (answers_of s) i 0
-  answer-is i q = sym (get_or-take (length s / 8) ns i 0 q) ∙ ap (λ xs. get_or xs i 0) h
-
-  -- so they are on the list,
-  pub all_listed : (i : ℕ) → i < length s / 8 → is_listed (get_or ns i 0) ≡ true
-  all_listed i q = listed-most (get_or ns i 0) (omega (arith, answer-is i q, answers-most s i))
-
-  -- and the lines with them are those of the text.
-  whole : each_of (line_at s ns) (length s / 8) ≡ explained s
-  unfolding explained
-  whole =
-      each_same (line_at s ns) (line_at s (answers_of s)) (length s / 8)
-      (λ i q. ap (line (record_at (drop (8 * i) s))) (answer-is i q))
-
-  pub delivered : {out out' : Text} {r : ℕ} → is_sheet s ≡ true
-      → Delivered (each_of (line_at s ns) (length s / 8)) out out' r → (r ≡ result_of s out) × (out' ≡ left s out)
-  unfolding result_of left
-  delivered {out} {out'} {r} e d =
-      let d' = subst (λ t. Delivered t out out' r) whole d in
-      (rw e d'.answer, rw e d'.left)
+-- The lines with those answers are the text.
+pub told : (s : Text) (ns : List ℕ) {out out' : Text} {r : Result ℕ Refusal} → is_sheet s ≡ true → ns ≡ answers_of s
+    → Delivers (lines_of s ns) out out' r → (r ≡ outcome_of s out) × (out' ≡ left s out)
+unfolding outcome_of left explained
+told s ns {out} {out'} {r} e f d =
+    let d' = subst (λ t. Delivers (lines_of s t) out out' r) f d in (rw e d'.answer, rw e d'.left)
 
 -- Lengths
 
@@ -65,6 +52,24 @@ text-most s ns n b h = each-most (line_at s ns) 96 n short
         let v = value-small (drop (8 * i) s) (λ j. omega (arith, get_or-drop (8 * i) s j 0, b (8 * i + j))) in
         line-most (record_at (drop (8 * i) s)) (get_or ns i 0) v (h i q)
 
+-- Of a sheet with its answers, as the code goes over them
+
+module _ (s : Text) (ns : List ℕ) (n : ℕ) (each : n ≡ length s / 8) where
+  pub line-next : {r : Record} (i : ℕ) → r ≡ record_at (drop (8 * i) s) → line r (get_or ns i 0) ≡ line_at s ns i
+  line-next i e = ap (λ r. line r (get_or ns i 0)) e
+
+  -- Room for all lines is room for the next,
+  pub room-line : {p q : Page} (i : ℕ) → i < n → Puts p (each_of (line_at s ns) i) q → HasRoom p (lines_of s ns)
+      → HasRoom q (line_at s ns i)
+  room-line i h w r = room-next (line_at s ns) i (length s / 8) (omega arith) w r
+
+  -- and they are n times 96 bytes at most.
+  pub room-enough : (room : ℕ) → ((i : ℕ) → get_or s i 0 ≤ 255) → ((i : ℕ) → i < n → is_listed (get_or ns i 0) ≡ true)
+      → 96 * n ≤ room → leb (length (lines_of s ns)) room ≡ true
+  room-enough room b l h =
+      le-leb (length (lines_of s ns)) room
+      (omega (arith, text-most s ns (length s / 8) b (λ i q. l i (omega (arith, q)))))
+
 pub lengths-tell : LengthsTell
 unfolding LengthsTell explained
 lengths-tell s b e =
@@ -72,18 +77,20 @@ lengths-tell s b e =
     let n = length s / 8 in
     let some : 0 < n = omega (arith, room (length s) (sheet-whole s e)) in (
       omega (arith, each-room text 0 n some, line-least (record_at (drop 0 s)) (get_or (answers_of s) 0 0)),
-      text-most s (answers_of s) n b (λ i q. listed-most (get_or (answers_of s) i 0) (answers-most s i)),
+      text-most s (answers_of s) n b (λ i q. all_listed s i),
     )
 
--- A result that is no refusal is a length within the slice, so a caller can read the text back.
-pub readable : (s out : Text) {r : ℕ} {out' : Text} → (r ≡ result_of s out) × (out' ≡ left s out) → 4 ≤ r → r ≤ length out'
-unfolding result_of left
-readable s out {r} {out'} p h =
-    omega (
-      arith,
-      within (is_sheet s) (leb (length (explained s)) (length out)) (length (explained s)) (length out) refl
-          (omega (arith, h, p.0)),
-      p.0,
-      ap length p.1,
-      kept-length (is_sheet s && leb (length (explained s)) (length out)) out (explained s),
-    )
+-- A text that is handed out stands within the slice, so a caller can read it back.
+pub readable : (s out : Text) {r : Result ℕ Refusal} {out' : Text} {n : ℕ} → (r ≡ outcome_of s out) × (out' ≡ left s out)
+    → r ≡ Ok n → n ≤ length out'
+unfolding outcome_of left
+readable s out {r} {out'} {n} p e = go (is_sheet s) (leb (length (explained s)) (length out)) refl (sym e ∙ p.0) p.1
+  where
+    go : (t u : Bool) → leb (length (explained s)) (length out) ≡ u
+        → Ok n ≡ cond t (cond u (Ok (length (explained s))) (Err Room)) (Err Sheet)
+        → out' ≡ cond (t && u) (over out 0 (explained s)) out → n ≤ length out'
+    go true true f x y =
+        let n' : n ≡ length (explained s) = cc in
+        omega (arith, leb-true (length (explained s)) (length out) f, ap length y, over-length out 0 (explained s))
+    go true false f x y = absurd (cc)
+    go false u f x y = absurd (cc)

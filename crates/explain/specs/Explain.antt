@@ -1,6 +1,9 @@
 -- The text of a sheet: a line of document 02, Paper 5, for each record with the answer that its run gave. Cited by the
 -- promises of `explain_sheet` and `sample`. Assumes nothing.
-use Rattle.std.specs.Prelude.{true, cond, ◌&&◌, List, [], ◌∷◌, ◌++◌, ◌≡◌, ℕ, ◌*◌, ◌/◌, ◌≤◌, leb, length, get_or, drop}
+use Rattle.std.specs.Prelude.{Result, Ok, Err, true, cond, ◌&&◌, List, [], ◌∷◌, ◌++◌, ◌≡◌, ℕ, ◌*◌, ◌/◌, ◌≤◌, leb, length, get_or, drop}
+use Rattle.refusal.specs.declared.Refusal.{Refusal}
+use Rattle.refusal.specs.declared.Refusal.TheVariants.{Sheet, Room}
+use Rattle.refusal.specs.Refusal.{returned}
 use Rattle.text.specs.Text.{Text, over, each_of}
 use Rattle.model.specs.Records.{bare, of, of_value}
 use Rattle.records.specs.Bytes.{record_at, sheet_bytes, is_sheet}
@@ -23,9 +26,14 @@ unfolding answers_of line each_of
 explained s = lines_of s (answers_of s)
 
 -- The call, with the sheet s and a slice whose bytes are `out`: document 01's refusals 2 and 3.
-unfoldable pub result_of : Text → Text → ℕ
+unfoldable pub outcome_of : Text → Text → Result ℕ Refusal
 unfolding explained
-result_of s out = cond (is_sheet s) (cond (leb (length (explained s)) (length out)) (length (explained s)) 3) 2
+outcome_of s out =
+    cond (is_sheet s) (cond (leb (length (explained s)) (length out)) (Ok (length (explained s))) (Err Room)) (Err Sheet)
+
+-- As C has it.
+abbrev pub result_of : Text → Text → ℕ
+result_of s out = returned (outcome_of s out)
 
 -- What the slice holds then.
 unfoldable pub left : Text → Text → Text

@@ -1,7 +1,7 @@
 -- The sheet of a seed: its length, and what the call returns and leaves. Assumes nothing.
 use mathlib.Core.Bool.{true}
 use mathlib.Core.List.{◌++◌}
-use mathlib.Core.Path.{◌≡◌, refl, sym, subst, ◌∙◌}
+use mathlib.Core.Path.{◌≡◌, refl, ◌∙◌}
 use Prim.Native.Nat.{ℕ, zero, suc, ◌-◌, ◌*◌, ◌<◌, ◌≤◌}
 use native.Mathlib.Nat.{not-suc-le-zero}
 use native.Mathlib.Omega.{arith}
@@ -10,18 +10,23 @@ use lib.ListN.{length}
 use borrow.Author.Tests.{le-leb, lt-leb}
 use Rattle.model.proofs.Tests.{split-and, of-true}
 use Rattle.model.specs.Records.{of}
+use Rattle.std.specs.Prelude.{false, Result, Ok, Err}
+use Rattle.refusal.specs.declared.Refusal.{Refusal}
+use Rattle.refusal.specs.declared.Refusal.TheVariants.{Sheet, Room}
 use Rattle.text.specs.Text.{Text, Wrote, over}
-use Rattle.text.proofs.Laws.{then}
 use Rattle.records.specs.Bytes.{record_bytes, sheet_bytes}
-use Rattle.records.proofs.Encoding.{sheet-length}
+use Rattle.records.proofs.Encoding.{bytes-length, sheet-length}
 use Rattle.draws.specs.Draws.{advance, board_from, Drawn, drawn, later, seed_records}
-use Rattle.generator.specs.Seeded.{seed_sheet, is_count, result_of, left}
+use Rattle.generator.specs.Seeded.{seed_sheet, is_count, outcome_of, left}
 use Rattle.generator.proofs.Later.{later-length}
 
 pub seed-length : (s n : ℕ) → length (seed_records s n) ≡ n
 unfolding seed_records
 seed-length s zero = refl
 seed-length s (suc k) = omega (arith, later-length k (advance s))
+
+pub later-bytes : (k s : ℕ) → length (sheet_bytes (later k s)) ≡ 8 * k
+later-bytes k s = sheet-length (later k s) ∙ rw (later-length k s)
 
 pub sheet-bytes : (s n : ℕ) → length (seed_sheet s n) ≡ 8 * n
 unfolding seed_sheet
@@ -45,49 +50,30 @@ opening-first s (suc k) h = let e : suc k - 1 ≡ k = omega arith in rw e
 abbrev pub opening : ℕ → Drawn
 opening s = drawn (of 0 (board_from (advance s))) (advance s)
 
--- The opening is written, then the other records.
-pub all-written : (s n : ℕ) {out d e : Text} {p r : ℕ} (x : Drawn) → 1 ≤ n → x ≡ opening s
-    → Wrote out 0 (record_bytes x.made) d p → Wrote d p (sheet_bytes (later (n - 1) x.state)) e r
-    → Wrote out 0 (seed_sheet s n) e r
-all-written s n {out} {d} {e} {p} {r} x h ex w v =
-    rw (opening-first s n h)
-    (then (subst (λ y. Wrote out 0 (record_bytes y.made) d p) ex w)
-    (subst (λ y. Wrote d p (sheet_bytes (later (n - 1) y.state)) e r) ex v))
-
 -- The call, its tests in order
 
 module _ (s n : ℕ) (out : Text) where
-  pub none : n < 1 → (2 ≡ result_of s n out) × (out ≡ left s n out)
-  unfolding result_of left
-  none h = (rw (lt-leb 1 n h), rw (lt-leb 1 n h))
+  pub other_count : is_count n ≡ false → (Err Sheet ≡ outcome_of s n out) × (out ≡ left s n out)
+  unfolding outcome_of left
+  other_count h = (rw h, rw h)
 
-  module _ (low : 1 ≤ n) where
-    pub too_many : 4095 < n → (2 ≡ result_of s n out) × (out ≡ left s n out)
-    unfolding result_of left
-    too_many h = (rw (le-leb 1 n low, lt-leb n 4095 h), rw (le-leb 1 n low, lt-leb n 4095 h))
+  module _ (c : is_count n ≡ true) where
+    pub short : length out < 8 * n → (Err Room ≡ outcome_of s n out) × (out ≡ left s n out)
+    unfolding outcome_of left
+    short h = let e = lt-leb (8 * n) (length out) h in (rw (c, sheet-bytes s n, e), rw (c, sheet-bytes s n, e))
 
-    module _ (high : n ≤ 4095) where
-      pub short : length out < 8 * n → (3 ≡ result_of s n out) × (out ≡ left s n out)
-      unfolding result_of left
-      short h =
-          let e = lt-leb (8 * n) (length out) h in (
-            rw (le-leb 1 n low, le-leb n 4095 high, sheet-bytes s n, e),
-            rw (le-leb 1 n low, le-leb n 4095 high, sheet-bytes s n, e),
-          )
+    -- The tests are passed.
+    pub passed : 8 * n ≤ length out
+        → (outcome_of s n out ≡ Ok (8 * n)) × (left s n out ≡ over out 0 (seed_sheet s n))
+    unfolding outcome_of left
+    passed h = let f = le-leb (8 * n) (length out) h in (rw (c, sheet-bytes s n, f), rw (c, sheet-bytes s n, f))
 
-      module _ (room : 8 * n ≤ length out) where
-        -- The tests are passed.
-        pub passed : (result_of s n out ≡ 8 * n) × (left s n out ≡ over out 0 (seed_sheet s n))
-        unfolding result_of left
-        passed =
-            let f = le-leb (8 * n) (length out) room in (
-              rw (le-leb 1 n low, le-leb n 4095 high, sheet-bytes s n, f),
-              rw (le-leb 1 n low, le-leb n 4095 high, sheet-bytes s n, f),
-            )
+    -- For a caller that lends enough.
+    pub made : {r : Result ℕ Refusal} {e : Text} → 8 * n ≤ length out → (r ≡ outcome_of s n out) × (e ≡ left s n out)
+        → (r ≡ Ok (8 * n)) × Wrote out 0 (seed_sheet s n) e (8 * n)
+    made h w =
+        let p = passed h in
+        (w.0 ∙ p.0, record { next = omega (arith, sheet-bytes s n); text = w.1 ∙ p.1 })
 
-        pub written : {e : Text} {r : ℕ} → Wrote out 0 (seed_sheet s n) e r → (r ≡ result_of s n out) × (e ≡ left s n out)
-        written w = (w.next ∙ omega (arith, passed.0, sheet-bytes s n), w.text ∙ sym passed.1)
-
-        -- For a caller that lends enough.
-        pub made : {e : Text} {r : ℕ} → (r ≡ result_of s n out) × (e ≡ left s n out) → Wrote out 0 (seed_sheet s n) e r
-        made h = record { next = h.0 ∙ omega (arith, passed.0, sheet-bytes s n); text = h.1 ∙ passed.1 }
+-- For `seed_sheet`, as its tactic.
+pub ruleset seeded = (sheet-bytes, opening-first, count-range, later-bytes, bytes-length)

@@ -1,10 +1,13 @@
 -- Sheets from a seed: their bytes, the call `seed_sheet`, and what is claimed of every such sheet. Cited by Trials and
 -- the promises of generator, row and seedline. Assumes nothing.
-use Rattle.std.specs.Prelude.{Bool, true, cond, not, ◌&&◌, map, ◌≡◌, ℕ, ◌*◌, ◌≤◌, eqb, leb, length, take, drop}
+use Rattle.std.specs.Prelude.{Bool, Result, Ok, Err, true, cond, not, ◌&&◌, map, ◌≡◌, ℕ, ◌*◌, ◌≤◌, eqb, leb, length, take, drop}
 use Rattle.model.specs.State.{entries, RowState}
 use Rattle.model.specs.Records.{Record, well_formed}
 use Rattle.model.specs.Runs.{steps_of, answers}
 use Rattle.model.specs.Ranges.{every}
+use Rattle.refusal.specs.declared.Refusal.{Refusal}
+use Rattle.refusal.specs.declared.Refusal.TheVariants.{Sheet, Room}
+use Rattle.refusal.specs.Refusal.{returned}
 use Rattle.text.specs.Text.{Text, over}
 use Rattle.records.specs.Bytes.{records, sheet_bytes, is_sheet}
 use Rattle.draws.specs.Draws.{seed_records}
@@ -21,12 +24,16 @@ seed_sheet s n = sheet_bytes (seed_records s n)
 abbrev pub is_count : ℕ → Bool
 is_count n = leb 1 n && leb n 4095
 
--- The sheet's length; 2 for another count, then 3 for a slice that is shorter than the sheet.
-unfoldable pub result_of : ℕ → ℕ → Text → ℕ
+-- The sheet's length; refusal 2 for another count, then 3 for a slice that is shorter than the sheet.
+unfoldable pub outcome_of : ℕ → ℕ → Text → Result ℕ Refusal
 unfolding seed_sheet
-result_of s n out =
+outcome_of s n out =
     let len = length (seed_sheet s n) in
-    cond (is_count n) (cond (leb len (length out)) len 3) 2
+    cond (is_count n) (cond (leb len (length out)) (Ok len) (Err Room)) (Err Sheet)
+
+-- As C has it.
+abbrev pub result_of : ℕ → ℕ → Text → ℕ
+result_of s n out = returned (outcome_of s n out)
 
 -- What the slice holds then: both refusals leave it untouched, and bytes past the end of a sheet keep their values.
 unfoldable pub left : ℕ → ℕ → Text → Text

@@ -1,13 +1,17 @@
 -- What the calls over a sheet and over an image answer and leave. Assumes nothing.
 use mathlib.Core.Bool.{Bool, true, false, cond, ◌&&◌}
 use mathlib.Core.List.{List}
-use mathlib.Core.Logic.{◌≢◌}
 use mathlib.Core.Path.{◌≡◌, refl, sym, ap, ap₂, ◌∙◌}
-use Prim.Native.Nat.{ℕ, ◌-◌, ◌*◌, ◌/◌, ◌≤◌, ◌<◌}
+use Prim.Native.Nat.{ℕ, ◌-◌, ◌*◌, ◌/◌, ◌≤◌}
 use native.Mathlib.Omega.{arith}
 use lib.Dec.{leb, leb→le}
 use lib.ListN.{length, replicate}
-use borrow.Author.Tests.{le-leb, lt-leb, eq-eqb, ne_eqb}
+use borrow.Author.Tests.{eq-eqb, ne_eqb}
+use Rattle.std.specs.Prelude.{Result, Ok, Err}
+use Rattle.refusal.specs.declared.Refusal.{Refusal}
+use Rattle.refusal.specs.declared.Refusal.TheVariants.{Sheet, Room, ImageLength, ImageNumber, ImageLinks}
+use Rattle.refusal.specs.Refusal.{number, returned}
+use Rattle.refusal.proofs.Checks.{least}
 use Rattle.model.specs.State.{RowState, entries}
 use Rattle.model.specs.Records.{Record, opening_of}
 use Rattle.model.proofs.Entries.{same-entry}
@@ -21,18 +25,19 @@ use Rattle.shown.proofs.Valid.{valid-full, valid-range}
 use Rattle.running.specs.Running.{Ran}
 use Rattle.running.proofs.Playing.{ran-fits, sheet-real}
 use Rattle.marks.specs.Marks.{room}
-use Rattle.image.specs.declared.Loaded.{Loaded}
-use Rattle.image.specs.Image.{image_of, verdict, row_in, places_in}
+use Rattle.image.specs.Loaded.{Loaded}
+use Rattle.image.specs.Image.{image_of, length_fits, numbers_fit, links_fit, verdict, row_in, places_in}
 use Rattle.image.specs.Keeping.{taken, Loads, TakenFits, ReadsBack}
 use Rattle.image.proofs.Fitting.{taken-fits}
 use Rattle.image.proofs.Returning.{reads-back}
 use Rattle.recovery.specs.Plan.{Plan, found, error, plan, draft, start}
 use Rattle.recovery.proofs.Recovering.{recovers}
-use Rattle.pieces.specs.Pieces.{Fit}
-use Rattle.delivery.specs.declared.Planned.{Planned}
+use Rattle.pieces.specs.Fitting.{Fit}
+use Rattle.pieces.proofs.Standing.{number-injective}
+use Rattle.delivery.specs.Planned.{Planned}
 use Rattle.delivery.specs.Delivery.{enough, plan_answer, plan_count, plan_left, delivered, Gives}
 use Rattle.drafting.proofs.Fitting.{ranged-fit}
-use Rattle.guiding.specs.Guiding.{plan_bytes, sheet_state, sheet_plan, sheet_result, sheet_left, blank, image_state, image_plan, image_result, image_left, scratch_left, SheetsRecover, ImagesAgree}
+use Rattle.guiding.specs.Guiding.{plan_outcome, sheet_state, sheet_plan, sheet_outcome, sheet_result, sheet_left, blank, image_state, image_plan, image_outcome, image_left, scratch_left, SheetsRecover, ImagesAgree}
 
 -- No list has more than 2,064 records.
 few : (sound : Bool) (list : List Record) → plan_count (delivered sound list) ≤ 2064
@@ -43,27 +48,29 @@ pub plan-few : (s : RowState) → plan_count (plan entries s) ≤ 2064
 unfolding plan
 plan-few s = let d = draft entries s.registry.status (start s) in few d.sound d.records
 
--- A refusal that is answered is 20, and the length of a list is in bytes.
-pub bytes-error : (q : Plan) → plan_answer q ≢ 0 → plan_answer q ≡ plan_bytes q
-bytes-error (found list) n = absurd (n refl)
-bytes-error error n = refl
+-- What is returned for a list, by its answer and its number.
+pub gave-error : (q : Plan) {e : Refusal} → number e ≡ plan_answer q → {y : Result ℕ Refusal} → y ≡ Err e → y ≡ plan_outcome q
+gave-error (found list) {e} n i = absurd (omega (arith, n, least e))
+gave-error error n i = i ∙ ap Err (number-injective n)
 
-pub bytes-list : (q : Plan) → plan_answer q ≡ 0 → 8 * plan_count q ≡ plan_bytes q
-bytes-list (found list) e = refl
-bytes-list error e = absurd (omega (arith, e))
+pub gave-list : (q : Plan) {n : ℕ} → 0 ≡ plan_answer q → n ≡ plan_count q → Ok (8 * n) ≡ plan_outcome q
+gave-list (found list) a c = ap (λ k. Ok (8 * k)) c
+gave-list error a c = absurd (omega (arith, a))
 
 -- A sheet
 
--- Refusal 2.
-pub no-sheet : (s out : Text) → is_sheet s ≡ false → (2 ≡ sheet_result s out) × (out ≡ sheet_left s out)
-unfolding sheet_result sheet_left
-no-sheet s out e = (rw e, rw e)
+-- Refusal 2,
+pub no-sheet : (s out : Text) → is_sheet s ≡ false → {y : Result ℕ Refusal} → y ≡ Err Sheet
+    → (y ≡ sheet_outcome s out) × (out ≡ sheet_left s out)
+unfolding sheet_outcome sheet_left
+no-sheet s out e i = (i ∙ rw e, rw e)
 
 module _ (s out : Text) (e : is_sheet s ≡ true) where
-  -- Refusal 3.
-  pub sheet-short : length out < 16512 → (3 ≡ sheet_result s out) × (out ≡ sheet_left s out)
-  unfolding sheet_result sheet_left
-  sheet-short h = let r = lt-leb 16512 (length out) h in (rw (e, r), rw (e, r))
+  -- refusal 3.
+  pub sheet-short : enough out ≡ false → {y : Result ℕ Refusal} → y ≡ Err Room
+      → (y ≡ sheet_outcome s out) × (out ≡ sheet_left s out)
+  unfolding sheet_outcome sheet_left
+  sheet-short h i = (i ∙ rw (e, h), rw (e, h))
 
   module _ (row : Cluster) (p : Places) (ns qs : List ℕ) (ran : Ran s (length s / 8 - 1) row p ns qs) where
     -- The row of a run is one on which a list can be made.
@@ -74,48 +81,63 @@ module _ (s out : Text) (e : is_sheet s ≡ true) where
     unfolding sheet_state
     sheet-is = ran.state
 
-    pub sheet-given : 16512 ≤ length out → {x : Planned} {out' : Text} → Gives (plan entries (abs row p)) out x out'
-        → {r : ℕ} → ((q : Plan) → x.answer ≡ plan_answer q → x.count ≡ plan_count q → r ≡ plan_bytes q)
-        → (r ≡ sheet_result s out) × (out' ≡ sheet_left s out)
-    unfolding sheet_result sheet_left sheet_plan
-    sheet-given h {x} {out'} g q =
-        let r = le-leb 16512 (length out) h in (
-          q (plan entries (abs row p)) g.answer g.count ∙ ap (λ t. plan_bytes (plan entries t)) sheet-is
-              ∙ ap₂ (λ t u. cond t (cond u (plan_bytes (plan entries (sheet_state s))) 3) 2) (sym e) (sym r),
-          g.left ∙ ap (λ t. plan_left (plan entries t) out) sheet-is
-              ∙ ap₂ (λ t u. cond (t && u) (plan_left (plan entries (sheet_state s)) out) out) (sym e) (sym r),
-        )
+    pub sheet-given : enough out ≡ true → {y : Result ℕ Refusal} {out' : Text}
+        → y ≡ plan_outcome (plan entries (abs row p)) → out' ≡ plan_left (plan entries (abs row p)) out
+        → (y ≡ sheet_outcome s out) × (out' ≡ sheet_left s out)
+    unfolding sheet_outcome sheet_left sheet_plan
+    sheet-given h a l = (
+      a ∙ ap (λ t. plan_outcome (plan entries t)) sheet-is ∙ rw (e, h),
+      l ∙ ap (λ t. plan_left (plan entries t) out) sheet-is ∙ rw (e, h),
+    )
 
 -- An image
 
 -- Refusal 3 of the list's slice.
-pub image-short : (image out s : Text) → length out < 16512
-    → (3 ≡ image_result image out s) × (out ≡ image_left image out s) × (s ≡ scratch_left out s)
-unfolding image_result image_left
-image-short image out s h = let r = lt-leb 16512 (length out) h in (rw r, rw r, rw r)
+pub image-short : (image out s : Text) → enough out ≡ false → {y : Result ℕ Refusal} → y ≡ Err Room
+    → (y ≡ image_outcome image out s) × (out ≡ image_left image out s) × (s ≡ scratch_left out s)
+unfolding image_outcome image_left
+image-short image out s h i = (i ∙ rw h, rw h, rw h)
+
+-- The reader's refusal is known by its number.
+by-errors : (a b c d : Bool) (e : Refusal) (t : Result ℕ Refusal)
+    → number e ≡ cond a (cond b (cond c (cond d 0 19) 18) 17) 3
+    → Err e ≡ cond a (cond b (cond c (cond d t (Err ImageLinks)) (Err ImageNumber)) (Err ImageLength)) (Err Room)
+by-errors true true true true e t n = absurd (omega (arith, n, least e))
+by-errors true true true false e t n = ap Err (number-injective n)
+by-errors true true false d e t n = ap Err (number-injective n)
+by-errors true false c d e t n = ap Err (number-injective n)
+by-errors false b c d e t n = ap Err (number-injective n)
+
+-- An image without errors passes all tests.
+no-error : (b c d : Bool) (t : Result ℕ Refusal) → ◌≡◌ {A = ℕ} (cond b (cond c (cond d 0 19) 18) 17) 0
+    → cond b (cond c (cond d t (Err ImageLinks)) (Err ImageNumber)) (Err ImageLength) ≡ t
+no-error true true true t e = refl
+no-error true true false t e = absurd (omega (arith, e))
+no-error true false d t e = absurd (omega (arith, e))
+no-error false c d t e = absurd (omega (arith, e))
 
 module _ (image : Text) (given : Cluster) (s : Text) (x : Loaded) (p' : Places) (s' : Text)
-    (l : Loads image given blank s x p' s') (out : Text) (h : 16512 ≤ length out) where
-  long : enough out ≡ true
-  long = le-leb 16512 (length out) h
-
+    (l : Loads image given blank s x p' s') (out : Text) (long : enough out ≡ true) where
   scratch-is : s' ≡ scratch_left out s
   scratch-is = l.scratch ∙ ap (λ t. cond (t && leb room (length s)) (replicate (length s) 0) s) (sym long)
 
   -- The reader's refusals: 3 of the scratch, 17, 18 and 19.
-  pub image-refused : x.answer ≢ 0
-      → (x.answer ≡ image_result image out s) × (out ≡ image_left image out s) × (s' ≡ scratch_left out s)
-  unfolding image_result image_left
-  image-refused n = go (leb room (length s)) refl
+  pub image-refused : (e : Refusal) → number e ≡ x.answer → {y : Result ℕ Refusal} → y ≡ Err e
+      → (y ≡ image_outcome image out s) × (out ≡ image_left image out s) × (s' ≡ scratch_left out s)
+  unfolding image_outcome image_left
+  image-refused e n i = (
+    i ∙ by-errors (leb room (length s)) (length_fits image) (numbers_fit image) (links_fit image) e
+        (plan_outcome (image_plan image)) (n ∙ l.answer) ∙ rw long,
+    go (leb room (length s)) refl,
+    scratch-is,
+  )
     where
-      go : (t : Bool) → leb room (length s) ≡ t
-          → (x.answer ≡ image_result image out s) × (out ≡ image_left image out s) × (s' ≡ scratch_left out s)
-      go true e =
-          let a : x.answer ≡ verdict image = l.answer ∙ ap (λ t. cond t (verdict image) 3) e in
-          let v = ne_eqb (verdict image) 0 (λ z. n (a ∙ z)) in
-          (a ∙ sym (rw (long, e, v)), sym (rw (long, e, v)), scratch-is)
-      go false e =
-          (l.answer ∙ ap (λ t. cond t (verdict image) 3) e ∙ sym (rw (long, e)), sym (rw (long, e)), scratch-is)
+      go : (t : Bool) → leb room (length s) ≡ t → out ≡ image_left image out s
+      go true r =
+          let a : number e ≡ verdict image = n ∙ l.answer ∙ ap (λ t. cond t (verdict image) 3) r in
+          let v = ne_eqb (verdict image) 0 (λ z. omega (arith, a, z, least e)) in
+          sym (rw (long, r, v))
+      go false r = sym (rw (long, r))
 
   -- The image is taken.
   module _ (e : x.answer ≡ 0) where
@@ -146,27 +168,32 @@ module _ (image : Text) (given : Cluster) (s : Text) (x : Loaded) (p' : Places) 
     unfolding image_state
     image-is = ap₂ abs row_is places-are
 
-    pub image-given : {y : Planned} {out' : Text} → Gives (plan entries (abs x.row p')) out y out'
-        → {r : ℕ} → ((q : Plan) → y.answer ≡ plan_answer q → y.count ≡ plan_count q → r ≡ plan_bytes q)
-        → (r ≡ image_result image out s) × (out' ≡ image_left image out s) × (s' ≡ scratch_left out s)
-    unfolding image_result image_left image_plan
-    image-given g q =
-        let v = eq-eqb (verdict image) 0 parts.1 in (
-          q (plan entries (abs x.row p')) g.answer g.count ∙ ap (λ t. plan_bytes (plan entries t)) image-is ∙ sym (rw (long, parts.0, v)),
-          g.left ∙ ap (λ t. plan_left (plan entries t) out) image-is ∙ sym (rw (long, parts.0, v)),
+    pub image-given : {y : Result ℕ Refusal} {out' : Text} → y ≡ plan_outcome (plan entries (abs x.row p'))
+        → out' ≡ plan_left (plan entries (abs x.row p')) out
+        → (y ≡ image_outcome image out s) × (out' ≡ image_left image out s) × (s' ≡ scratch_left out s)
+    unfolding image_outcome image_left image_plan
+    image-given a w =
+        let v = eq-eqb (verdict image) 0 parts.1 in
+        let t = plan_outcome (plan entries (image_state image)) in (
+          a ∙ ap (λ u. plan_outcome (plan entries u)) image-is
+              ∙ sym (no-error (length_fits image) (numbers_fit image) (links_fit image) t parts.1)
+              ∙ rw (long, parts.0),
+          w ∙ ap (λ u. plan_left (plan entries u) out) image-is ∙ sym (rw (long, parts.0, v)),
           scratch-is,
         )
 
 -- Claims
 
 pub sheets-recover : SheetsRecover
-unfolding SheetsRecover sheet_state sheet_result sheet_left sheet_plan
+unfolding SheetsRecover sheet_state sheet_outcome sheet_result sheet_left sheet_plan
 sheets-recover s out e t low =
     let n = recovers entries same-entry (opening_of (record_at s)) (sheet-real s e) _ low in
     let r = is_true (enough out) t in
+    let q = plan_outcome (plan entries (sheet_state s)) in
     record {
       list = n.list;
-      result = ap₂ (λ t u. cond t (cond u (plan_bytes (plan entries (sheet_state s))) 3) 2) e r ∙ ap plan_bytes n.exists;
+      result = ap₂ (λ t u. returned (cond t (cond u q (Err Room)) (Err Sheet))) e r
+          ∙ ap (λ t. returned (plan_outcome t)) n.exists;
       left = ap₂ (λ t u. cond (t && u) (plan_left (plan entries (sheet_state s)) out) out) e r
           ∙ ap (λ q. plan_left q out) n.exists;
       leads = n.leads;
@@ -179,5 +206,6 @@ images-agree row p typed v =
     let b = reads-back row p typed v in
     (b.0, ap (λ r. plan entries (abs r (places_in (image_of (abs row p)) blank))) b.1 ∙ ap (plan entries) (b.2 blank refl))
 
+-- The length in bytes of a list that was given fits.
 pub few-given : (s : RowState) {out out' : Text} {x : Planned} → Gives (plan entries s) out x out' → x.count ≤ 2064
 few-given s g = omega (arith, g.count, plan-few s)

@@ -1,6 +1,9 @@
 -- The list of a sheet's row and of an image's row (document 02, Paper 10, for the hub and for people). Cited by the
 -- promises of `plan_sheet`, `plan_image`, `claim` and `sample`. Assumes nothing.
-use Rattle.std.specs.Prelude.{Bool, true, cond, ◌&&◌, List, [], ◌∷◌, ◌≡◌, ℕ, ◌-◌, ◌*◌, ◌/◌, ◌%◌, ◌≤◌, T, leb, eqb, length, drop, replicate}
+use Rattle.std.specs.Prelude.{Bool, true, cond, ◌&&◌, List, [], ◌∷◌, ◌≡◌, ℕ, ◌-◌, ◌*◌, ◌/◌, ◌%◌, ◌≤◌, T, leb, eqb, length, drop, replicate, Result, Ok, Err}
+use Rattle.refusal.specs.declared.Refusal.{Refusal}
+use Rattle.refusal.specs.declared.Refusal.TheVariants.{Sheet, Room, NoPlan}
+use Rattle.refusal.specs.Refusal.{returned}
 use Rattle.model.specs.State.{RowState, entries}
 use Rattle.model.specs.Records.{Record, bare, of, opening_of}
 use Rattle.model.specs.Runs.{steps_of}
@@ -14,15 +17,15 @@ use Rattle.running.specs.Sample.{sample_sheet}
 use Rattle.shown.specs.Shown.{valid}
 use Rattle.marks.specs.Marks.{room}
 use Rattle.image.specs.Image.{image_of, verdict, row_in, places_in}
-use Rattle.archive.specs.Archive.{sample_image}
+use Rattle.archive.specs.Archive.{judged, sample_image}
 use Rattle.recovery.specs.Plan.{Plan, found, error, plan}
 use Rattle.recovery.specs.Claim.{Leads}
 use Rattle.delivery.specs.Delivery.{enough, plan_answer, plan_left}
 
--- What an entry returns for a list: its length in bytes, or 20.
-abbrev pub plan_bytes : Plan → ℕ
-plan_bytes (found list) = 8 * length list
-plan_bytes error = 20
+-- What a call returns for a list: its length in bytes, or refusal 20.
+abbrev pub plan_outcome : Plan → Result ℕ Refusal
+plan_outcome (found list) = Ok (8 * length list)
+plan_outcome error = Err NoPlan
 
 -- The state that a sheet's run ends with, and its list.
 unfoldable pub sheet_state : Text → RowState
@@ -34,8 +37,13 @@ sheet_plan s = plan entries (sheet_state s)
 
 -- The call, with the sheet s and a slice whose bytes are `out`: document 01's refusal 2, then 3, then 20; "a refusal
 -- leaves it untouched".
+unfoldable pub sheet_outcome : Text → Text → Result ℕ Refusal
+sheet_outcome s out = cond (is_sheet s) (cond (enough out) (plan_outcome (sheet_plan s)) (Err Room)) (Err Sheet)
+
+-- The number.
 unfoldable pub sheet_result : Text → Text → ℕ
-sheet_result s out = cond (is_sheet s) (cond (enough out) (plan_bytes (sheet_plan s)) 3) 2
+unfolding sheet_outcome
+sheet_result s out = returned (sheet_outcome s out)
 
 unfoldable pub sheet_left : Text → Text → Text
 sheet_left s out = cond (is_sheet s && enough out) (plan_left (sheet_plan s) out) out
@@ -56,9 +64,13 @@ image_plan image = plan entries (image_state image)
 abbrev pub lent_room : Text → Text → Bool
 lent_room out s = enough out && leb room (length s)
 
+unfoldable pub image_outcome : Text → Text → Text → Result ℕ Refusal
+image_outcome image out s = cond (lent_room out s) (judged image (plan_outcome (image_plan image))) (Err Room)
+
+-- The number.
 unfoldable pub image_result : Text → Text → Text → ℕ
-image_result image out s =
-    cond (lent_room out s) (cond (eqb (verdict image) 0) (plan_bytes (image_plan image)) (verdict image)) 3
+unfolding image_outcome
+image_result image out s = returned (image_outcome image out s)
 
 unfoldable pub image_left : Text → Text → Text → Text
 image_left image out s = cond (lent_room out s && eqb (verdict image) 0) (plan_left (image_plan image) out) out

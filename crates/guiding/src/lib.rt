@@ -2,12 +2,18 @@
 // entries for the hub's firmware (crate row) and the programs `plansheet` and `planimage`.
 #![tactic(auto)]
 
-ghost use Rattle.std.specs.Prelude.{◌≡◌, ◌*◌, ◌≤◌};
-ghost use Rattle.recovery.specs.Plan.{Plan};
-ghost use Rattle.delivery.specs.Delivery.{plan_answer, plan_count};
-ghost use Rattle.guiding.specs.Guiding.{plan_bytes, sheet_result, sheet_left, image_result, image_left, scratch_left, SheetsRecover, LengthsTell, ImagesAgree, SampleHolds};
+ghost use Rattle.std.specs.Prelude.{◌≡◌, ◌≤◌, length};
+ghost use Rattle.model.specs.State.{entries};
+ghost use Rattle.refinement.specs.Refinement.{abs};
+ghost use Rattle.refinement.specs.Lent.{places_in};
+ghost use Rattle.recovery.specs.Plan.{plan};
+ghost use Rattle.pieces.specs.Fitting.{Fit};
+ghost use Rattle.delivery.specs.Delivery.{plan_left};
+ghost use Rattle.guiding.specs.Guiding.{plan_outcome, sheet_outcome, sheet_left, image_outcome, image_left, scratch_left, SheetsRecover, LengthsTell, ImagesAgree, SampleHolds};
 
-use delivery::Planned;
+use cluster::Cluster;
+use refinement::LentMut;
+use refusal::{Refusal, ensure};
 
 // From every sheet whose run ends with the registry's epoch at most 3,998 the list leads to normal; a multiple of 8 is
 // a list's length, and no refusal; an image has the list of the row that was written. By the definitions: nothing to
@@ -22,93 +28,57 @@ pub fn sample()
     ensures { SampleHolds }
 {}
 
-// What an entry returns for what was answered. Callers see to a list of at most 2,064 records.
-fn returned(x: Planned) -> usize
-    requires { x.count ≤ 2064 }
-    ensures { (q : Plan) → x.answer ≡ plan_answer q → x.count ≡ plan_count q → result ≡ plan_bytes q }
+// Writes the list of a row, and hands back its length in bytes. Callers see to the row, the places and the room.
+fn give(row: &Cluster, p: LentMut<'_>, out: &mut [u8]) -> Result<usize, Refusal>
+    requires fit { Fit row.now (places_in p) }
+    requires room { 16512 ≤ length out.old }
+    ensures result { result ≡ plan_outcome (plan entries (abs row.now (places_in p.entry))) }
+    ensures list { out.new ≡ plan_left (plan entries (abs row.now (places_in p.entry))) out.old }
 {
-    if x.answer != 0 {
-        return x.answer as usize;
-    }
-    8 * x.count
+    let count = drafting::plan(row, p, &mut *out)?;
+    Ok(8 * count)
 }
 
-// Runs a sheet and writes the records that lead its row to normal. It returns their length in bytes, 2 for a sheet of
-// wrong length or without a valid opening, then 3 for a slice shorter than 16,512 bytes, then 20 where there is no list;
-// these leave the slice untouched.
-pub fn plan_sheet(sheet: &[u8], out: &mut [u8]) -> usize
-    ensures { (result ≡ sheet_result sheet.now out.old)
-        × (out.new ≡ sheet_left sheet.now out.old) }
+// Runs a sheet and writes the records that lead its row to normal. It returns their length in bytes; refusal 2 for a
+// sheet of wrong length or without a valid opening, then 3 for a slice shorter than 16,512 bytes, then 20 where there is
+// no list: these leave the slice untouched.
+pub fn plan_sheet(sheet: &[u8], out: &mut [u8]) -> Result<usize, Refusal>
+    ensures result { result ≡ sheet_outcome sheet.now out.old }
+    ensures list { out.new ≡ sheet_left sheet.now out.old }
 {
-    if !records::is_sheet(sheet) {
-        return 2;
-    }
-    if out.len() < 16512 {
-        return 3;
-    }
-    let mut store = [0u32; 4096];
-    let mut store2 = [0u16; 4096];
-    let mut list = [0u32; 512];
-    let mut list2 = [0u16; 512];
-    let mut answers = [0u8; 4096];
-    let mut sets = [0u8; 4096];
-    let row = running::play(
-        sheet,
-        &mut store,
-        &mut store2,
-        &mut list,
-        &mut list2,
-        &mut answers,
-        &mut sets,
-    );
-    let x = drafting::plan(
-        row,
-        &mut store,
-        &mut store2,
-        &mut list,
-        &mut list2,
-        &mut *out,
-    );
-    returned(x)
+    ensure(records::is_sheet(sheet), Refusal::Sheet)?;
+    ensure(16512 <= out.len(), Refusal::Room)?;
+    let mut p = LentMut {
+        store: &mut [0; 4096],
+        store2: &mut [0; 4096],
+        list: &mut [0; 512],
+        list2: &mut [0; 512],
+    };
+    let row = running::play(sheet, &mut p, &mut [0; 4096], &mut [0; 4096]);
+    refinement::typed(row);
+    give(&row, p, &mut *out)
 }
 
-// Takes up an image and writes the records that lead its row to normal. It returns their length in bytes, 3 for a slice
-// shorter than 16,512 bytes or a scratch that is too short, then 17, 18 or 19 for the image, then 20 where there is no
-// list; the slice is untouched then. Past 3 the scratch ends as zeros.
-pub fn plan_image(image: &[u8], out: &mut [u8], scratch: &mut [u8]) -> usize
-    ensures { (result ≡ image_result image.now out.old scratch.old)
-        × (out.new ≡ image_left image.now out.old scratch.old)
-        × (scratch.new ≡ scratch_left out.old scratch.old) }
+// Takes up an image and writes the records that lead its row to normal. It returns their length in bytes; refusal 3 for
+// a slice shorter than 16,512 bytes or a scratch that is too short, then 17, 18 or 19 for the image, then 20 where there
+// is no list: the slice is untouched then. Past 3 the scratch ends as zeros.
+pub fn plan_image(image: &[u8], out: &mut [u8], scratch: &mut [u8]) -> Result<usize, Refusal>
+    ensures result { result ≡ image_outcome image.now out.old scratch.old }
+    ensures list { out.new ≡ image_left image.now out.old scratch.old }
+    ensures scratch { scratch.new ≡ scratch_left out.old scratch.old }
 {
-    if out.len() < 16512 {
-        return 3;
-    }
-    let o = steps::opening(1);
-    let given = o.row;
-    let mut store = [0u32; 4096];
-    let mut store2 = [0u16; 4096];
-    let mut list = [0u32; 512];
-    let mut list2 = [0u16; 512];
-    let x = image::load(
-        given,
-        image,
-        &mut store,
-        &mut store2,
-        &mut list,
-        &mut list2,
-        &mut *scratch,
-    );
-    if x.answer != 0 {
-        return x.answer as usize;
-    }
-    let row = x.row;
-    let y = drafting::plan(
-        row,
-        &mut store,
-        &mut store2,
-        &mut list,
-        &mut list2,
-        &mut *out,
-    );
-    returned(y)
+    ensure(16512 <= out.len(), Refusal::Room)?;
+    let mut p = LentMut {
+        store: &mut [0; 4096],
+        store2: &mut [0; 4096],
+        list: &mut [0; 512],
+        list2: &mut [0; 512],
+    };
+    let Ok(opened) = steps::opening(1) else {
+        unreachable!()
+    };
+    let mut taken = opened;
+    image::load(&mut taken, image, &mut p, &mut *scratch)?;
+    refinement::typed(taken);
+    give(&taken, p, &mut *out)
 }

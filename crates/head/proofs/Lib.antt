@@ -1,2 +1,3 @@
 pub mod Back
 pub mod Filled
+pub mod Made

@@ -1,160 +1,141 @@
-// The head of an image (document 02, Paper 7), written; crate `head` has what it is, and reads it. Each writer stores
-// its bytes in out from place at on and answers the place after them. Inner layer: callers see to the room.
-#![tactic(auto)]
+// The head of an image (document 02, Paper 7), written; crate `head` has what it is, and reads it. Inner layer: callers
+// see to it that the page has room for the text.
+#![tactic(auto, using(text::proofs::Laws::pages))]
 
-ghost use Rattle.std.specs.Prelude.{[], ◌∷◌, ◌++◌, ◌≡◌, suc, ◌+◌, ◌<◌, ◌≤◌, length};
+ghost use Rattle.std.specs.Prelude.{[], ◌∷◌, ◌++◌, ◌≡◌};
 ghost use Rattle.fields.specs.Fields.{two};
 ghost use Rattle.cluster.specs.Layout.{bits, status_of, view_of, at_pair, controller_of, outline_of};
-ghost use Rattle.text.specs.Text.{Wrote};
+ghost use Rattle.text.specs.Text.{Puts, HasRoom};
 ghost use Rattle.head.specs.Head.{texts, mask_of, status_number, heard_number, view_bytes, heard_bytes, board_bytes, head_bytes};
 
 use cluster::{Cluster, Controller, Status, View};
+use members::Board;
+use text::Page;
 
 // A status by its place in document 01's list.
 fn status_number(g: Status) -> u8
     ensures { result ≡ status_number (status_of g) }
 {
-    match g {
-        Status::Normal => 0,
-        Status::Waiting => 1,
-        Status::Choosing => 2,
-    }
+    g as u8
 }
 
-// A heard length as an image has it, from 0 for none and n + 1 for n.
+// A heard length as an image has it, 65,535 for none, from 0 for none and n + 1 for n.
 fn heard_number(h: u16) -> u16
     ensures { result ≡ heard_number h }
 {
-    if h == 0 {
-        return 65535;
-    }
-    h - 1
+    h.wrapping_sub(1)
+}
+
+// A set, as an image has it: "member sets have board 1 as the lowest bit".
+fn mask(m: u8) -> u8
+    ensures { result ≡ mask_of (bits m) }
+{
+    m
 }
 
 // Writes a number of two bytes.
-fn put_two(out: &mut [u8], at: usize, n: u16) -> usize
-    requires { at + 2 ≤ length out.old }
-    ensures { Wrote out.old at (two n) out.new result }
+fn put_two(page: &mut Page<'_>, n: u16)
+    requires { HasRoom page.old (two n) }
+    ensures { Puts page.old (two n) page.new }
 {
-    let b = [(n % 256) as u8, (n / 256) as u8];
-    text::put_bytes(&mut *out, at, &b)
+    page.put_bytes(&n.to_le_bytes());
 }
 
 // Writes the epoch and the leader epoch of a view.
-fn put_epochs(out: &mut [u8], at: usize, v: View) -> usize
-    requires { at + 4 ≤ length out.old }
-    ensures { Wrote out.old at (two v.epoch ++ two v.term) out.new result }
+fn put_epochs(page: &mut Page<'_>, v: View)
+    requires { HasRoom page.old (two v.epoch ++ two v.term) }
+    ensures { Puts page.old (two v.epoch ++ two v.term) page.new }
 {
-    let p = put_two(&mut *out, at, v.epoch);
-    put_two(&mut *out, p, v.term)
+    put_two(page, v.epoch);
+    put_two(page, v.term);
 }
 
 // Writes the view of the registry or of the controller, with the number of its status or stage.
-fn put_view(out: &mut [u8], at: usize, v: View, code: u8) -> usize
-    requires { at + 8 ≤ length out.old }
-    ensures { Wrote out.old at (view_bytes (view_of v) code) out.new result }
+fn put_view(page: &mut Page<'_>, v: View, code: u8)
+    requires { HasRoom page.old (view_bytes (view_of v) code) }
+    ensures { Puts page.old (view_bytes (view_of v) code) page.new }
 {
-    let p = put_epochs(&mut *out, at, v);
-    let b = [v.leader, v.members, code, 0];
-    text::put_bytes(&mut *out, p, &b)
+    put_epochs(page, v);
+    page.put_bytes(&[v.leader, mask(v.members), code, 0]);
 }
 
 // Writes what the controller heard of a board: its length and its joined epoch.
-fn put_heard(out: &mut [u8], at: usize, h: u16, j: u16) -> usize
-    requires { at + 4 ≤ length out.old }
-    ensures { Wrote out.old at (two (heard_number h) ++ two j) out.new result }
+fn put_heard(page: &mut Page<'_>, h: u16, j: u16)
+    requires { HasRoom page.old (two (heard_number h) ++ two j) }
+    ensures { Puts page.old (two (heard_number h) ++ two j) page.new }
 {
-    let n = heard_number(h);
-    let p = put_two(&mut *out, at, n);
-    put_two(&mut *out, p, j)
+    put_two(page, heard_number(h));
+    put_two(page, j);
 }
 
 // Writes what the controller heard of the eight boards.
-fn put_heards(out: &mut [u8], at: usize, k: Controller) -> usize
-    requires { at + 32 ≤ length out.old }
-    ensures { Wrote out.old at (texts (heard_bytes (controller_of k))) out.new result }
+#[tactic(auto, using(text::proofs::Laws::each_page))]
+fn put_heards(page: &mut Page<'_>, k: &Controller)
+    requires { HasRoom page.old (texts (heard_bytes (controller_of k.now))) }
+    ensures { Puts page.old (texts (heard_bytes (controller_of k.now))) page.new }
 {
-    let heard = k.heard;
-    let joined = k.joined;
-    let mut p = at;
-    let mut i: usize = 0;
-    while i < 8 {
-        p = put_heard(&mut *out, p, heard[i], joined[i]);
-        i += 1;
+    for i in 0..8 {
+        put_heard(page, k.heard[i], k.joined[i]);
     }
-    p
 }
 
 // Writes the view and the joined epoch of a board.
-fn put_taken(out: &mut [u8], at: usize, v: View, j: u16) -> usize
-    requires { at + 8 ≤ length out.old }
-    ensures { Wrote out.old at
-        (two v.epoch ++ (two v.term ++ (two j ++ (v.leader ∷ mask_of (bits v.members) ∷ []))))
-        out.new result }
+fn put_taken(page: &mut Page<'_>, v: View, j: u16)
+    requires { HasRoom page.old (two v.epoch ++ (two v.term ++ (two j ++ (v.leader ∷ mask_of (bits v.members) ∷ [])))) }
+    ensures { Puts page.old (two v.epoch ++ (two v.term ++ (two j ++ (v.leader ∷ mask_of (bits v.members) ∷ []))))
+        page.new }
 {
-    let p = put_epochs(&mut *out, at, v);
-    let q = put_two(&mut *out, p, j);
-    let b = [v.leader, v.members];
-    text::put_bytes(&mut *out, q, &b)
+    put_epochs(page, v);
+    put_two(page, j);
+    page.put_bytes(&[v.leader, mask(v.members)]);
 }
 
-// Writes the eight counts of the board i + 1.
-fn put_counts(out: &mut [u8], at: usize, acked: [u16; 64], i: usize) -> usize
-    requires { (i < 8) × (at + 16 ≤ length out.old) }
-    ensures { Wrote out.old at (texts (λ b. two (at_pair acked (suc i) b))) out.new result }
+// Writes the eight counts of the board a.
+#[tactic(auto, using(text::proofs::Laws::each_page))]
+fn put_counts(page: &mut Page<'_>, acked: &[u16; 64], a: Board)
+    requires { HasRoom page.old (texts (λ b. two (at_pair acked.now a.number b))) }
+    ensures { Puts page.old (texts (λ b. two (at_pair acked.now a.number b))) page.new }
 {
-    let mut p = at;
-    let mut k: usize = 0;
-    while k < 8 {
-        p = put_two(&mut *out, p, acked[8 * i + k]);
-        k += 1;
+    for i in 0..8 {
+        put_two(page, acked[8 * a.index() + i]);
     }
-    p
 }
 
-// Writes what the board i + 1 has.
-fn put_board(out: &mut [u8], at: usize, row: Cluster, firsts: [u16; 9], i: usize) -> usize
-    requires { (i < 8) × (at + 26 ≤ length out.old) }
-    ensures { Wrote out.old at (board_bytes (outline_of row) firsts (suc i)) out.new result }
+// Writes what the board b has.
+fn put_board(page: &mut Page<'_>, row: &Cluster, firsts: &[u16; 9], b: Board)
+    requires { HasRoom page.old (board_bytes (outline_of row.now) firsts.now b.number) }
+    ensures { Puts page.old (board_bytes (outline_of row.now) firsts.now b.number) page.new }
 {
-    let views = row.views;
-    let joined = row.joined;
-    let acked = row.acked;
-    let v = views[i];
-    let p = put_taken(&mut *out, at, v, joined[i]);
-    let q = put_counts(&mut *out, p, acked, i);
-    put_two(&mut *out, q, firsts[i])
+    let i = b.index();
+    put_taken(page, row.views[i], row.joined[i]);
+    put_counts(page, &row.acked, b);
+    put_two(page, firsts[i]);
 }
 
 // Writes what the eight boards have.
-fn put_boards(out: &mut [u8], at: usize, row: Cluster, firsts: [u16; 9]) -> usize
-    requires { at + 208 ≤ length out.old }
-    ensures { Wrote out.old at (texts (board_bytes (outline_of row) firsts)) out.new result }
+#[tactic(auto, using(text::proofs::Laws::each_page))]
+fn put_boards(page: &mut Page<'_>, row: &Cluster, firsts: &[u16; 9])
+    requires { HasRoom page.old (texts (board_bytes (outline_of row.now) firsts.now)) }
+    ensures { Puts page.old (texts (board_bytes (outline_of row.now) firsts.now)) page.new }
 {
-    let mut p = at;
-    let mut i: usize = 0;
-    while i < 8 {
-        p = put_board(&mut *out, p, row, firsts, i);
-        i += 1;
+    for i in 0..8 {
+        put_board(page, row, firsts, Board::at(i));
     }
-    p
 }
 
-// Writes the head of a row whose lists have these first records, the boards' and then the receipts', at the start of a
-// slice. Inner layer: callers see to the room.
-pub fn put_head(out: &mut [u8], row: Cluster, firsts: [u16; 9]) -> usize
-    requires { 258 ≤ length out.old }
-    ensures { Wrote out.old 0 (head_bytes (outline_of row) firsts) out.new result }
+// Writes the head of a row whose lists have these first records, the boards' and then the receipts'. Inner layer:
+// callers see to the room.
+pub fn put_head(page: &mut Page<'_>, row: &Cluster, firsts: &[u16; 9])
+    requires { HasRoom page.old (head_bytes (outline_of row.now) firsts.now) }
+    ensures { Puts page.old (head_bytes (outline_of row.now) firsts.now) page.new }
 {
-    let g = row.registry;
-    let k = row.controller;
-    let s = g.status;
-    let t = k.stage;
-    let n = status_number(s);
-    let m = cluster::number(t);
-    let a = put_view(&mut *out, 0, g.view, n);
-    let b = put_view(&mut *out, a, k.view, m);
-    let c = put_heards(&mut *out, b, k);
-    let d = put_boards(&mut *out, c, row, firsts);
-    put_two(&mut *out, d, firsts[8])
+    put_view(page, row.registry.view, status_number(row.registry.status));
+    put_view(
+        page,
+        row.controller.view,
+        cluster::number(row.controller.stage),
+    );
+    put_heards(page, &row.controller);
+    put_boards(page, row, firsts);
+    put_two(page, firsts[8]);
 }

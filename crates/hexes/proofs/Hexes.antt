@@ -1,23 +1,19 @@
 -- Bytes in hexadecimal: how many digits there are, one byte more, and that the digits tell the bytes. Assumes nothing.
 use mathlib.Core.Bool.{cond}
 use mathlib.Core.List.{[], ◌∷◌, ◌++◌}
-use mathlib.Core.Path.{◌≡◌, refl, sym, ap, subst, ◌∙◌}
+use mathlib.Core.Path.{◌≡◌, refl, sym, ap, ◌∙◌}
 use Prim.Native.Nat.{ℕ, suc, ◌+◌, ◌-◌, ◌*◌, ◌/◌, ◌%◌, ◌<◌, ◌≤◌}
 use native.Mathlib.Numerals.{add-one}
 use native.Mathlib.Omega.{arith}
 use lib.Dec.{ltb, ltb→lt, nltb→le}
 use lib.ListN.{length, take, get_or}
-use lib.Seq.{take-suc, take-length, length-take-le}
+use lib.Seq.{take-suc}
+use Rattle.std.proofs.lemmas.List.{take_all, length-take}
 use borrow.Author.Tests.{lt-ltb, le-ltb}
 use Rattle.model.proofs.Tests.{by-test}
-use Rattle.text.specs.Text.{Text, Wrote}
-use Rattle.text.proofs.Laws.{nothing}
+use Rattle.text.specs.Text.{Text}
 use Rattle.lines.specs.Lines.{space}
 use Rattle.hexes.specs.Hex.{hex_digit, hex, hexes}
-
-pub hex-written : {d e : Text} {at r high low : ℕ} (b : ℕ) → high ≡ hex_digit (b / 16) → low ≡ hex_digit (b % 16)
-    → Wrote d at (32 ∷ high ∷ low ∷ []) e r → Wrote d at (space ++ hex b) e r
-hex-written {d} {e} {at} {r} {high} {low} b p q w = subst (λ t. Wrote d at t e r) (λ i. 32 ∷ p i ∷ q i ∷ []) w
 
 hexes-append : (xs ys : Text) → hexes (xs ++ ys) ≡ hexes xs ++ hexes ys
 unfolding hexes
@@ -29,9 +25,9 @@ unfolding hexes
 hexes-triple [] = refl
 hexes-triple (x ∷ s) = omega (arith, hexes-triple s)
 
-pub hexes-none : (s d : Text) (at : ℕ) → Wrote d at (hexes (take 0 s)) d at
+pub hexes_none : hexes [] ≡ []
 unfolding hexes
-hexes-none s d at = nothing d at
+hexes_none = refl
 
 pub hexes-next : (s : Text) (i : ℕ) → i < length s → hexes (take (i + 1) s) ≡ hexes (take i s) ++
     (space ++ hex (get_or s i 0))
@@ -42,15 +38,8 @@ hexes-next s i h =
     one : (b : ℕ) → hexes (b ∷ []) ≡ space ++ hex b
     one b = unfold hexes in refl
 
--- How much of the room is used: three bytes for each.
-pub hexes-length : (s : Text) (i : ℕ) → i ≤ length s
-    → (length (hexes (take i s)) ≡ 3 * i) × (length (hexes s) ≡ 3 * length s)
-hexes-length s i h = (hexes-triple (take i s) ∙ ap (λ n. 3 * n) (length-take-le i s h), hexes-triple s)
-
-pub hexes-all : {d e : Text} {at r : ℕ} (s : Text) (i : ℕ) → i ≡ length s → Wrote d at (hexes (take i s)) e r
-    → Wrote d at (hexes s) e r
-hexes-all {d} {e} {at} {r} s i h w =
-    subst (λ t. Wrote d at (hexes t) e r) (ap (λ n. take n s) h ∙ take-length s) w
+-- For a writer of bytes one after the other.
+pub ruleset hexes_page = (hexes_none, hexes-next, hexes-triple, take_all, length-take)
 
 -- The number below 16 of a digit.
 abbrev unhex : ℕ → ℕ

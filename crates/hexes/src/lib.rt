@@ -1,44 +1,38 @@
 // Bytes in hexadecimal, as the line of a malformed record has them (document 02, Paper 5).
-#![tactic(auto)]
+#![tactic(auto, using(text::proofs::Laws::pages))]
 
 ghost use Rattle.std.specs.Prelude.{◌≡◌, ◌++◌, ◌+◌, ◌<◌, ◌≤◌, length};
-ghost use Rattle.text.specs.Text.{Wrote};
+ghost use Rattle.text.specs.Text.{Puts, HasRoom};
 ghost use Rattle.lines.specs.Lines.{space};
 ghost use Rattle.hexes.specs.Hex.{hex_digit, hex, hexes};
+
+use text::Page;
 
 // The digit of a number below 16.
 fn hex_digit(x: u8) -> u8
     requires { x < 16 }
     ensures { result ≡ hex_digit x }
 {
-    if x < 10 {
-        return 48 + x;
-    }
-    55 + x
+    if x < 10 { b'0' + x } else { b'A' + (x - 10) }
 }
 
 // Writes a space and a byte.
-fn put_hex(out: &mut [u8], at: usize, b: u8) -> usize
-    requires { at + 3 ≤ length out.old }
-    ensures { Wrote out.old at (space ++ hex b) out.new result }
+fn put_hex(page: &mut Page<'_>, b: u8)
+    requires { HasRoom page.old (space ++ hex b) }
+    ensures { Puts page.old (space ++ hex b) page.new }
 {
-    let high = hex_digit(b / 16);
-    let low = hex_digit(b % 16);
-    let p = text::put_byte(&mut *out, at, 32);
-    let q = text::put_byte(&mut *out, p, high);
-    text::put_byte(&mut *out, q, low)
+    page.put_byte(b' ');
+    page.put_byte(hex_digit(b / 16));
+    page.put_byte(hex_digit(b % 16));
 }
 
 // Writes bytes, a space before each. Inner layer: callers see to the room.
-pub fn put_hexes(out: &mut [u8], at: usize, s: &[u8]) -> usize
-    requires { at + length (hexes s.now) ≤ length out.old }
-    ensures { Wrote out.old at (hexes s.now) out.new result }
+#[tactic(auto, using(text::proofs::Laws::pages, crate::proofs::Hexes::hexes_page))]
+pub fn put_hexes(page: &mut Page<'_>, s: &[u8])
+    requires { HasRoom page.old (hexes s.now) }
+    ensures { Puts page.old (hexes s.now) page.new }
 {
-    let mut p = at;
-    let mut i = 0;
-    while i < s.len() {
-        p = put_hex(&mut *out, p, s[i]);
-        i += 1;
+    for b in s {
+        put_hex(page, *b);
     }
-    p
 }

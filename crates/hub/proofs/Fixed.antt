@@ -11,7 +11,7 @@ use Rattle.cluster.specs.Layout.{registry_of}
 use Rattle.refinement.specs.Rows.{TypedController}
 use Rattle.refinement.proofs.Rows.{bits-injective, controllers-equal}
 use Rattle.hub.specs.declared.Report.{Report}
-use Rattle.hub.specs.declared.Reply.{Reply}
+use Rattle.hub.specs.Replies.{Reply}
 use Rattle.hub.specs.Lent.{Reported, Lends, TypedReply, LentFixed}
 
 -- A state in which what a board tells is so: every board has it. (One with the registry that step 10 is told needs no

@@ -1,10 +1,11 @@
 -- From the by-value step of the core and refusal 1 to what a call over the lent controller promises. Assumes nothing.
 use mathlib.Core.Bool.{Bool, true, false, not, cond, ◌||◌}
 use mathlib.Core.Path.{◌≡◌, refl, sym, ap, subst, ◌∙◌}
-use Prim.Native.Nat.{ℕ}
+use Prim.Native.Nat.{ℕ, ◌≤◌}
 use lib.Dec.{T, leb, eqb, eqb→eq}
 use lib.ListN.{length}
-use borrow.Author.Tests.{eqb-false, eq-eqb}
+use borrow.Author.Tests.{leb-true, eq-eqb}
+use Rattle.std.specs.Prelude.{Result, Ok, Err}
 use Rattle.model.specs.Members.{is_replica, none}
 use Rattle.model.specs.State.{RowState, Outline, outline, entries, stage_number}
 use Rattle.model.specs.Steps.{Step, accepted, qualified, next, step, with_controller}
@@ -12,14 +13,17 @@ use Rattle.model.specs.Ranges.{every}
 use Rattle.model.proofs.Tests.{same-choice, of-true, is_true, split-and}
 use Rattle.model.proofs.Range.{AllTrue, of-every}
 use Rattle.cluster.specs.declared.Controller.{Controller}
-use Rattle.cluster.specs.declared.Told.{Told}
-use Rattle.cluster.specs.Layout.{bits, stage_of, controller_of}
+use Rattle.refusal.specs.declared.Refusal.{Refusal}
+use Rattle.refusal.specs.declared.Refusal.TheVariants.{Invalid}
+use Rattle.refusal.specs.Refusal.{number}
+use Rattle.cluster.specs.Ended.{told}
+use Rattle.cluster.specs.Layout.{stage_of, controller_of}
 use Rattle.cluster.specs.Parts.{Tells}
 use Rattle.cluster.specs.Stages.{HasLeader}
 use Rattle.steps_controller.specs.Known.{LeaderKnown, ReadKnown, HearKnown}
 use Rattle.refinement.proofs.Turning.{bits_none}
 use Rattle.hub.specs.declared.Report.{Report}
-use Rattle.hub.specs.declared.Returned.{Returned}
+use Rattle.hub.specs.Replies.{returned}
 use Rattle.hub.specs.Lent.{controller_fits, report_ranges, report_fits, leader_fits, Reported, Lends}
 
 -- A step that changes the controller at most: the state before it with the controller after it is the state after it.
@@ -33,47 +37,41 @@ module _ (st : Step) (only : (s : RowState) → next entries s st ≡ with_contr
       go false = refl
 
 -- Refusal 1, which leaves c.
-pub turned-away : (st : Step) (c : Controller) (fits : Bool) → fits ≡ false → (Known : RowState → Type 0) (t : Returned)
-    → t.reply.answer ≡ 1 → t.reply.behind ≡ 0 → t.controller ≡ c → Lends fits Known st c t.reply t.controller
-turned-away st c fits unfit Known t ea eb ec = record {
-  answer = λ s f. ea ∙ rw unfit;
-  behind = λ s f. rw unfit (ap bits eb ∙ bits_none);
-  state = λ s f. rw (unfit, ec);
-  refused = λ _. ec;
+pub turned-away : (ok fits : Bool) (Known : RowState → Type 0) (st : Step) (c : Controller) (e : Refusal) → ok ≡ fits
+    → ◌≡◌ {A = Result (Unit {0}) Refusal} (Err e) (cond ok (Ok tt) (Err Invalid))
+    → Lends fits Known st c (returned c (Err e)).reply (returned c (Err e)).controller
+turned-away true fits Known st c e same l = absurd (cc)
+turned-away false fits Known st c e same l = record {
+  answer = λ s f. rw (← same) (ap number one);
+  behind = λ s f. rw (← same) bits_none;
+  state = λ s f. rw (← same);
+  refused = λ _. refl;
 }
+  where
+    one : e ≡ Invalid
+    one = cc
 
--- The core's step of c, which is st and asks no majority, gave a; refusal 1 is checked before it, and what is refused
--- leaves c.
+-- Or what passed it.
+pub let-through : (ok fits : Bool) (u : Unit {0}) → ok ≡ fits
+    → ◌≡◌ {A = Result (Unit {0}) Refusal} (Ok u) (cond ok (Ok tt) (Err Invalid)) → fits ≡ true
+let-through true fits u same l = sym same
+let-through false fits u same l = absurd (cc)
+
+-- The core's step of c, which is st and asks no majority, left x, where refusal 1 lets c and what it was told through.
 module _ (st : Step) (only : (s : RowState) → next entries s st ≡ with_controller s (next entries s st).controller)
     (quiet : (m : Outline) → qualified m st ≡ none) (c : Controller) (Known' : RowState → Type 0)
-    (core : Step) (a : Told) (by-core : Tells Known' core c a)
-    (same_step : core ≡ st) where
-  h : Tells Known' st c a
-  h = subst (λ st. Tells Known' st c a) same_step by-core
-
-  pub lends : (fits : Bool) (Known : RowState → Type 0) → ((s : RowState) → fits ≡ true → Known s → Known' s) → (n : ℕ)
-      → n ≡ cond fits a.answer 1
-      → (t : Returned) → t.reply.answer ≡ n → t.reply.behind ≡ 0
-      → t.controller ≡ cond (eqb n 0) a.controller c
-      → Lends fits Known st c t.reply t.controller
-  lends true Known k n e t ea eb ec =
-      let left : t.controller ≡ a.controller = ec ∙ same (eqb n 0) refl in
-      record {
-        answer = λ s f. ea ∙ e ∙ h.answer s (k s refl (f refl));
-        behind = λ s f. ap bits eb ∙ bits_none
-            ∙ same-choice (accepted (outline (with_controller s (controller_of c))) st)
-            (quiet (outline (with_controller s (controller_of c))));
-        state = λ s f. ap (λ d. with_controller s (controller_of d)) left
-            ∙ ap (with_controller s) (h.after s (k s refl (f refl)))
-            ∙ put-back st only (with_controller s (controller_of c));
-        refused = λ z. left ∙ h.refused (λ y. z (ea ∙ e ∙ y));
-      }
-    where
-      same : (u : Bool) → eqb n 0 ≡ u → cond u a.controller c ≡ a.controller
-      same true q = refl
-      same false q = sym (h.refused (λ y. eqb-false n 0 q (e ∙ y)))
-  lends false Known k n e t ea eb ec =
-      turned-away st c false refl Known t (ea ∙ e) eb (ec ∙ ap (λ m. cond (eqb m 0) a.controller c) e)
+    (x : Result Controller Refusal) (h : Tells Known' st c (told c x)) where
+  pub lends : (fits : Bool) (Known : RowState → Type 0) → fits ≡ true → ((s : RowState) → Known s → Known' s)
+      → Lends fits Known st c (returned c x).reply (returned c x).controller
+  lends fits Known ok k = record {
+    answer = λ s f. rw ok (h.answer s (k s (f ok)));
+    behind = λ s f. rw ok (bits_none
+        ∙ same-choice (accepted (outline (with_controller s (controller_of c))) st)
+        (quiet (outline (with_controller s (controller_of c)))));
+    state = λ s f. rw ok (ap (with_controller s) (h.after s (k s (f ok)))
+        ∙ put-back st only (with_controller s (controller_of c)));
+    refused = h.refused;
+  }
 
 -- A report that fits.
 module _ (c : Controller) (x : Report) where
@@ -88,7 +86,7 @@ module _ (c : Controller) (x : Report) where
     both : T (report_fits c x) × T (not (eqb stage 1) || eqb x.board c.view.leader)
     both = split-and (report_fits c x) (not (eqb stage 1) || eqb x.board c.view.leader) (of-true t)
 
-    fit : report_fits c x ≡ true
+    pub fit : report_fits c x ≡ true
     fit = is_true (report_fits c x) both.0
 
     leaders : stage ≡ 1 → x.board ≡ c.view.leader
@@ -98,19 +96,18 @@ module _ (c : Controller) (x : Report) where
     pub leader-fits : HasLeader c
     leader-fits g = subst (λ b. is_replica b ≡ true) (leaders g) (is_true (is_replica x.board) (fields fit).0)
 
--- What the core's steps are told is so, where the report fits and is so. In place of the report's length they are told
--- l, which is a length in any case.
-module _ (c : Controller) (x : Report) (l : ℕ) (short : leb x.len 512 ≡ true → l ≡ x.len) (s : RowState) where
-  len-told : report_fits c x ≡ true → Reported x s → length (s.log x.board) ≡ l
-  len-told t k = k.len ∙ sym (short (is_true (leb x.len 512) (fields c x t).1.1.1.0))
+-- What the core's steps are told is so, where the report fits and is so.
+module _ (c : Controller) (x : Report) where
+  pub short : report_fits c x ≡ true → x.len ≤ 512
+  short t = leb-true x.len 512 (is_true (leb x.len 512) (fields c x t).1.1.1.0)
 
-  pub read_told : report_fits c x ≡ true → Reported x s → ReadKnown x.board x.joined l s
-  read_told t k _ = (k.joined, len-told t k)
+  module _ (s : RowState) (k : Reported x s) where
+    pub read_told : ReadKnown x.board x.joined x.len s
+    read_told _ = (k.joined, k.len)
 
-  pub hear-told : report_fits c x ≡ true → Reported x s → HearKnown x.board x.epoch x.joined l s
-  hear-told t k _ = (k.epoch, k.joined, len-told t k)
+    pub hear-told : HearKnown x.board x.epoch x.joined x.len s
+    hear-told _ = (k.epoch, k.joined, k.len)
 
-  pub leader-told : leader_fits c x ≡ true → Reported x s → LeaderKnown c x.epoch l s
-  leader-told t k g =
-      subst (λ b. ((s.view b).epoch ≡ x.epoch) × (length (s.log b) ≡ l)) (leaders c x t g)
-      (k.epoch, len-told (fit c x t) k)
+    pub leader-told : leader_fits c x ≡ true → LeaderKnown c x.epoch x.len s
+    leader-told t g =
+        subst (λ b. ((s.view b).epoch ≡ x.epoch) × (length (s.log b) ≡ x.len)) (leaders c x t g) (k.epoch, k.len)

@@ -4,7 +4,6 @@ use Prim.Native.Nat.{ℕ}
 use Rattle.model.specs.State.{RowState, entries, opened}
 use Rattle.model.specs.Steps.{Step, step}
 use Rattle.model.specs.Claim.{after}
-use Rattle.steps.specs.Calls as Calls
 use Rattle.steps.specs.Calls.{Held, Called, Calls}
 use Rattle.steps.proofs.Following.{Holds, Reached, fit, goes, takes-up, follow, opening, open-reached, follows}
 use Rattle.hub.specs.Whole.{Link, by_value, news, read_leader, read, hear, Links, stop, link, resume, PutBack, LinksSafe}

@@ -21,7 +21,7 @@ use Rattle.refinement.specs.Refinement.{Places, logged, abs, Shape, Ready, writt
 use Rattle.refinement.proofs.Turning.{logged-full, log-len, outline-abs}
 use Rattle.steps.specs.Call.{valid}
 use Rattle.shown.proofs.Valid.{ready, valid-full, valid-range}
-use Rattle.hub.specs.declared.Reply.{Reply}
+use Rattle.hub.specs.Replies.{Reply}
 use Rattle.hub.specs.Lent.{registry_fits, controller_fits, report_ranges, report_fits, leader_fits, Reported, Lends}
 use Rattle.hub.specs.Whole.{put_back, report_of, AsWhole, PutBack}
 use Rattle.hub.proofs.Fitting.{registry-fits, hearings, controller-fits}

@@ -10,7 +10,7 @@ use Rattle.cluster.specs.declared.Controller.{Controller}
 use Rattle.cluster.specs.Layout.{bits, stage_of, registry_of, controller_of}
 use Rattle.refinement.specs.Rows.{TypedController}
 use Rattle.hub.specs.declared.Report.{Report}
-use Rattle.hub.specs.declared.Reply.{Reply}
+use Rattle.hub.specs.Replies.{Reply}
 
 -- Refusal 1 of a registry, and of a controller: "a number outside the ranges above, the registry's leader 0 while
 -- status is not choosing, or the controller's leader 0 at stage leader or boards". All else in an opened row is in

@@ -12,7 +12,7 @@ use Rattle.refinement.specs.Refinement.{Places, Shape}
 use Rattle.steps.specs.Call.{valid, Did}
 use Rattle.steps.specs.Calls.{Held, Called, TakenUp, Calls, Begins, Follows}
 use Rattle.hub.specs.declared.Report.{Report}
-use Rattle.hub.specs.declared.Reply.{Reply}
+use Rattle.hub.specs.Replies.{Reply}
 use Rattle.hub.specs.Lent.{TakesNews, ReadsLeader, Reads, Hears}
 
 -- The row with the controller c.

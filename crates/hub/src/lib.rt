@@ -3,10 +3,12 @@
 // leaves.
 #![tactic(auto)]
 
+ghost use Rattle.hub.specs.Replies.{reply};
 ghost use Rattle.hub.specs.Lent.{TakesNews, ReadsLeader, Reads, Hears, LentFixed};
 ghost use Rattle.hub.specs.Whole.{PutBack, LinksSafe};
 
 use cluster::{Controller, Registry};
+use refusal::Refusal;
 
 pub mod copied;
 mod fits;
@@ -21,55 +23,38 @@ pub struct Report {
     pub len: u16,
 }
 
-// What a call answers, and the members behind its step as a mask: the empty set, as none of the four steps asks a
-// majority.
-#[derive(Clone, Copy)]
-pub struct Reply {
-    pub answer: u8,
-    pub behind: u8,
-}
-
-// The reply of a call, and the record that it leaves.
-#[derive(Clone, Copy)]
-pub struct Returned {
-    pub reply: Reply,
-    pub controller: Controller,
-}
+// Below, Ok hands back the members behind the step as a mask: the empty set, as none of the four steps asks a majority.
 
 // Step 10, the controller takes news of the registry g.
-pub fn refresh_controller(c: &mut Controller, g: Registry) -> Reply
-    ensures { TakesNews c.old g result c.new }
+pub fn refresh_controller(c: &mut Controller, g: Registry) -> Result<u8, Refusal>
+    ensures { TakesNews c.old g (reply result) c.new }
 {
-    let a = copied::refresh_controller(*c, g);
-    *c = a.controller;
-    a.reply
+    *c = copied::refresh_controller(*c, g)?;
+    Ok(0)
 }
 
 // Step 11, the controller reads its leader, of which x tells.
-pub fn read_leader(c: &mut Controller, x: Report) -> Reply
-    ensures { ReadsLeader c.old x result c.new }
+pub fn read_leader(c: &mut Controller, x: Report) -> Result<u8, Refusal>
+    ensures { ReadsLeader c.old x (reply result) c.new }
 {
-    let a = copied::read_leader(*c, x);
-    *c = a.controller;
-    a.reply
+    *c = copied::read_leader(*c, x)?;
+    Ok(0)
 }
 
 // Step 12, the controller reads the board of which x tells.
-pub fn read(c: &mut Controller, x: Report) -> Reply
-    ensures { Reads c.old x result c.new }
+pub fn read(c: &mut Controller, x: Report) -> Result<u8, Refusal>
+    ensures { Reads c.old x (reply result) c.new }
 {
-    let a = copied::read(*c, x);
-    *c = a.controller;
-    a.reply
+    *c = copied::read(*c, x)?;
+    Ok(0)
 }
 
 // Step 14, the controller hears the board of which x tells.
-pub fn hear(c: &mut Controller, x: Report) -> Reply
-    ensures { Hears c.old x result c.new }
+pub fn hear(c: &mut Controller, x: Report) -> Result<u8, Refusal>
+    ensures { Hears c.old x (reply result) c.new }
 {
-    let a = copied::hear(*c, x);
-    *c = a.controller;
-    a.reply
+    *c = copied::hear(*c, x)?;
+    Ok(0)
 }
 
 // The lent controller put back into its row makes a call of the whole row; so demand 3 holds for lists that mix calls

@@ -3,7 +3,7 @@ use mathlib.Core.Bool.{Bool, true, false, cond, ◌&&◌}
 use mathlib.Core.List.{List, [], ◌∷◌, map}
 use mathlib.Core.Logic.{⊎_elim}
 use mathlib.Core.Path.{◌≡◌, refl, sym, ap, ap₂, subst, ◌∙◌}
-use Prim.Native.Nat.{ℕ, zero, suc, ◌+◌, ◌-◌, ◌*◌, ◌/◌, ◌<◌, ◌≤◌}
+use Prim.Native.Nat.{ℕ, zero, suc, ◌+◌, ◌-◌, ◌*◌, ◌<◌, ◌≤◌}
 use native.Mathlib.Nat.{not-suc-le-zero}
 use native.Mathlib.Omega.{arith}
 use lib.Dec.{T, leb, eqb, eqb→eq}
@@ -28,7 +28,6 @@ use Rattle.loading.specs.Read.{boards_of, receipts_of, laid}
 use Rattle.loading.proofs.Boards.{sound-at}
 use Rattle.loading.proofs.Laid.{laid-length, sets-after}
 use Rattle.loading.proofs.Places.{list-there, rest-left}
-use Rattle.shown.specs.Shown.{lengths_fit, valid}
 use Rattle.shown.proofs.Valid.{fits-full, all-tests}
 use Rattle.image.specs.Image.{records_in, length_fits, numbers_fit, links_fit, verdict, row_in, places_in}
 use Rattle.image.specs.Keeping.{TakenFits, PastLeft}

@@ -1,8 +1,8 @@
 -- What the writer wrote the reader takes: the calls, one after the other. Assumes nothing.
-use mathlib.Core.Bool.{Bool, true, false, cond, ◌&&◌}
+use mathlib.Core.Bool.{Bool, true, false, cond}
 use mathlib.Core.Logic.{◌≢◌}
 use mathlib.Core.Path.{◌≡◌, refl, sym, ap, subst, ◌∙◌}
-use Prim.Native.Nat.{ℕ, ◌+◌, ◌≤◌}
+use Prim.Native.Nat.{ℕ}
 use native.Mathlib.Omega.{arith}
 use lib.Dec.{leb, eqb}
 use lib.ListN.{length, take}
@@ -15,7 +15,7 @@ use Rattle.model.proofs.Tests.{by_cond}
 use Rattle.refinement.specs.Refinement.{Places, Full, abs}
 use Rattle.shown.specs.Shown.{lengths_fit, valid}
 use Rattle.shown.proofs.Valid.{fits-full}
-use Rattle.image.specs.declared.Loaded.{Loaded}
+use Rattle.image.specs.Loaded.{Loaded}
 use Rattle.image.specs.Image.{image_of, verdict, row_in, places_in}
 use Rattle.image.specs.Keeping.{Saves, taken, Loads, ReadsBack, Resumes}
 use Rattle.image.proofs.Fitting.{places-full}

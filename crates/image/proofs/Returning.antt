@@ -1,36 +1,33 @@
 -- A written row reads back as the same row. Assumes nothing.
-use mathlib.Core.Bool.{Bool, true, ◌&&◌}
+use mathlib.Core.Bool.{true, ◌&&◌}
 use mathlib.Core.List.{List, [], ◌∷◌, ◌++◌, map}
 use mathlib.Core.Logic.{⊎_elim}
 use mathlib.Core.Path.{◌≡◌, refl, sym, ap, subst, ◌∙◌, fun_ext}
 use Prim.Native.Nat.{ℕ, zero, suc, ◌+◌, ◌*◌, ◌<◌, ◌≤◌}
 use native.Mathlib.Omega.{arith}
-use lib.Dec.{T, leb, eqb}
-use lib.ListN.{length, get_or, take, replicate}
+use lib.ListN.{length, get_or, replicate}
 use borrow.Author.Tests.{eq-eqb, le-leb}
-use Rattle.model.specs.Members.{is_replica}
 use Rattle.model.specs.State.{Entry}
 use Rattle.model.specs.Ranges.{every, eight, in_range, terms_in_range, kept_in_range}
-use Rattle.model.proofs.Tests.{of-true, is_true, split-and, join-and, le-or-lt}
+use Rattle.model.proofs.Tests.{of-true, is_true, split-and, le-or-lt}
 use Rattle.model.proofs.Range.{to-ranges, of-eight, to-every}
 use Rattle.text.specs.Text.{Text, over}
 use Rattle.cluster.specs.declared.Cluster.{Cluster}
-use Rattle.cluster.specs.Layout.{at, outline_of}
+use Rattle.cluster.specs.Layout.{outline_of}
 use Rattle.cluster.proofs.Laws.{get_d-same}
 use Rattle.logstore.specs.Log.{pairs, log_of}
 use Rattle.refinement.specs.Refinement.{Places, Full, Ready, abs}
 use Rattle.refinement.specs.Rows.{Typed}
 use Rattle.shown.specs.Shown.{lengths_fit, valid}
-use Rattle.shown.proofs.Valid.{bounded, ready, fits-full, valid-full, valid-range}
-use Rattle.head.specs.Head.{head_bytes, row_at, codes_fit}
+use Rattle.shown.proofs.Valid.{bounded, ready, fits-full, valid-range}
+use Rattle.head.specs.Head.{head_bytes, row_at}
 use Rattle.head.proofs.Back as Head
 use Rattle.head.proofs.Back.{head-length, codes-back, firsts-back, row_back}
 use Rattle.chains.specs.Image.{firsts_from, firsts_of, epochs_fit, holds}
-use Rattle.loading.specs.Read.{boards_of, receipts_of}
-use Rattle.saving.specs.Saved.{firsts_for, records_all, bytes_of, nine_lists, sum_of, sum_by, firsts_by}
+use Rattle.saving.specs.Saved.{firsts_for, records_all, bytes_of, nine_lists, sum_of, firsts_by}
 use Rattle.saving.proofs.Lengths.{nine-at, board-list, list_at, sized-sum, sized-most, sized-firsts}
 use Rattle.saving.proofs.Back.{Linked, image-back, places-back}
-use Rattle.image.specs.Image.{records_in, length_fits, numbers_fit, links_fit, verdict, lists_of, image_of, row_in, places_in}
+use Rattle.image.specs.Image.{records_in, length_fits, numbers_fit, links_fit, verdict, row_in, places_in}
 use Rattle.image.specs.Keeping.{ReadsBack}
 use Rattle.image.proofs.Fitting.{lengths-range, past_end, records-are}
 use Rattle.image.proofs.Writing.{lists, sized, image-is, image-length}

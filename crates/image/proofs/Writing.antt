@@ -1,18 +1,20 @@
 -- The image of a row, and what the writer hands back and leaves. Assumes nothing.
-use mathlib.Core.Bool.{Bool, true, false, cond, ◌&&◌}
-use mathlib.Core.List.{List, [], ◌∷◌, ◌++◌, map}
+use mathlib.Core.Bool.{Bool, true, false}
+use mathlib.Core.List.{List, [], ◌∷◌, ◌++◌}
 use mathlib.Core.Path.{◌≡◌, refl, sym, ap, ◌∙◌}
-use Prim.Native.Nat.{ℕ, zero, suc, ◌+◌, ◌-◌, ◌*◌, ◌<◌, ◌≤◌}
+use Prim.Native.Nat.{ℕ, zero, suc, ◌+◌, ◌-◌, ◌*◌, ◌≤◌}
 use native.Mathlib.Omega.{arith}
 use lib.Dec.{T, leb}
 use lib.ListN.{length, take, drop, length-append}
-use borrow.Author.Tests.{le-leb, lt-leb}
 use Rattle.model.specs.Members.{is_replica}
 use Rattle.model.specs.State.{Entry, RowState, outline}
 use Rattle.model.proofs.Tests.{of-true}
 use Rattle.model.proofs.Range.{to-ranges}
-use Rattle.text.specs.Text.{Text, over}
-use Rattle.text.proofs.Laws.{over-append}
+use Rattle.std.specs.Prelude.{Ok, Err}
+use Rattle.refusal.specs.declared.Refusal.TheVariants.{Invalid, Room}
+use Rattle.text.specs.declared.Page.{Page}
+use Rattle.text.specs.Text.{Text, over, Puts, HasRoom}
+use Rattle.text.proofs.Laws.{puts-then, puts-length}
 use Rattle.cluster.specs.declared.Cluster.{Cluster}
 use Rattle.cluster.specs.Layout.{at, outline_of}
 use Rattle.refinement.specs.Refinement.{Places, Full, Shape, Ready, logged, listed, abs}
@@ -21,10 +23,10 @@ use Rattle.shown.proofs.Valid.{ready, valid-full, valid-range}
 use Rattle.head.specs.Head.{head_bytes}
 use Rattle.head.proofs.Back.{head-length}
 use Rattle.saving.specs.Saved.{firsts_for, records_all, bytes_of, nine_lists, sum_of, sum_by, firsts_by}
-use Rattle.saving.proofs.Lengths.{Sized, nine-sized, sized-sum, sized-firsts}
+use Rattle.saving.proofs.Lengths.{Sized, nine-sized, sized-sum, sized-firsts, sum-most as nine-most}
 use Rattle.saving.proofs.Bytes.{bytes-length}
 use Rattle.image.specs.Image.{lists_of, image_of}
-use Rattle.image.specs.Keeping.{Saves, ImagesTell}
+use Rattle.image.specs.Keeping.{saved, Saves, ImagesTell}
 
 -- No head looks at the lists.
 head-same : (row : Cluster) (p : Places) (firsts : List ℕ)
@@ -37,13 +39,21 @@ module _ (row : Cluster) (p : Places) (shape : Shape row) (v : valid row p ≡ t
   abbrev pub lists : List (List Entry)
   lists = lists_of (abs row p)
 
+  -- What its ranges give.
+  pub full : Full p
+  full = valid-full row p v
+
+  pub fit : Ready row
+  fit = ready row shape (valid-range row p v)
+
+  pub total-most : sum_by (row.len ++ (row.issued ∷ [])) ≤ 4608
+  total-most = nine-most row.len row.issued fit.short.eight fit.short.most fit.issued
+
   pub sized : Sized lists row.len row.issued
   unfolding nine_lists
   sized =
-      let f = valid-full row p v in
-      let r = ready row shape (valid-range row p v) in
       nine-sized p.store p.store2 row.len p.list p.list2 row.issued
-      f.store f.store2 shape.len r.short.most f.list f.list2 r.issued
+      full.store full.store2 shape.len fit.short.most full.list full.list2 fit.issued
 
   -- Its image, by the lengths.
   pub image-is : image_of (abs row p)
@@ -53,6 +63,25 @@ module _ (row : Cluster) (p : Places) (shape : Shape row) (v : valid row p ≡ t
       ap (λ h. h ++ bytes_of (records_all 1 lists)) (head-same row p (firsts_for 1 lists)
       ∙ ap (head_bytes (outline_of row)) (sized-firsts lists row.len row.issued sized 1))
 
+  -- The head and the records have room where the image has.
+  module _ (a : Page) (firsts : List ℕ) (z : a.at ≡ 0)
+      (room : 258 + 8 * sum_by (row.len ++ (row.issued ∷ [])) ≤ length a.out.now) where
+    pub head-room : HasRoom a (head_bytes (outline_of row) firsts)
+    head-room = omega (arith, z, room, head-length (outline_of row) firsts)
+
+    pub records-room : {b : Page} → Puts a (head_bytes (outline_of row) firsts) b → HasRoom b (bytes_of (records_all 1 lists))
+    records-room w =
+        omega (
+          arith,
+          z,
+          room,
+          head-length (outline_of row) firsts,
+          w.wrote.next,
+          puts-length w,
+          bytes-length 1 lists,
+          sized-sum lists row.len row.issued sized,
+        )
+
   pub image-length : length (image_of (abs row p)) ≡ 258 + 8 * sum_by (row.len ++ (row.issued ∷ []))
   image-length =
       let firsts = firsts_by 1 (row.len ++ (row.issued ∷ [])) in
@@ -60,32 +89,34 @@ module _ (row : Cluster) (p : Places) (shape : Shape row) (v : valid row p ≡ t
       ∙ rw (head-length (outline_of row) firsts, bytes-length 1 lists, sized-sum lists row.len row.issued sized)
 
   module _ (out : Text) (n : ℕ) (e : n ≡ 258 + 8 * sum_by (row.len ++ (row.issued ∷ []))) where
-    same : n ≡ length (image_of (abs row p))
+    pub same : n ≡ length (image_of (abs row p))
     same = e ∙ sym image-length
 
-    pub too_short : length out < n → Saves row p out 3 out
-    too_short h =
-        let t : leb (length (image_of (abs row p))) (length out) ≡ false =
-        lt-leb (length (image_of (abs row p))) (length out) (omega (arith, h, same)) in
-        record { answer = sym (rw (v, t)); left = sym (rw (v, t)) }
+    test : (b : Bool) → leb n (length out) ≡ b → leb (length (image_of (abs row p))) (length out) ≡ b
+    test b q = ap (λ m. leb m (length out)) (sym same) ∙ q
 
-    pub stored : n ≤ length out → (out₁ out₂ : Text)
-        → out₁ ≡ over out 0 (head_bytes (outline_of row) (firsts_by 1 (row.len ++ (row.issued ∷ []))))
-        → out₂ ≡ over out₁ 258 (bytes_of (records_all 1 lists)) → Saves row p out n out₂
-    stored h out₁ out₂ d f =
-        let t : leb (length (image_of (abs row p))) (length out) ≡ true =
-        le-leb (length (image_of (abs row p))) (length out) (omega (arith, h, same)) in
-        let firsts = firsts_by 1 (row.len ++ (row.issued ∷ [])) in
-        let whole : out₂ ≡ over out 0 (image_of (abs row p)) =
-        f ∙ ap (λ x. over x 258 (bytes_of (records_all 1 lists))) d
-        ∙ ap (λ i. over (over out 0 (head_bytes (outline_of row) firsts)) (0 + i) (bytes_of (records_all 1 lists)))
-        (sym (head-length (outline_of row) firsts))
-        ∙ sym (over-append out 0 (head_bytes (outline_of row) firsts) (bytes_of (records_all 1 lists)))
-        ∙ ap (over out 0) (sym image-is) in
-        record { answer = same ∙ sym (rw (v, t)); left = whole ∙ sym (rw (v, t)) }
+    -- The slice is too short,
+    pub too_short : leb n (length out) ≡ false → (Err Room ≡ saved row p out) × Saves row p out 3 out
+    too_short h = (
+      sym (rw (v, test false h)),
+      record { answer = sym (rw (v, test false h)); left = sym (rw (v, test false h)) },
+    )
 
-pub not_valid : (row : Cluster) (p : Places) (out : Text) → valid row p ≡ false → Saves row p out 1 out
-not_valid row p out e = record { answer = sym (rw e); left = sym (rw e) }
+    -- or the image is written: its head and then its records.
+    pub stored : leb n (length out) ≡ true → {a b c : Page} → a.out.now ≡ out → a.at ≡ 0
+        → Puts a (head_bytes (outline_of row) (firsts_by 1 (row.len ++ (row.issued ∷ [])))) b
+        → Puts b (bytes_of (records_all 1 lists)) c → (out' : Text) → out' ≡ c.out.now
+        → (Ok n ≡ saved row p out) × Saves row p out n out'
+    stored h {a} {b} {c} o z d f out' q =
+        let w = (puts-then d f).wrote.text in
+        let whole : out' ≡ over out 0 (image_of (abs row p)) = q ∙ w ∙ rw (o, z, image-is) in (
+          ap Ok same ∙ sym (rw (v, test true h)),
+          record { answer = same ∙ sym (rw (v, test true h)); left = whole ∙ sym (rw (v, test true h)) },
+        )
+
+pub not_valid : (row : Cluster) (p : Places) (out : Text) → valid row p ≡ false
+    → (Err Invalid ≡ saved row p out) × Saves row p out 1 out
+not_valid row p out e = (sym (rw e), record { answer = sym (rw e); left = sym (rw e) })
 
 -- How long an image is
 

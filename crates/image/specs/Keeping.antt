@@ -1,6 +1,8 @@
 -- The calls that keep a row (document 02, Papers 7 and 8): what the writer and the reader hand back and leave, and that
 -- a written row reads back as the same row. Cited by the contracts of image and by the links of runs. Assumes nothing.
-use Rattle.std.specs.Prelude.{Bool, true, cond, ◌&&◌, ◌≢◌, ◌≡◌, ℕ, ◌+◌, ◌-◌, ◌*◌, ◌<◌, ◌≤◌, leb, eqb, length, get_or, take, replicate}
+use Rattle.std.specs.Prelude.{Bool, true, cond, ◌&&◌, ◌≢◌, ◌≡◌, ℕ, ◌<◌, ◌≤◌, leb, eqb, length, get_or, take, replicate, Result, Ok, Err}
+use Rattle.refusal.specs.declared.Refusal.{Refusal}
+use Rattle.refusal.specs.declared.Refusal.TheVariants.{Invalid, Room}
 use Rattle.text.specs.Text.{Text, over}
 use Rattle.marks.specs.Marks.{room}
 use Rattle.cluster.specs.declared.Cluster.{Cluster}
@@ -9,7 +11,7 @@ use Rattle.refinement.specs.Refinement.{Places, abs}
 use Rattle.refinement.specs.Rows.{Typed}
 use Rattle.logstore.specs.Log.{place}
 use Rattle.shown.specs.Shown.{lengths_fit, valid}
-use Rattle.image.specs.declared.Loaded.{Loaded}
+pub use Rattle.image.specs.Loaded.{Loaded, loaded}
 use Rattle.image.specs.Image.{image_of, verdict, row_in, places_in}
 
 -- The writer, lent a slice whose bytes are `out`: it answers n and leaves out'. "Refusal 1 ... comes first, then 3 for
@@ -19,6 +21,12 @@ pub record Saves (row : Cluster) (p : Places) (out : Text) (n : ℕ) (out' : Tex
       (cond (leb (length (image_of (abs row p))) (length out)) (length (image_of (abs row p))) 3) 1
   pub left : out' ≡ cond (valid row p && leb (length (image_of (abs row p))) (length out))
       (over out 0 (image_of (abs row p))) out
+
+-- The same answer as a result.
+abbrev pub saved : Cluster → Places → Text → Result ℕ Refusal
+saved row p out =
+    cond (valid row p)
+    (cond (leb (length (image_of (abs row p))) (length out)) (Ok (length (image_of (abs row p)))) (Err Room)) (Err Invalid)
 
 -- Past "refusal 1, in reading for the lent lengths alone", and 3: "576 bytes of scratch or more" (Paper 8; `room`).
 abbrev pub lent_enough : Places → Text → Bool

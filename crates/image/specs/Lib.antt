@@ -1,2 +1,3 @@
+pub mod Loaded
 pub mod Image
 pub mod Keeping

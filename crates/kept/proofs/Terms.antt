@@ -1,12 +1,11 @@
 -- The tests of terms, one after the other, and that the terms of a row's entries are the numbers of the second store
 -- and the second list. Assumes nothing.
-use mathlib.Core.Bool.{Bool, true, false, ◌&&◌}
-use mathlib.Core.List.{List, map, map-map}
-use mathlib.Core.Path.{◌≡◌, refl, sym, ap, ◌∙◌}
-use Prim.Native.Nat.{ℕ, suc, ◌+◌, ◌<◌, ◌≤◌}
-use native.Mathlib.Numerals.{add-one}
-use lib.ListN.{length, get_or, take, drop, drop_of_length-le}
-use lib.Seq.{drop-cons}
+use mathlib.Core.Bool.{Bool, ◌&&◌, and-true, and_assoc}
+use mathlib.Core.List.{List, [], ◌∷◌, map, map-map}
+use mathlib.Core.Path.{◌≡◌, sym, ap, ◌∙◌}
+use Prim.Native.Nat.{ℕ}
+use lib.ListN.{take}
+use Rattle.std.specs.List.{fold}
 use Rattle.model.specs.State.{Entry}
 use Rattle.model.specs.Ranges.{every, eight, is_epoch, terms_in_range, kept_in_range}
 use Rattle.logstore.specs.Log.{log_of}
@@ -15,29 +14,10 @@ use Rattle.cluster.specs.declared.Cluster.{Cluster}
 use Rattle.cluster.specs.Layout.{at}
 use Rattle.refinement.specs.Refinement.{Places, Full, abs}
 
--- The tests from i on.
-abbrev pub from : List ℕ → ℕ → Bool
-from xs i = every (map is_epoch (drop i xs))
-
-and_assoc : (a b c : Bool) → (a && b && c) ≡ (a && (b && c))
-and_assoc true b c = refl
-and_assoc false b c = refl
-
--- One more is looked at.
-pub from_more : (xs : List ℕ) (i : ℕ) (ok : Bool) → i < length xs → every (map is_epoch xs) ≡ (ok && from xs i)
-    → every (map is_epoch xs) ≡ (ok && is_epoch (get_or xs i 0) && from xs (i + 1))
-from_more xs i ok h e =
-    e ∙ ap (λ ys. ok && every (map is_epoch ys)) (drop-cons xs i 0 h)
-    ∙ sym (and_assoc ok (is_epoch (get_or xs i 0)) (every (map is_epoch (drop (suc i) xs)))) ∙ rw (add-one i)
-
-and-true : (a : Bool) → (a && true) ≡ a
-and-true true = refl
-and-true false = refl
-
--- All are.
-pub from_all : (xs : List ℕ) (i : ℕ) (ok : Bool) → length xs ≤ i → every (map is_epoch xs) ≡ (ok && from xs i)
-    → ok ≡ every (map is_epoch xs)
-from_all xs i ok h e = sym (e ∙ ap (λ ys. ok && every (map is_epoch ys)) (drop_of_length-le xs h) ∙ and-true ok)
+-- The tests from the front, after those that were ok.
+pub from_front : (xs : List ℕ) (ok : Bool) → fold (λ a t. a && is_epoch t) ok xs ≡ (ok && every (map is_epoch xs))
+from_front [] ok = sym (and-true ok)
+from_front (x ∷ xs) ok = from_front xs (ok && is_epoch x) ∙ and_assoc ok (is_epoch x) (every (map is_epoch xs))
 
 -- The tests of entries are the tests of their terms.
 terms-tests : (xs : List Entry) → terms_in_range xs ≡ every (map is_epoch (map (λ x. x.term) xs))

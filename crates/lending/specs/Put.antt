@@ -1,13 +1,19 @@
 -- What a step over the lent controller, put back, promises of the row. Cited by the contracts of lending.
 -- Assumes nothing.
-use Rattle.std.specs.Prelude.{true, ◌≡◌}
+use Rattle.std.specs.Prelude.{true, ◌≡◌, ℕ, Result}
+use Rattle.refusal.specs.declared.Refusal.{Refusal}
 use Rattle.model.specs.Steps.{Step}
 use Rattle.cluster.specs.declared.Cluster.{Cluster}
-use Rattle.cluster.specs.declared.Outcome.{Outcome}
+use Rattle.cluster.specs.declared.Controller.{Controller}
+use Rattle.cluster.specs.Ended.{Outcome}
 use Rattle.refinement.specs.Refinement.{Places}
 use Rattle.steps.specs.Call.{valid}
-use Rattle.hub.specs.declared.Returned.{Returned}
+use Rattle.hub.specs.Replies.{Returned, reply}
 use Rattle.hub.specs.Whole.{put_back, Link}
+
+-- A call's result and the controller that it left.
+abbrev pub taken : Result ℕ Refusal → Controller → Returned
+taken x c = record { reply = reply x; controller = c }
 
 -- The row with the controller that a call left, and the call's reply.
 abbrev pub put_to : Cluster → Returned → Outcome

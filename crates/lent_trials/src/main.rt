@@ -1,21 +1,22 @@
 // P7, P8 and the last case of document 01 as a hub makes them: the controller's steps 10 to 12 and 14 over its record,
-// which the hub lends, the other steps by value. After each trial's name, the answers in order, as in `trials`.
+// which the hub lends, the other steps over the row. After each trial's name, the answers in order, as in `trials`.
 #![tactic(auto)]
 
-use cluster::{Cluster, Outcome};
+use cluster::Cluster;
+use members::Board;
 use records::Record;
+use refinement::LentMut;
+use refusal::Refusal;
 use std::io;
 
-// The answer n and a space.
-fn show(rt: &impl Print, n: u8) -> io::Result<()> {
-    let tens = 48 + n / 10 % 10;
-    let ones = 48 + n % 10;
-    if n < 10 {
-        let one = [ones, 32];
-        return rt.write_all(&one);
-    }
-    let two = [tens, ones, 32];
-    rt.write_all(&two)
+// A row, and the places that are lent with it.
+#[derive(Clone, Copy)]
+struct Trial {
+    row: Cluster,
+    store: [u32; 4096],
+    store2: [u16; 4096],
+    list: [u32; 512],
+    list2: [u16; 512],
 }
 
 // A record in short: its step, a digit for its board, one for the second board, two for the value. So 3_2_0_00 is
@@ -30,160 +31,90 @@ fn record(n: u32) -> Record {
     }
 }
 
-// One record: the controller's own steps over its record, all others by value. For well-formed records alone: no field
-// of the controller's is looked at here.
-fn turn(
-    row: Cluster,
-    store: &mut [u32],
-    store2: &mut [u16],
-    list: &mut [u32],
-    list2: &mut [u16],
-    r: Record,
-) -> Outcome {
-    let k = r.step;
-    let b = cluster::seat(r.board);
-    match k {
-        10 => lending::refresh_controller(row),
-        11 => lending::read_leader(row),
-        12 => lending::read(row, b),
-        14 => lending::hear(row, b),
-        _ => steps::step(row, &mut *store, &mut *store2, &mut *list, &mut *list2, r),
+impl Trial {
+    // The row opened with board 1.
+    fn new() -> Result<Trial, Refusal> {
+        Ok(Trial {
+            row: steps::opening(1)?,
+            store: [7; 4096],
+            store2: [65535; 4096],
+            list: [7; 512],
+            list2: [65535; 512],
+        })
     }
-}
 
-// The records of a trial. The row goes on, and each answer is shown.
-fn play(
-    rt: &impl Print,
-    row: Cluster,
-    store: &mut [u32],
-    store2: &mut [u16],
-    list: &mut [u32],
-    list2: &mut [u16],
-    sheet: &[u32],
-) -> io::Result<Cluster> {
-    let mut now = row;
-    let mut i: usize = 0;
-    while i < sheet.len() {
-        let n = sheet[i];
-        i += 1;
-        let x = turn(
-            now,
-            &mut *store,
-            &mut *store2,
-            &mut *list,
-            &mut *list2,
-            record(n),
-        );
-        show(rt, x.answer)?;
-        let next = x.row;
-        now = next;
+    // One record: the controller's own steps over its record, all others over the row. For well-formed records alone:
+    // no field of the controller's is looked at here.
+    fn turn(&mut self, r: Record) -> Result<u8, Refusal> {
+        let row = &mut self.row;
+        match r.step {
+            10 => lending::refresh_controller(row),
+            11 => lending::read_leader(row),
+            12 => lending::read(row, Board::new(r.board)?),
+            14 => lending::hear(row, Board::new(r.board)?),
+            _ => {
+                let mut p = LentMut {
+                    store: &mut self.store,
+                    store2: &mut self.store2,
+                    list: &mut self.list,
+                    list2: &mut self.list2,
+                };
+                steps::step(row, &mut p, r)
+            }
+        }
     }
-    Ok(now)
-}
 
-fn opened() -> Cluster {
-    let x = steps::opening(1);
-    x.row
-}
-
-// Shows the registry's epoch, which is below 256 here.
-fn epoch(rt: &impl Print, row: Cluster) -> io::Result<()> {
-    let g = row.registry;
-    let v = g.view;
-    rt.write_all(b"epoch ")?;
-    show(rt, (v.epoch % 256) as u8)
-}
-
-// Shows the length of board 4's log.
-fn length(rt: &impl Print, row: Cluster) -> io::Result<()> {
-    rt.write_all(b"length ")?;
-    show(rt, (row.len[3] % 256) as u8)
+    // The records of a trial, each answer shown.
+    fn play(&mut self, rt: &impl Print, sheet: &[u32]) -> io::Result<()> {
+        for n in sheet {
+            let answer = match self.turn(record(*n)) {
+                Ok(_) => 0,
+                Err(e) => e.number(),
+            };
+            print!(rt; "{answer} ")?;
+        }
+        Ok(())
+    }
 }
 
 fn main(rt: HostRuntime) -> io::Result<()> {
-    longer(&rt)?;
-    four(&rt)
+    let Ok(opened) = Trial::new() else {
+        return Ok(());
+    };
+    longer(&rt, opened)?;
+    four(&rt, opened)
 }
 
 // P7, and P8 that goes on from it.
-fn longer(rt: &impl Print) -> io::Result<()> {
-    let mut store = [7u32; 4096];
-    let mut store2 = [65535u16; 4096];
-    let mut list = [7u32; 512];
-    let mut list2 = [65535u16; 512];
-    rt.write_all(b"P7 ")?;
-    let p7 = [
-        3_2_0_00u32,
-        5_0_0_00,
-        11_0_0_00,
-        10_0_0_00,
-        11_0_0_00,
-        6_1_0_00,
-        11_0_0_00,
-    ];
-    let a = play(
+fn longer(rt: &impl Print, mut t: Trial) -> io::Result<()> {
+    print!(rt; "P7 ")?;
+    t.play(
         rt,
-        opened(),
-        &mut store,
-        &mut store2,
-        &mut list,
-        &mut list2,
-        &p7,
+        &[
+            3_2_0_00, 5_0_0_00, 11_0_0_00, 10_0_0_00, 11_0_0_00, 6_1_0_00, 11_0_0_00,
+        ],
     )?;
-    rt.write_all(b"\nP8 ")?;
-    let p8 = [13_0_0_00u32, 12_2_0_00, 13_0_0_00];
-    let b = play(rt, a, &mut store, &mut store2, &mut list, &mut list2, &p8)?;
-    epoch(rt, b)
+    print!(rt; "\nP8 ")?;
+    t.play(rt, &[13_0_0_00, 12_2_0_00, 13_0_0_00])?;
+    print!(rt; "epoch {} ", t.row.registry.view.epoch)
 }
 
 // The last case: four boards.
-fn four(rt: &impl Print) -> io::Result<()> {
-    let mut store = [7u32; 4096];
-    let mut store2 = [65535u16; 4096];
-    let mut list = [7u32; 512];
-    let mut list2 = [65535u16; 512];
-    rt.write_all(b"\nfour ")?;
-    let ready = [
-        3_2_0_00u32,
-        3_3_0_00,
-        3_4_0_00,
-        10_0_0_00,
-        6_1_0_00,
-        11_0_0_00,
-        12_2_0_00,
-        12_3_0_00,
-        13_0_0_00,
-        6_1_0_00,
-        6_2_0_00,
-        6_3_0_00,
-        6_4_0_00,
-    ];
-    let a = play(
+fn four(rt: &impl Print, mut t: Trial) -> io::Result<()> {
+    print!(rt; "\nfour ")?;
+    t.play(
         rt,
-        opened(),
-        &mut store,
-        &mut store2,
-        &mut list,
-        &mut list2,
-        &ready,
+        &[
+            3_2_0_00, 3_3_0_00, 3_4_0_00, 10_0_0_00, 6_1_0_00, 11_0_0_00, 12_2_0_00, 12_3_0_00,
+            13_0_0_00, 6_1_0_00, 6_2_0_00, 6_3_0_00, 6_4_0_00,
+        ],
     )?;
-    let rest = [
-        1_1_0_41u32,
-        8_4_0_00,
-        5_0_0_00,
-        6_2_0_00,
-        6_3_0_00,
-        10_0_0_00,
-        14_2_0_00,
-        14_3_0_00,
-        15_2_0_00,
-        6_2_0_00,
-        1_2_0_42,
-        6_4_0_00,
-        9_2_4_00,
-        7_4_0_00,
-    ];
-    let b = play(rt, a, &mut store, &mut store2, &mut list, &mut list2, &rest)?;
-    length(rt, b)?;
-    rt.write_all(b"\n")
+    t.play(
+        rt,
+        &[
+            1_1_0_41, 8_4_0_00, 5_0_0_00, 6_2_0_00, 6_3_0_00, 10_0_0_00, 14_2_0_00, 14_3_0_00,
+            15_2_0_00, 6_2_0_00, 1_2_0_42, 6_4_0_00, 9_2_4_00, 7_4_0_00,
+        ],
+    )?;
+    println!(rt; "length {} ", t.row.len[3])
 }

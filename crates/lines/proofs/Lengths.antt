@@ -10,8 +10,9 @@ use borrow.Author.Tests.{eqb-true}
 use Rattle.model.specs.Members.{Members, bit, size}
 use Rattle.model.specs.State as M
 use Rattle.model.proofs.Range.{ViewInRange}
+use Rattle.members.proofs.Laws.{size-le}
 use Rattle.text.specs.Text.{Text, digits}
-use Rattle.text.proofs.Laws.{digits-most}
+use Rattle.text.proofs.Laws.{digits-most, digits-most-10}
 use Rattle.lines.specs.Lines.{word, space, newline, eight, member_text, members_text, view_text, status_word, stage_word, late_word, has_fourth, fourth_field, answer_line, registry_line, control_line, board_text}
 
 -- A line by its numbers and its fourth field.
@@ -73,6 +74,11 @@ module _ (n a : ℕ) (q : Members) where
   pub fourth-some : has_fourth n a ≡ true → fourth_field n a q ≡ space ++ members_text q
   unfolding fourth_field
   fourth-some e = rw e
+
+-- For the length of a line; for a writer of the field, or of its length.
+pub ruleset one_line = (line-length, digits-most-10)
+
+pub ruleset fourth = (fourth-none, fourth-some, members-length, size-le)
 
 -- A line that has one is of an accepted step, whose number has two digits at most.
 pub fourth-of : (n a : ℕ) → has_fourth n a ≡ true → (a ≡ 0) × (n < 16)

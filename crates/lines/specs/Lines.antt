@@ -3,7 +3,6 @@
 -- through `listing`, of `run_sheet`; its words also by seedline. Assumes nothing.
 use Rattle.std.specs.Prelude.{Bool, cond, ◌&&◌, ◌||◌, [], ◌∷◌, ◌++◌, ℕ, ◌+◌, eqb}
 use Prim.Native.Char.{code}
-use Prim.Native.String as String
 use Prim.Native.String.{String}
 use Rattle.model.specs.Members.{Members}
 use Rattle.model.specs.State as M

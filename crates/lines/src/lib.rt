@@ -1,78 +1,102 @@
-// The texts of single lines of a listing, and the writer of a record's line. Inner layer: callers see to it that `out`
-// has room for the text.
-#![tactic(auto)]
+// The texts of single lines of a listing, and the writer of a record's line. Inner layer: callers see to it that the
+// page has room for the text.
+#![tactic(auto, using(text::proofs::Laws::pages))]
 
 ghost use Rattle.std.specs.Prelude.{◌≡◌, ◌+◌, ◌≤◌, length};
 ghost use Rattle.members.specs.Mask.{bits};
-ghost use Rattle.text.specs.Text.{Wrote};
+ghost use Rattle.text.specs.Text.{Puts, HasRoom};
 ghost use Rattle.lines.specs.Lines.{member_text, members_text, has_fourth, fourth_field, answer_line};
 
+use members::Board;
+use text::Page;
+
 // Writes the digit of b if b is a member.
-fn put_member(out: &mut [u8], at: usize, m: u8, b: u8) -> usize
-    requires { (1 ≤ b) × (b ≤ 8) × (at + length (member_text (bits m) b) ≤ length out.old) }
-    ensures { Wrote out.old at (member_text (bits m) b) out.new result }
+fn put_member(page: &mut Page<'_>, m: u8, b: Board)
+    requires { HasRoom page.old (member_text (bits m) b.number) }
+    ensures { Puts page.old (member_text (bits m) b.number) page.new }
 {
-    if !members::has(m, b) {
-        return at;
+    if members::has(m, b) {
+        page.put_byte(b'0' + b.number);
     }
-    text::put_byte(&mut *out, at, 48 + b)
 }
 
 // Writes a set of members. Inner layer: callers see to the room.
-pub fn put_members(out: &mut [u8], at: usize, m: u8) -> usize
-    requires { at + length (members_text (bits m)) ≤ length out.old }
-    ensures { Wrote out.old at (members_text (bits m)) out.new result }
+#[tactic(auto, using(text::proofs::Laws::each_page))]
+pub fn put_members(page: &mut Page<'_>, m: u8)
+    requires { HasRoom page.old (members_text (bits m)) }
+    ensures { Puts page.old (members_text (bits m)) page.new }
 {
-    let mut p = at;
-    let mut b: u8 = 0;
-    while b < 8 {
-        b += 1;
-        p = put_member(&mut *out, p, m, b);
+    for i in 0..8 {
+        put_member(page, m, Board::at(i));
     }
-    p
 }
 
-// Whether the line of a step with this answer has a fourth field: an accepted 2, 13 or 15 has.
-fn has_fourth(step: u8, answer: u8) -> bool
-    ensures { result ≡ has_fourth step answer }
-{
-    if answer != 0 {
-        return false;
-    }
-    (step == 2) | ((step == 13) | (step == 15))
+// The line of a record: its number, from 1 on, its step, its answer and, on acceptance of 2, 13 and 15, the set behind
+// it, as a mask.
+#[derive(Clone, Copy)]
+pub struct Line {
+    pub record: u32,
+    pub step: u8,
+    pub answer: u8,
+    pub set: u8,
 }
 
-// How many bytes that field has, with the space before it.
-pub fn fourth_length(step: u8, answer: u8, q: u8) -> usize
-    ensures { (result ≡ length (fourth_field step answer (bits q))) × (result ≤ 9) }
-{
-    if !has_fourth(step, answer) {
-        return 0;
+impl Line {
+    // Whether it has the set, as its fourth field.
+    fn has_fourth(self) -> bool
+        ensures { result ≡ has_fourth self.step self.answer }
+    {
+        self.answer == 0 && matches!(self.step, 2 | 13 | 15)
     }
-    1 + members::size(q) as usize
-}
 
-// Writes that field: a space, then the set q.
-fn put_fourth(out: &mut [u8], at: usize, step: u8, answer: u8, q: u8) -> usize
-    requires { at + length (fourth_field step answer (bits q)) ≤ length out.old }
-    ensures { Wrote out.old at (fourth_field step answer (bits q)) out.new result }
-{
-    if !has_fourth(step, answer) {
-        return at;
+    // How many bytes that field has, with the space before it.
+    #[tactic(auto, using(crate::proofs::Lengths::fourth))]
+    fn fourth_length(self) -> usize
+        ensures { (result ≡ length (fourth_field self.step self.answer (bits self.set))) × (result ≤ 9) }
+    {
+        if self.has_fourth() {
+            1 + members::size(self.set) as usize
+        } else {
+            0
+        }
     }
-    let p = text::put_byte(&mut *out, at, 32);
-    put_members(&mut *out, p, q)
-}
 
-// Writes the line of record k, from 1 on: its step, its answer and, on acceptance of 2, 13 and 15, the set q behind it.
-// Inner layer: callers see to the room.
-pub fn put_answer(out: &mut [u8], at: usize, k: u32, step: u8, answer: u8, q: u8) -> usize
-    requires { at + length (answer_line k step answer (bits q)) ≤ length out.old }
-    ensures { Wrote out.old at (answer_line k step answer (bits q)) out.new result }
-{
-    let a = text::put_field(&mut *out, at, k);
-    let b = text::put_field(&mut *out, a, step as u32);
-    let c = text::put_number(&mut *out, b, answer as u32);
-    let d = put_fourth(&mut *out, c, step, answer, q);
-    text::put_byte(&mut *out, d, 10)
+    // How long the line is: at most three numbers of ten digits, that field and three bytes more, so that no sum
+    // overflows.
+    #[tactic(auto, using(crate::proofs::Lengths::one_line))]
+    pub fn length(self) -> usize
+        ensures text { result ≡ length (answer_line self.record self.step self.answer (bits self.set)) }
+        ensures most { result ≤ 42 }
+    {
+        text::number_length(self.record)
+            + text::number_length(self.step as u32)
+            + text::number_length(self.answer as u32)
+            + self.fourth_length()
+            + 3
+    }
+
+    // Writes that field: a space, then the set.
+    #[tactic(auto, using(text::proofs::Laws::pages, crate::proofs::Lengths::fourth))]
+    fn put_fourth(self, page: &mut Page<'_>)
+        requires { HasRoom page.old (fourth_field self.step self.answer (bits self.set)) }
+        ensures { Puts page.old (fourth_field self.step self.answer (bits self.set)) page.new }
+    {
+        if self.has_fourth() {
+            page.put_byte(b' ');
+            put_members(page, self.set);
+        }
+    }
+
+    // Writes the line. Inner layer: callers see to the room.
+    #[tactic(auto, using(text::proofs::Laws::pages), unfolding(crate::specs::Lines::answer_line))]
+    pub fn put(self, page: &mut Page<'_>)
+        requires { HasRoom page.old (answer_line self.record self.step self.answer (bits self.set)) }
+        ensures { Puts page.old (answer_line self.record self.step self.answer (bits self.set)) page.new }
+    {
+        page.put_field(self.record);
+        page.put_field(self.step as u32);
+        page.put_number(self.answer as u32);
+        self.put_fourth(page);
+        page.put_byte(b'\n');
+    }
 }

@@ -2,8 +2,8 @@
 use mathlib.Core.Bool.{Bool, true, false}
 use mathlib.Core.List.{List, [], ◌∷◌, ◌++◌, map, append_assoc, append-nil, map-append}
 use mathlib.Core.Path.{◌≡◌, refl, sym, subst, ap, ap₂, ◌∙◌}
-use Prim.Native.Nat.{ℕ, zero, suc, ◌+◌, ◌-◌, ◌*◌, ◌^◌, ◌≤◌, ◌<◌}
-use native.Mathlib.Nat.{add-zero, add-suc}
+use Prim.Native.Nat.{ℕ, zero, suc, ◌+◌, ◌*◌, ◌^◌, ◌≤◌, ◌<◌}
+use native.Mathlib.Nat.{add-zero}
 use native.Mathlib.Numerals.{add-one}
 use native.Mathlib.Omega.{arith}
 use lib.ListN.{length, take, drop, get_or, length-append, length-map}
@@ -12,8 +12,8 @@ use Rattle.model.specs.Members.{Members}
 use Rattle.model.specs.Records.{Record}
 use Rattle.cluster.specs.Layout.{bits}
 use Rattle.model.proofs.Made.{All}
-use Rattle.text.specs.Text.{Text, digits}
-use Rattle.text.proofs.Laws.{digits-most, digits-most-4, digits-most-10}
+use Rattle.text.specs.Text.{Text, each_of}
+use Rattle.text.proofs.Laws.{each_none, each_next, digits-most, digits-most-4, digits-most-10}
 use Rattle.records.specs.Bytes.{record_at, records}
 use Rattle.records.proofs.Decoding.{records-suc, records-length}
 use Rattle.lines.specs.Lines.{has_fourth, answer_line}
@@ -68,35 +68,17 @@ one_more s ns ms i h k =
     ++ answer_line j m (get_or ns i 0) (bits (get_or ms i 0))) n d
     )
 
--- More records take no less room.
-lines_more : (s : Text) (ns ms : List ℕ) (i d : ℕ) → i + d ≤ length ns → i + d ≤ length ms
-    → length (lines s ns ms i) ≤ length (lines s ns ms (i + d))
-lines_more s ns ms i zero h k = rw (add-zero i) (omega arith)
-lines_more s ns ms i (suc d) h k =
-    rw (add-suc i d, ← (add-one (i + d))) (omega (
-      arith,
-      lines_more s ns ms i d (omega (arith, h)) (omega (arith, k)),
-      ap length (one_more s ns ms (i + d) (omega (arith, h)) (omega (arith, k))),
-      length-append (lines s ns ms (i + d)) (line_at s ns ms (i + d)),
-    ))
+-- So they are such lines, one after the other.
+pub lines-each : (s : Text) (ns ms : List ℕ) (n : ℕ) → n ≤ length ns → n ≤ length ms
+    → lines s ns ms n ≡ each_of (line_at s ns ms) n
+unfolding each_of
+lines-each s ns ms zero h k = lines_none s ns ms
+lines-each s ns ms (suc n) h k =
+    ap (lines s ns ms) (sym (add-one n)) ∙ one_more s ns ms n (omega arith) (omega arith)
+    ∙ rw (lines-each s ns ms n (omega arith) (omega arith))
 
--- Room for the lines of n records is room for each of them after those before it.
-pub lines-room : (s : Text) (ns ms : List ℕ) (i n : ℕ) → i < n → n ≤ length ns → n ≤ length ms
-    → length (lines s ns ms i) + length (line_at s ns ms i) ≤ length (lines s ns ms n)
-lines-room s ns ms i n h l k =
-    let e : i + 1 + (n - (i + 1)) ≡ n = omega (arith, h) in
-    let m = subst (λ j. length (lines s ns ms (i + 1)) ≤ length (lines s ns ms j)) e
-    (lines_more s ns ms (i + 1) (n - (i + 1)) (omega (arith, e, l)) (omega (arith, e, k))) in
-    omega (
-      arith,
-      m,
-      ap length (one_more s ns ms i (omega (arith, h, l)) (omega (arith, h, k))),
-      length-append (lines s ns ms i) (line_at s ns ms i),
-    )
-
--- How many digits there are at most.
-pub few : (n r : ℕ) → r ≡ length (digits n) → n < 2 ^ 32 → r ≤ 10
-few n r e h = omega (arith, e, digits-most-10 n h)
+-- For lines one after the other.
+pub ruleset each_line = (each_none, each_next, length-append, lines-each)
 
 -- A line has at most four digits of its number and byte 10. With a fourth field: three spaces, two digits of its step,
 -- one of its answer, eight of the set, 19 bytes in all; with none: two spaces, three digits of the step's byte, two of

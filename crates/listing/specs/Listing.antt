@@ -1,6 +1,6 @@
 -- The lines of a listing's records, document 01, with the sets of document 02, byte for byte; its ending is in crate
 -- `ending`. Cited by the promises of `deliver` and, through `listing`, of `run_sheet`. Assumes nothing.
-use Rattle.std.specs.Prelude.{List, [], ◌∷◌, ◌++◌, map, ℕ, suc, take}
+use Rattle.std.specs.Prelude.{List, [], ◌∷◌, ◌++◌, map, ℕ, suc, ◌/◌, take, length}
 use Rattle.model.specs.Members.{Members}
 use Rattle.model.specs.Records.{Record}
 use Rattle.cluster.specs.Layout.{bits}
@@ -20,3 +20,7 @@ answer_lines k (r ∷ rs) (n ∷ ns) (q ∷ qs) = answer_line k r.step n q ++ an
 unfoldable pub lines : Text → List ℕ → List ℕ → ℕ → Text
 unfolding records answer_lines
 lines s ns qs n = answer_lines 1 (records n s) (take n ns) (map bits (take n qs))
+
+-- Those of all its records.
+abbrev pub all_lines : Text → List ℕ → List ℕ → Text
+all_lines s ns qs = lines s ns qs (length s / 8)

@@ -1,106 +1,92 @@
 // The first lines of a listing: record, step, answer, and the set behind an accepted 2, 13 or 15. Inner layer: callers
-// see to it that there are an answer and a set, as a mask, for each record, 4,095 of them at most, that an answer has
-// two digits at most, and to the room.
-#![tactic(auto)]
+// see to the room, and that the ending is short.
+#![tactic(auto, using(text::proofs::Laws::pages))]
 
-ghost use Rattle.std.specs.Prelude.{◌≡◌, ◌++◌, ℕ, ◌+◌, ◌/◌, ◌≤◌, ◌<◌, leb, length, get_or};
-ghost use Rattle.cluster.specs.Layout.{bits};
-ghost use Rattle.text.specs.Text.{Wrote, Delivered};
-ghost use Rattle.lines.specs.Lines.{answer_line};
-ghost use Rattle.listing.specs.Listing.{lines};
+ghost use Rattle.std.specs.Prelude.{◌≡◌, ◌++◌, ℕ, ◌+◌, ◌*◌, ◌/◌, ◌≤◌, ◌<◌, leb, length, get_or};
+ghost use Rattle.text.specs.Text.{Puts, HasRoom, Delivers};
+ghost use Rattle.listing.specs.Listing.{all_lines};
 
-use lines::{fourth_length, put_answer};
-use text::{number_length, put_bytes};
+use lines::Line;
+use refusal::{Refusal, ensure};
+use text::Page;
 
-// How long the line of record k is: at most three numbers of ten digits, a fourth field of nine bytes and three bytes
-// more, so that no sum overflows.
-fn line_length(k: u32, step: u8, answer: u8, q: u8) -> usize
-    ensures { (result ≡ length (answer_line k step answer (bits q))) × (result ≤ 42) }
-{
-    number_length(k)
-        + number_length(step as u32)
-        + number_length(answer as u32)
-        + fourth_length(step, answer, q)
-        + 3
+// A sheet that was run: an answer and a set, as a mask, for each record, 4,095 of them at most, and no answer of more
+// than two digits.
+#[derive(Clone, Copy)]
+pub struct Listed<'a> {
+    pub sheet: &'a [u8],
+    pub answers: &'a [u8],
+    pub sets: &'a [u8],
+    // (Behind a field a proof does not know that these are bytes.)
+    ghost bytes: { (i : ℕ) → get_or sheet.now i 0 < 256 },
+    ghost few: { length sheet.now / 8 ≤ 4095 },
+    ghost answered: { length sheet.now / 8 ≤ length answers.now },
+    ghost behind: { length sheet.now / 8 ≤ length sets.now },
+    ghost small: { (i : ℕ) → i < length sheet.now / 8 → get_or answers.now i 0 < 100 },
 }
 
-// How long the lines of a sheet's records are, where there are an answer and a set for each.
-fn answers_length(sheet: &[u8], answers: &[u8], sets: &[u8]) -> usize
-    requires { (length sheet.now / 8 ≤ 4095)
-        × (length sheet.now / 8 ≤ length answers.now) × (length sheet.now / 8 ≤ length sets.now) }
-    ensures { (result ≡ length (lines sheet.now answers.now sets.now
-        (length sheet.now / 8)))
-        × (result ≤ 171990) }
-{
-    let n = sheet.len() / 8;
-    let mut total: usize = 0;
-    let mut i: usize = 0;
-    while i < n {
-        total += line_length((i + 1) as u32, sheet[8 * i], answers[i], sets[i]);
-        i += 1;
+impl Listed<'_> {
+    // The line of the record after i others.
+    fn line(&self, i: usize) -> Line
+        requires { i < length self.now.sheet.now / 8 }
+        ensures record { result.record ≡ i + 1 }
+        ensures step { result.step ≡ get_or self.now.sheet.now (8 * i) 0 }
+        ensures answer { result.answer ≡ get_or self.now.answers.now i 0 }
+        ensures set { result.set ≡ get_or self.now.sets.now i 0 }
+    {
+        Line {
+            record: i as u32 + 1,
+            step: self.sheet[8 * i],
+            answer: self.answers[i],
+            set: self.sets[i],
+        }
     }
-    total
-}
 
-// Whether a slice of `room` bytes has place for the lines and `end` bytes more. A line has at most 19 bytes, so
-// where there is place for as many of each record, no line is counted.
-fn has_room(sheet: &[u8], answers: &[u8], sets: &[u8], end: usize, room: usize) -> bool
-    requires { (length sheet.now / 8 ≤ 4095)
-        × (length sheet.now / 8 ≤ length answers.now) × (length sheet.now / 8 ≤ length sets.now)
-        × (end ≤ 8704)
-        × ((i : ℕ) → i < length sheet.now / 8 → get_or answers.now i 0 < 100) }
-    ensures { result ≡ leb (length (lines sheet.now answers.now sets.now
-        (length sheet.now / 8)) + end) room }
-{
-    if 19 * (sheet.len() / 8) + end <= room {
-        return true;
+    // How long the records' lines are.
+    #[tactic(auto, using(crate::proofs::AnswerLines::each_line))]
+    fn length(&self) -> usize
+        ensures lines { result ≡ length (all_lines self.now.sheet.now self.now.answers.now self.now.sets.now) }
+        ensures most { result ≤ 171990 }
+    {
+        let mut total = 0;
+        for i in 0..self.sheet.len() / 8 {
+            total += self.line(i).length();
+        }
+        total
     }
-    answers_length(sheet, answers, sets) + end <= room
-}
 
-// Writes the records' lines.
-fn put_answers(out: &mut [u8], sheet: &[u8], answers: &[u8], sets: &[u8]) -> usize
-    requires { (length sheet.now / 8 ≤ 4095)
-        × (length sheet.now / 8 ≤ length answers.now) × (length sheet.now / 8 ≤ length sets.now)
-        × (length (lines sheet.now answers.now sets.now (length sheet.now / 8)) ≤ length out.old) }
-    ensures { Wrote out.old 0
-        (lines sheet.now answers.now sets.now (length sheet.now / 8))
-        out.new result }
-{
-    let n = sheet.len() / 8;
-    let mut at: usize = 0;
-    let mut i: usize = 0;
-    while i < n {
-        let next = put_answer(
-            &mut *out,
-            at,
-            (i + 1) as u32,
-            sheet[8 * i],
-            answers[i],
-            sets[i],
-        );
-        at = next;
-        i += 1;
+    // Whether a slice of `room` bytes has place for the lines and `end` bytes more. A line has at most 19 bytes, so
+    // where there is place for as many of each record, no line is counted.
+    fn fits(&self, end: usize, room: usize) -> bool
+        requires { end ≤ 8704 }
+        ensures { let text = all_lines self.now.sheet.now self.now.answers.now self.now.sets.now in
+            result ≡ leb (length text + end) room }
+    {
+        19 * (self.sheet.len() / 8) + end <= room || self.length() + end <= room
     }
-    at
-}
 
-// Writes the lines of the records and the ending after them, if both fit; else refusal 3. Inner layer: callers see to
-// it that there are an answer of two digits at most and a set for each record, 4,095 of them at most, and that the
-// ending is short.
-pub fn deliver(sheet: &[u8], answers: &[u8], sets: &[u8], ending: &[u8], out: &mut [u8]) -> usize
-    requires { (length sheet.now / 8 ≤ 4095)
-        × (length sheet.now / 8 ≤ length answers.now) × (length sheet.now / 8 ≤ length sets.now)
-        × (length ending.now ≤ 8704)
-        × ((i : ℕ) → i < length sheet.now / 8 → get_or answers.now i 0 < 100) }
-    ensures { Delivered
-        (lines sheet.now answers.now sets.now (length sheet.now / 8)
-        ++ ending.now)
-        out.old out.new result }
-{
-    if !has_room(sheet, answers, sets, ending.len(), out.len()) {
-        return 3;
+    // Writes the records' lines.
+    #[tactic(auto, using(text::proofs::Laws::each_page, crate::proofs::AnswerLines::each_line))]
+    fn put(&self, page: &mut Page<'_>)
+        requires { HasRoom page.old (all_lines self.now.sheet.now self.now.answers.now self.now.sets.now) }
+        ensures { Puts page.old (all_lines self.now.sheet.now self.now.answers.now self.now.sets.now) page.new }
+    {
+        for i in 0..self.sheet.len() / 8 {
+            self.line(i).put(page);
+        }
     }
-    let at = put_answers(&mut *out, sheet, answers, sets);
-    put_bytes(&mut *out, at, ending)
+
+    // Writes the lines of the records and the ending after them, if both fit; else refusal 3. Inner layer: callers see
+    // to it that the ending is short.
+    pub fn deliver(&self, ending: &[u8], out: &mut [u8]) -> Result<usize, Refusal>
+        requires { length ending.now ≤ 8704 }
+        ensures { let text = all_lines self.now.sheet.now self.now.answers.now self.now.sets.now in
+            Delivers (text ++ ending.now) out.old out.new result }
+    {
+        ensure(self.fits(ending.len(), out.len()), Refusal::Room)?;
+        let mut page = Page::new(&mut *out);
+        self.put(&mut page);
+        page.put_bytes(ending);
+        Ok(page.at)
+    }
 }

@@ -1,17 +1,17 @@
 -- Every chain of a well-linked image is sound, and the boards' chains in turn. Assumes nothing.
-use mathlib.Core.Bool.{Bool, true, false, and-eq-true_iff}
+use mathlib.Core.Bool.{Bool, true, and-eq-true_iff}
 use mathlib.Core.List.{List, [], ◌∷◌, append-nil, map}
 use mathlib.Core.Path.{◌≡◌, refl, sym, ap, subst, ◌∙◌}
 use Prim.Native.Nat.{ℕ, zero, suc, ◌+◌, ◌-◌, ◌*◌, ◌<◌}
 use native.Mathlib.Nat.{not-suc-le-zero, add-zero}
 use native.Mathlib.Numerals.{add-one}
 use native.Mathlib.Omega.{arith}
-use lib.ListN.{length, replicate, set, length-set, drop_of_length-le}
+use lib.ListN.{length, set, length-set, drop_of_length-le}
 use lib.Seq.{sets, sets-eq, length-sets}
 use borrow.Author.Tests.{leb-true}
 use Rattle.chains.specs.Image.{next_of, first_of, firsts_from, firsts_of, holds}
 use Rattle.chains.specs.Chain.{chain_of, chains_of, is_short, is_record, every, joined}
-use Rattle.loading.specs.Read.{Sound, laid, boards_of, Copied, Filled, Taken}
+use Rattle.loading.specs.Read.{Sound, laid, boards_of}
 use Rattle.chains.proofs.Meeting.{every_append, well-linked-tests}
 
 -- What holds of every chain holds of the chain of the list b + i.
@@ -119,34 +119,3 @@ pub counted-all : (image s₀ s : List ℕ) (b : ℕ) → b ≡ 8 → length s�
 unfolding chains_of firsts_from
 counted-all image s₀ s b e l w =
     sym (w.counts ∙ rw (boards-end image b e)) ∙ sets-whole (map length (boards_of image)) s₀ (sym l)
-
--- An image that is refused leaves all but the scratch.
-pub left : (ok : Bool) (image v e l p q s s' : List ℕ) → ok ≡ false → s' ≡ replicate (length s) 0
-    → Taken ok image v v e e l l p p q q s s' 513
-left ok image v e l p q s s' f z = record {
-  count = rw f;
-  values = rw f;
-  epochs = rw f;
-  lens = rw f;
-  list = rw f;
-  dates = rw f;
-  scratch = z;
-}
-
--- One that is not is taken.
-module _ (ok : Bool) (image v v' e e' l l' p p' q q' s s' : List ℕ) (r start : ℕ) (t : ok ≡ true)
-    (at : start ≡ first_of image 8) where
-  abbrev ks : List ℕ
-  ks = chain_of (next_of image) start
-
-  pub took : s' ≡ replicate (length s) 0 → Filled image v v' e e' l' → Copied image ks 0 p p' q q' r
-      → Taken ok image v v' e e' l l' p p' q q' s s' r
-  took z f w = record {
-    count = w.count ∙ rw (t, at);
-    values = f.values ∙ rw t;
-    epochs = f.epochs ∙ rw t;
-    lens = f.lens ∙ rw t;
-    list = w.values ∙ rw (t, at);
-    dates = w.epochs ∙ rw (t, at);
-    scratch = z;
-  }

@@ -81,6 +81,10 @@ module _ (next : ℕ → ℕ) (n : ℕ) (ks : List ℕ) (at len : ℕ) (w : Copy
       stores = g.stores ∙ rw (there, a, e, add-one len);
     }
 
+  -- 512 records are all.
+  pub full : len ≡ 512 → at ≡ 0
+  full e = let f : 1 ≤ at → len < 512 = place in grind (arith, f)
+
   -- At the end all are stored.
   pub stored-all : (f : ℕ → ℕ) (s₀ s : List ℕ) → at ≡ 0 → Storing next f ks s₀ s at len → s ≡ sets s₀ 0 (map f ks)
   stored-all f s₀ s e g = sym (g.stores ∙ rw (e, chain-end next (513 - len)))

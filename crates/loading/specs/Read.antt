@@ -1,7 +1,11 @@
 -- What a reader takes from the chains of an image. Cited by the contracts of loading, and by what reads or writes an
 -- image. Assumes nothing.
-use Rattle.std.specs.Prelude.{Bool, true, cond, List, [], ◌∷◌, map, ◌≡◌, ℕ, ◌+◌, ◌≤◌, length, replicate}
+use Rattle.std.specs.Prelude.{Bool, true, cond, List, [], ◌∷◌, map, ◌≡◌, ℕ, ◌+◌, ◌≤◌, length, replicate, Result, Ok, Err}
 use Rattle.std.proofs.lemmas.List.Edits.{sets}
+use Rattle.refusal.specs.declared.Refusal.{Refusal}
+use Rattle.refusal.specs.declared.Refusal.TheVariants.{ImageLinks}
+use Rattle.refinement.specs.Refinement.{Places}
+use Rattle.loading.specs.declared.Lengths.{Lengths}
 use Rattle.chains.specs.Image.{next_of, list_of, firsts_from, values_of, epochs_of}
 use Rattle.chains.specs.Chain.{chains_of, is_record, every}
 
@@ -30,20 +34,24 @@ unfoldable pub laid : List ℕ → ℕ → List (List ℕ) → List ℕ
 laid s at [] = s
 laid s at (vs ∷ vss) = laid (sets s at vs) (at + 512) vss
 
--- The boards' lists in the store v, the second store e and the lengths.
+-- The boards' lists in the store v and the second store e, and their lengths.
 pub record Filled (image v v' e e' lens' : List ℕ) : Type 0 where
   pub values : v' ≡ laid v 0 (map (values_of image) (boards_of image))
   pub epochs : e' ≡ laid e 0 (map (epochs_of image) (boards_of image))
   pub lens : lens' ≡ map length (boards_of image)
 
--- The whole reading of an image, well linked or not (ok): the store v and the second store e, the lengths l, the list p
--- and the second list q, the scratch s, and the answer r, the receipts' length or 513. One that is refused changes
--- "only the scratch"; in any case "the whole scratch ends as zeros".
-pub record Taken (ok : Bool) (image v v' e e' l l' p p' q q' s s' : List ℕ) (r : ℕ) : Type 0 where
-  pub count : r ≡ cond ok (length (receipts_of image)) 513
-  pub values : v' ≡ cond ok (laid v 0 (map (values_of image) (boards_of image))) v
-  pub epochs : e' ≡ cond ok (laid e 0 (map (epochs_of image) (boards_of image))) e
-  pub lens : l' ≡ cond ok (map length (boards_of image)) l
-  pub list : p' ≡ cond ok (sets p 0 (values_of image (receipts_of image))) p
-  pub dates : q' ≡ cond ok (sets q 0 (epochs_of image (receipts_of image))) q
+-- The lengths of the nine lists.
+abbrev pub lengths_in : List ℕ → Lengths
+lengths_in image = record { boards = map length (boards_of image); receipts = length (receipts_of image) }
+
+-- The whole reading of an image, well linked or not (ok), into the lent places p, with the scratch s: the answer r is
+-- the lists' lengths or error 19. An image that is refused changes "only the scratch"; in any case "the whole scratch
+-- ends as zeros".
+pub record Taken (ok : Bool) (image : List ℕ) (p p' : Places) (s s' : List ℕ) (r : Result Lengths Refusal)
+    : Type 0 where
+  pub answer : r ≡ cond ok (Ok (lengths_in image)) (Err ImageLinks)
+  pub values : p'.store ≡ cond ok (laid p.store 0 (map (values_of image) (boards_of image))) p.store
+  pub epochs : p'.store2 ≡ cond ok (laid p.store2 0 (map (epochs_of image) (boards_of image))) p.store2
+  pub list : p'.list ≡ cond ok (sets p.list 0 (values_of image (receipts_of image))) p.list
+  pub dates : p'.list2 ≡ cond ok (sets p.list2 0 (epochs_of image (receipts_of image))) p.list2
   pub scratch : s' ≡ replicate (length s) 0

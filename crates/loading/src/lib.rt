@@ -1,97 +1,95 @@
 // The chains of an image (document 02, Paper 7), read into the lent places: the logs' values and epochs into the store
-// and the second store, the boards' lengths, and the receipts into the list and the second list. Error 19 changes
-// nothing but the scratch. Inner layer: callers see to it that an image has its length, 258 bytes and 8 for each of n
-// records, and that the lent places and the scratch have theirs.
+// and the second store, and the receipts into the list and the second list. Error 19 changes nothing but the scratch.
+// Inner layer: callers see to it that the lent places and the scratch have their lengths.
 #![tactic(auto)]
 
-ghost use Rattle.std.specs.Prelude.{true, ◌≡◌, ◌+◌, ◌*◌, ◌<◌, ◌≤◌, length};
-ghost use Rattle.marks.specs.Marks.{most, room};
-ghost use Rattle.chains.specs.Image.{next_of, value_of, list_of, holds};
-ghost use Rattle.loading.specs.Read.{Sound, Copied, Filled, Taken};
+ghost use Rattle.std.specs.Prelude.{true, ◌≡◌, ◌*◌, ◌<◌, ◌≤◌, length};
+ghost use Rattle.marks.specs.Marks.{room};
+ghost use Rattle.chains.specs.Image.{next_of, list_of, holds};
 ghost use Rattle.chains.specs.Chain.{chain_of};
+ghost use Rattle.refinement.specs.Refinement.{Full};
+ghost use Rattle.refinement.specs.Lent.{places_in, SameLent};
+ghost use Rattle.loading.specs.Read.{Sound, Copied, Filled, Taken};
 
-// The value of the record k. Callers see to k.
-fn value(image: &[u8], k: usize) -> u32
-    requires { 8 * k + 258 ≤ length image.now }
-    ensures { result ≡ value_of image.now k }
-{
-    fields::four_at(image, 8 * k + 250)
+use chains::Image;
+use refinement::LentMut;
+use refusal::Refusal;
+
+// The lengths of the logs, board 1's first, and how many receipts there are.
+#[derive(Clone, Copy)]
+pub struct Lengths {
+    pub boards: [u16; 8],
+    pub receipts: u16,
 }
 
 // Copies the chain that starts at first into a part for its values and one for its epochs: its length. Callers see to
 // it that the chain can be copied, and to the lengths.
-fn copy(image: &[u8], n: usize, first: usize, part: &mut [u32], part2: &mut [u16]) -> usize
-    requires { (length image.now ≡ 8 * n + 258) × Sound n (chain_of (next_of image.now) first)
+#[tactic(auto, using(crate::proofs::Copying::inside))]
+fn copy(image: Image<'_>, first: usize, part: &mut [u32], part2: &mut [u16]) -> usize
+    requires { Sound image.records (chain_of (next_of image.bytes.now) first)
         × (512 ≤ length part.old) × (512 ≤ length part2.old) }
-    ensures { Copied image.now (chain_of (next_of image.now) first) 0
-        part.old part.new part2.old part2.new result }
+    ensures { let i = image.entry.bytes.now in
+        Copied i (chain_of (next_of i) first) 0 part.old part.new part2.old part2.new result }
 {
     let mut at = first;
-    let mut len: usize = 0;
-    while at != 0 {
-        part[len] = value(image, at);
-        part2[len] = chains::term(image, at);
-        at = chains::next(image, at);
-        len += 1;
+    for len in 0..512 {
+        if at == 0 {
+            return len;
+        }
+        part[len] = image.value(at);
+        part2[len] = image.term(at);
+        at = image.next(at);
     }
-    len
+    512
 }
 
 // Copies the chain of the list b, 0 to 7, into its 512 places of both stores: its length. Callers see to b, to it that
 // the chain can be copied, and to the lengths.
-fn copy_board(image: &[u8], n: usize, b: usize, store: &mut [u32], store2: &mut [u16]) -> usize
-    requires { (length image.now ≡ 8 * n + 258) × (b < 8) × Sound n (list_of image.now b)
+fn copy_board(image: Image<'_>, b: usize, store: &mut [u32], store2: &mut [u16]) -> usize
+    requires { (b < 8) × Sound image.records (list_of image.bytes.now b)
         × (length store.old ≡ 4096) × (length store2.old ≡ 4096) }
-    ensures { Copied image.now (list_of image.now b) (512 * b)
-        store.old store.new store2.old store2.new result }
+    ensures { let i = image.entry.bytes.now in
+        Copied i (list_of i b) (512 * b) store.old store.new store2.old store2.new result }
 {
-    let start = chains::first(image, b);
     let from = 512 * b;
     let to = from + 512;
-    copy(image, n, start, &mut store[from..to], &mut store2[from..to])
+    copy(
+        image,
+        image.first(b),
+        &mut store[from..to],
+        &mut store2[from..to],
+    )
 }
 
-// Copies the boards' chains, each into its 512 places, and their lengths. Callers see to it that the image is well
-// linked, and to the lengths.
-fn copy_boards(image: &[u8], n: usize, store: &mut [u32], store2: &mut [u16], len: &mut [u16])
-    requires { (length image.now ≡ 8 * n + 258) × (holds n image.now ≡ true)
-        × (length store.old ≡ 4096) × (length store2.old ≡ 4096) × (length len.old ≡ 8) }
-    ensures { Filled image.now store.old store.new
-        store2.old store2.new len.new }
+// Copies the boards' chains, each into its 512 places: their lengths. Callers see to it that the image is well linked,
+// and to the lengths.
+fn copy_boards(image: Image<'_>, store: &mut [u32], store2: &mut [u16]) -> [u16; 8]
+    requires { (holds image.records image.bytes.now ≡ true)
+        × (length store.old ≡ 4096) × (length store2.old ≡ 4096) }
+    ensures { Filled image.entry.bytes.now store.old store.new store2.old store2.new result }
 {
-    let mut b: usize = 0;
-    while b < 8 {
-        let count = copy_board(image, n, b, &mut *store, &mut *store2);
-        len[b] = count as u16;
-        b += 1;
+    let mut len = [0u16; 8];
+    for b in 0..8 {
+        len[b] = copy_board(image, b, &mut *store, &mut *store2) as u16;
     }
+    len
 }
 
-// Reads the nine chains of an image of n records into the lent places: the receipts' length, or 513 where the image is
-// not well linked, and then no place but the scratch changes. Inner layer: callers see to the lengths.
+// Reads the nine chains of an image into the lent places: their lengths, or error 19 where it is not well linked, and
+// then nothing but the scratch changes. Inner layer: callers see to the lengths.
 pub fn take_chains(
-    image: &[u8],
-    n: usize,
-    store: &mut [u32],
-    store2: &mut [u16],
-    len: &mut [u16],
-    list: &mut [u32],
-    list2: &mut [u16],
+    image: Image<'_>,
+    p: &mut LentMut<'_>,
     scratch: &mut [u8],
-) -> usize
-    requires { (length image.now ≡ 8 * n + 258) × (n ≤ most)
-        × (length store.old ≡ 4096) × (length store2.old ≡ 4096) × (length len.old ≡ 8)
-        × (length list.old ≡ 512) × (length list2.old ≡ 512) × (room ≤ length scratch.old) }
-    ensures { Taken (holds n image.now) image.now
-        store.old store.new store2.old store2.new
-        len.old len.new
-        list.old list.new list2.old list2.new
+) -> Result<Lengths, Refusal>
+    requires { Full (places_in p.old) × (room ≤ length scratch.old) }
+    ensures same { SameLent p.old p.new }
+    ensures taken { let i = image.entry in
+        Taken (holds i.records i.bytes.now) i.bytes.now (places_in p.old) (places_in p.new)
         scratch.old scratch.new result }
 {
-    if !chains::well_linked(image, n, &mut *scratch) {
-        return 513;
-    }
-    copy_boards(image, n, &mut *store, &mut *store2, &mut *len);
-    let start = chains::first(image, 8);
-    copy(image, n, start, &mut *list, &mut *list2)
+    image.well_linked(&mut *scratch)?;
+    let boards = copy_boards(image, &mut *p.store, &mut *p.store2);
+    let receipts = copy(image, image.first(8), &mut *p.list, &mut *p.list2) as u16;
+    Ok(Lengths { boards, receipts })
 }

@@ -1,18 +1,19 @@
 -- What a write in the store does to the logs, and when a number is the length of what two logs share. Assumes nothing.
-use mathlib.Core.Bool.{Bool, true, false, cond}
+use mathlib.Core.Bool.{Bool, true, false, cond, ◌&&◌}
 use mathlib.Core.List.{List, [], ◌∷◌, ◌++◌, map}
-use mathlib.Core.Logic.{◌≢◌}
+use mathlib.Core.Logic.{◌⊎◌, inl, inr, ◌≢◌}
 use mathlib.Core.Path.{◌≡◌, refl, sym, ap, ◌∙◌}
 use Prim.Native.Nat.{ℕ, zero, suc, ◌+◌, ◌-◌, ◌*◌, ◌<◌, ◌≤◌, min}
 use native.Mathlib.Numerals.{add-one}
 use native.Mathlib.Nat.{mul_comm}
 use native.Mathlib.Omega.{arith}
-use lib.Dec.{ltb}
+use lib.Dec.{eqb, ltb}
 use lib.ListN.{length, get_or, take, drop, set, length-take, length-drop, drop_of_length-le}
 use lib.Seq.{length-take-le, take-take, get_or-take, get_or-drop, take-suc-set, take-set-le, drop-set-add, drop-set-lt, drop-cons}
 use borrow.Author.Tests.{ltb-true, ltb-false}
 use borrow.Rule.Slice.PartMut.{mid_of, put_mid, set_mid_at, mid_len}
-use Rattle.model.specs.State.{entry}
+use Rattle.model.specs.State.{Entry, entry, same_entry}
+use Rattle.model.proofs.Tests.{le-or-lt}
 use Rattle.model.specs.Steps.{shared}
 use Rattle.logstore.specs.Log.{pairs, place, log_of}
 
@@ -40,6 +41,12 @@ pairs-at [] (t ∷ ts) i e = absurd (omega (arith, e))
 pairs-at (v ∷ vs) [] i e = absurd (omega (arith, e))
 pairs-at (v ∷ vs) (t ∷ ts) zero e = refl
 pairs-at (v ∷ vs) (t ∷ ts) (suc i) e = pairs-at vs ts i (omega (arith, e))
+
+-- So two entries are the same by both.
+pub same_at : (vs ts : List ℕ) (i j : ℕ) → length vs ≡ length ts
+    → same_entry (get_or (pairs vs ts) i (entry 0 0)) (get_or (pairs vs ts) j (entry 0 0))
+    ≡ (eqb (get_or vs i 0) (get_or vs j 0) && eqb (get_or ts i 0) (get_or ts j 0))
+same_at vs ts i j e = rw (pairs-at vs ts i e, pairs-at vs ts j e)
 
 -- A write of both at one place is a write of the entry.
 pub pairs_set : (vs ts : List ℕ) (i v t : ℕ) → pairs (set vs i v) (set ts i t) ≡ set (pairs vs ts) i (entry v t)
@@ -109,10 +116,10 @@ module _ (vs ts : List ℕ) (b n : ℕ) (e : length vs ≡ length ts) where
 -- Writes
 
 -- A replica's part, written at n and put back, is the store written at n's place.
-pub part-set :
+pub part_set :
     (s part : List ℕ) (a n v : ℕ) → a + 512 ≤ length s → n < 512 → part ≡ set (mid_of a (a + 512 - a) s) n v
     → put_mid a (a + 512 - a) s part ≡ set s (a + n) v
-part-set s part a n v h k e = rw e (set_mid_at a (a + 512 - a) n s v (rw (mid_len a (a + 512) s h) (omega arith)))
+part_set s part a n v h k e = rw e (set_mid_at a (a + 512 - a) n s v (rw (mid_len a (a + 512) s h) (omega arith)))
 
 -- A list of n entries, as the committed one, that gets v has v at its end.
 pub list-gains : {A : Type 0} (s : List A) (n : ℕ) (v : A) → n < length s
@@ -211,3 +218,36 @@ module _ {A : Type 0} (s : List A) (full : length s ≡ 4096) (b : ℕ) (low : 1
       let k : length (shared same (log_of s b n) ys) ≤ n =
       omega (arith, shared-length same (log_of s b n) ys, log-length h) in
       sym (shared-take same (log_of s b n) ys ∙ log-cut s b n (length (shared same (log_of s b n) ys)) k)
+
+-- What the logs of two replicas share from i on: one more where the entries at i are the same, none where they differ,
+-- or where one of them ends.
+module _ (vs ts : List ℕ) (a m b n i : ℕ) (values : length vs ≡ 4096) (terms : length ts ≡ 4096)
+    (low : 1 ≤ a) (high : a ≤ 8) (short : m ≤ 512) (low' : 1 ≤ b) (high' : b ≤ 8) (short' : n ≤ 512) where
+  abbrev entries : List Entry
+  entries = pairs vs ts
+
+  full : length entries ≡ 4096
+  full = pairs-length vs ts (values ∙ sym terms) ∙ values
+
+  long : length (log_of entries a m) ≡ m
+  long = log-length entries full a low high m short
+
+  long' : length (log_of entries b n) ≡ n
+  long' = log-length entries full b low' high' n short'
+
+  abbrev pub logs_share : ℕ → ℕ
+  logs_share = shared_from same_entry (log_of entries a m) (log_of entries b n)
+
+  pub shared_on : i < m → i < n → {t : Bool}
+      → t ≡ same_entry (get_or entries (place a i) (entry 0 0)) (get_or entries (place b i) (entry 0 0))
+      → logs_share i ≡ cond t (suc (logs_share (i + 1))) 0
+  shared_on h k e =
+      shared-next same_entry (entry 0 0) (log_of entries a m) (log_of entries b n) i (rw long h) (rw long' k)
+      ∙ rw (log-entry (entry 0 0) entries a m i h, log-entry (entry 0 0) entries b n i k, e)
+
+  pub shared_ends : min m n ≤ i → logs_share i ≡ 0
+  shared_ends h = go (le-or-lt m i)
+    where
+      go : (m ≤ i) ⊎ (i < m) → logs_share i ≡ 0
+      go (inl k) = shared-first same_entry (log_of entries a m) (log_of entries b n) i (rw long k)
+      go (inr k) = shared_second same_entry (log_of entries a m) (log_of entries b n) i (rw long' (omega arith))

@@ -12,7 +12,7 @@ use cluster::View;
 pub fn is_late(v: View, joined: u16, r: View) -> bool
     ensures { result ≡ late (view_of v) joined (view_of r) }
 {
-    (v.epoch < r.epoch) | (joined != r.term)
+    v.epoch < r.epoch || joined != r.term
 }
 
 // What current says of a board's log, and who is current or late, in every run. Not to be run, like `trials`: each is

@@ -2,32 +2,17 @@
 -- to it is `members`' law. Assumes nothing.
 use mathlib.Core.Bool.{Bool, true, false, cond, ◌||◌}
 use mathlib.Core.List.{List}
-use mathlib.Core.Path.{◌≡◌, refl, sym, ap, ◌∙◌, fun_ext}
-use Prim.Native.Nat.{ℕ, zero, suc, ◌+◌, ◌-◌, ◌/◌, ◌%◌, ◌^◌, ◌<◌, ◌≤◌}
+use mathlib.Core.Path.{◌≡◌, refl, ap, ◌∙◌, fun_ext}
+use Prim.Native.Nat.{ℕ, zero, suc, ◌+◌, ◌-◌, ◌/◌, ◌%◌, ◌<◌, ◌≤◌}
 use native.Mathlib.Omega.{arith}
 use lib.Dec.{eqb, ltb}
 use lib.ListN.{length, get_or, set, replicate, length-replicate, get_or-replicate, get_or-eq_default}
-use lib.Seq.{get_or-set_same, get_or-set_other, ext_get_or}
+use lib.Seq.{get_or-set_same, get_or-set_other}
 use borrow.Author.Tests.{eqb-true, eqb-false, ltb-true, ltb-false, eq-eqb, ne_eqb}
 use Rattle.model.specs.Prelude.{upd}
 use Rattle.members.specs.Mask.{bits}
 use Rattle.members.proofs.Laws.{bits_at, bits_none}
 use Rattle.marks.specs.Marks.{none, adding, marked}
-
--- A scratch of n bytes that are 0 is n zeros.
-pub zeros : (s : List ℕ) (n : ℕ) → length s ≡ n → ((i : ℕ) → i < length s → get_or s i 0 ≡ 0) → s ≡ replicate n 0
-zeros s n e h =
-    ext_get_or 0 s (replicate n 0) (e ∙ sym (length-replicate n 0))
-    (λ i l. h i l ∙ sym (get_or-replicate n i 0 0 (omega arith)))
-
--- One byte more is 0.
-pub zero_more : (s : List ℕ) (i : ℕ) → i < length s → ((k : ℕ) → k < i → get_or s k 0 ≡ 0)
-    → (k : ℕ) → k < i + 1 → get_or (set s i 0) k 0 ≡ 0
-zero_more s i l h k b = go (eqb k i) refl
-  where
-    go : (t : Bool) → eqb k i ≡ t → get_or (set s i 0) k 0 ≡ 0
-    go true e = let q : k ≡ i = eqb-true k i e in rw q (get_or-set_same s i 0 0 l)
-    go false e = let d = eqb-false k i e in get_or-set_other s i k 0 0 d ∙ h k (omega arith)
 
 -- A byte of zeros is 0, past the end too.
 zero-at : (n i : ℕ) (t : Bool) → ltb i n ≡ t → get_or {A = ℕ} (replicate n 0) i 0 ≡ 0

@@ -6,6 +6,8 @@
 ghost use Rattle.std.specs.Prelude.{◌≡◌, ◌≤◌, leb, length, replicate};
 ghost use Rattle.marks.specs.Marks.{most, room, marked, adding};
 
+use members::Board;
+
 // Whether n bytes are enough for a scratch: refusal 3 where they are not.
 pub fn enough(n: usize) -> bool
     ensures { result ≡ leb room n }
@@ -17,11 +19,7 @@ pub fn enough(n: usize) -> bool
 pub fn clear(s: &mut [u8])
     ensures { s.new ≡ replicate (length s.old) 0 }
 {
-    let mut i = 0;
-    while i < s.len() {
-        s[i] = 0;
-        i += 1;
-    }
+    s.fill(0);
 }
 
 // Whether k is marked. A byte is a mask of eight numbers, as one of boards is. Inner layer: callers see to the scratch's
@@ -31,7 +29,7 @@ pub fn is_marked(s: &[u8], k: usize) -> bool
     ensures { result ≡ marked s.now k }
 {
     let i = (k - 1) / 8;
-    let b = ((k - 1) % 8) as u8 + 1;
+    let b = Board::at((k - 1) % 8);
     members::has(s[i], b)
 }
 
@@ -41,6 +39,6 @@ pub fn mark(s: &mut [u8], k: usize)
     ensures { marked s.new ≡ adding k (marked s.old) }
 {
     let at = (k - 1) / 8;
-    let b = ((k - 1) % 8) as u8 + 1;
+    let b = Board::at((k - 1) % 8);
     s[at] = members::insert(s[at], b);
 }

@@ -1,50 +1,122 @@
-// A set of replicas as a mask, replica 1 the lowest bit. Inner layer: callers see to it that b is a replica, 1 to 8.
+// Replicas, and a set of them as a mask, replica 1 the lowest bit.
 #![tactic(auto)]
 
-ghost use Rattle.std.specs.Prelude.{◌≡◌, true, false, ◌≤◌};
+ghost use Rattle.std.specs.Prelude.{◌≡◌, Bool, true, false, cond, ◌+◌, ◌-◌, ◌<◌, ◌≤◌, IfOk, MatchResult};
 ghost use Rattle.model.specs.Prelude.{upd};
 ghost use Rattle.model.specs.Members as Q;
 ghost use Rattle.model.specs.Members.{◌∩◌};
-ghost use Rattle.members.specs.Mask.{bits};
+ghost use Rattle.members.specs.Mask.{bits, under};
+ghost use Rattle.refusal.specs.Refusal.{answer};
 
-// Whether b is in the set. Inner layer: callers see to b.
-pub fn has(m: u8, b: u8) -> bool
-    requires { (1 ≤ b) × (b ≤ 8) }
-    ensures { result ≡ bits m b }
-{
-    (m >> (b - 1)) % 2 == 1
+use refusal::Refusal;
+
+// A replica's number, 1 to 8 (document 01: a board).
+#[derive(Clone, Copy, Debug, PartialEq, Eq)]
+pub struct Board {
+    pub number: u8,
+    ghost least: { 1 ≤ number },
+    ghost most: { number ≤ 8 },
 }
 
-// b alone. Inner layer: callers see to b.
-pub fn single(b: u8) -> u8
-    requires { (1 ≤ b) × (b ≤ 8) }
-    ensures { bits result ≡ Q.only b }
-{
-    1u8 << (b - 1)
+impl Board {
+    // The replica of a number; refusal 1 for a number that is none.
+    pub fn new(b: u8) -> Result<Board, Refusal>
+        ensures answer { answer result ≡ cond (Q.is_replica b) 0 1 }
+        ensures number { IfOk result (λ x. x.number ≡ b) }
+        ensures test { MatchResult result (λ x. Q.is_replica b ≡ true) (λ e. Q.is_replica b ≡ false) }
+    {
+        if 1 <= b && b <= 8 {
+            Ok(Board { number: b })
+        } else {
+            Err(Refusal::Invalid)
+        }
+    }
+
+    // The replica at a place among the eight, from 0 on.
+    pub fn at(i: usize) -> Board
+        requires { i < 8 }
+        ensures { result.number ≡ i + 1 }
+    {
+        Board {
+            number: i as u8 + 1,
+        }
+    }
+
+    // Its place among the eight, from 0 on.
+    pub fn index(self) -> usize
+        ensures place { result ≡ self.number - 1 }
+        ensures below { result < 8 }
+    {
+        (self.number - 1) as usize
+    }
 }
 
-// The set with b. Inner layer: callers see to b.
-pub fn insert(m: u8, b: u8) -> u8
-    requires { (1 ≤ b) × (b ≤ 8) }
-    ensures { bits result ≡ upd (bits m) b true }
+// Whether b is in the set.
+pub fn has(m: u8, b: Board) -> bool
+    ensures { result ≡ bits m b.number }
+{
+    (m >> b.index()) % 2 == 1
+}
+
+// b alone.
+pub fn single(b: Board) -> u8
+    ensures { bits result ≡ Q.only b.number }
+{
+    1u8 << b.index()
+}
+
+// The set with b.
+pub fn insert(m: u8, b: Board) -> u8
+    ensures { bits result ≡ upd (bits m) b.number true }
 {
     put(m, b, true)
 }
 
-// The set without b. Inner layer: callers see to b.
-pub fn remove(m: u8, b: u8) -> u8
-    requires { (1 ≤ b) × (b ≤ 8) }
-    ensures { bits result ≡ upd (bits m) b false }
+// The set without b.
+pub fn remove(m: u8, b: Board) -> u8
+    ensures { bits result ≡ upd (bits m) b.number false }
 {
     put(m, b, false)
 }
 
-// The set with b if present, without b if not. Inner layer: callers see to b.
-pub fn put(m: u8, b: u8, present: bool) -> u8
-    requires { (1 ≤ b) × (b ≤ 8) }
-    ensures { bits result ≡ upd (bits m) b present }
+// The set with b if present, without b if not.
+pub fn put(m: u8, b: Board, present: bool) -> u8
+    ensures { bits result ≡ upd (bits m) b.number present }
 {
-    m & !(1u8 << (b - 1)) | ((present as u8) << (b - 1))
+    m & !(1u8 << b.index()) | (present as u8) << b.index()
+}
+
+// The set without the replica of a number, which may be none.
+pub fn without(m: u8, b: u8) -> u8
+    ensures { bits result ≡ upd (bits m) b false }
+{
+    match Board::new(b) {
+        Ok(b) => remove(m, b),
+        Err(_) => m,
+    }
+}
+
+// The replicas that pass a test.
+pub fn gather<F: Fn(Board) -> bool>(test: F) -> u8
+    requires { F.IsAlwaysCallable test }
+    ensures { (p : Q.Members) → ((b : Board) (t : Bool) → F.post test b t → t ≡ p b.number)
+        → bits result ≡ under 9 p }
+{
+    let mut q = 0;
+    for i in 0..8 {
+        let b = Board::at(i);
+        q = put(q, b, test(b));
+    }
+    q
+}
+
+// The members of the set that pass a test.
+pub fn filter<F: Fn(Board) -> bool>(m: u8, test: F) -> u8
+    requires { F.IsAlwaysCallable test }
+    ensures { (p : Q.Members) → ((b : Board) (t : Bool) → F.post test b t → t ≡ p b.number)
+        → bits result ≡ bits m ∩ p }
+{
+    m & gather(test)
 }
 
 // How many replicas the set has.

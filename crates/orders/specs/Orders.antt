@@ -1,12 +1,22 @@
 -- Orders: a list of records in few bytes. Cited by the contracts of orders, and by those that make such a list.
 -- Assumes nothing.
-use Rattle.std.specs.Prelude.{List, [], ◌++◌, ℕ, zero, suc, ◌+◌, ◌*◌, get_or, replicate}
+use Rattle.std.specs.Prelude.{List, [], ◌++◌, ℕ, zero, suc, get_or, replicate}
 use Rattle.model.specs.Records.{Record, of}
-use Rattle.text.specs.Text.{Text}
-use Rattle.fields.specs.Fields.{two_at}
+use Rattle.orders.specs.declared.Order.{Order}
+use Rattle.orders.specs.declared.Orders.{Orders}
 
--- An order is a record of a step and a board, and how often it stands in a row: 4 bytes, the step, the board, the
--- number with its low byte first. The records of the first k orders:
-unfoldable pub orders : ℕ → Text → List Record
-orders zero o = []
-orders (suc k) o = orders k o ++ replicate (two_at o (4 * k + 2)) (of (get_or o (4 * k) 0) (get_or o (4 * k + 1) 0))
+-- The records of an order.
+abbrev pub ordered : Order → List Record
+ordered o = replicate o.times (of o.step o.board)
+
+abbrev pub no_order : Order
+no_order = record { step = 0; board = 0; times = 0 }
+
+-- The records of the first k orders:
+unfoldable pub orders : ℕ → List Order → List Record
+orders zero os = []
+orders (suc k) os = orders k os ++ ordered (get_or os k no_order)
+
+-- those of all that are kept.
+abbrev pub noted : Orders → List Record
+noted o = orders o.count o.list

@@ -1,75 +1,111 @@
 // A list of records of a step and a board kept in few bytes, as orders, and written out as a sheet's records.
 #![tactic(auto)]
 
-ghost use Rattle.std.specs.Prelude.{◌++◌, ◌≡◌, suc, ◌+◌, ◌*◌, ◌≤◌, length, replicate};
-ghost use Rattle.model.specs.Records.{of};
-ghost use Rattle.text.specs.Text.{Wrote};
-ghost use Rattle.records.specs.Bytes.{sheet_bytes};
-ghost use Rattle.orders.specs.Orders.{orders};
+ghost use Rattle.std.specs.Prelude.{◌≤◌};
 
 use records::Record;
+use text::Page;
 
-// Notes order k: a step of a board, n times. Those before it stay. Inner layer: callers see to its four bytes.
-pub fn note(o: &mut [u8], k: usize, step: u8, board: u8, n: u16)
-    requires { 4 * k + 4 ≤ length o.old }
-    ensures { orders (suc k) o.new ≡ orders k o.old ++ replicate n (of step board) }
-{
-    let at = 4 * k;
-    o[at] = step;
-    o[at + 1] = board;
-    o[at + 2] = (n % 256) as u8;
-    o[at + 3] = (n / 256) as u8;
+// A record of a step and a board, and how often it stands in a row.
+#[derive(Clone, Copy)]
+pub struct Order {
+    pub step: u8,
+    pub board: u8,
+    pub times: u16,
 }
 
-// How many records the first k orders are. Inner layer: callers see to it that o has them, 64 at most.
-pub fn total(o: &[u8], k: usize) -> usize
-    requires { (4 * k ≤ length o.now) × (k ≤ 64) }
-    ensures { result ≡ length (orders k o.now) }
-{
-    let mut n: usize = 0;
-    let mut i: usize = 0;
-    while i < k {
-        n += fields::two_at(o, 4 * i + 2) as usize;
-        i += 1;
+impl Order {
+    ghost use Rattle.std.specs.Prelude.{◌≡◌, replicate};
+    ghost use Rattle.model.specs.Records.{of};
+    ghost use Rattle.text.specs.Text.{HasRoom, Puts};
+    ghost use Rattle.records.specs.Record.{record_of};
+    ghost use Rattle.records.specs.Bytes.{sheet_bytes};
+
+    // Its record.
+    pub fn record(self) -> Record
+        ensures { record_of result ≡ of self.step self.board }
+    {
+        Record {
+            step: self.step,
+            board: self.board,
+            other: 0,
+            spare: 0,
+            value: 0,
+        }
     }
-    n
+
+    // Writes its records.
+    fn put(self, page: &mut Page<'_>)
+        requires { HasRoom page.old (sheet_bytes (replicate self.times (of self.step self.board))) }
+        ensures { Puts page.old (sheet_bytes (replicate self.times (of self.step self.board))) page.new }
+    {
+        let r = self.record();
+        for _ in 0..self.times {
+            r.put(&mut *page);
+        }
+    }
 }
 
-// Writes a record of a step and a board n times from place at on, and answers the place after them. Inner layer:
-// callers see to the room.
-fn put_same(out: &mut [u8], at: usize, step: u8, board: u8, n: u16) -> usize
-    requires { at + 8 * n ≤ length out.old }
-    ensures { Wrote out.old at (sheet_bytes (replicate n (of step board))) out.new result }
-{
-    let r = Record {
-        step,
-        board,
-        other: 0,
-        spare: 0,
-        value: 0,
-    };
-    let mut p = at;
-    let mut i = n;
-    while i > 0 {
-        p = records::encode(&mut *out, p, r);
-        i -= 1;
-    }
-    p
+// The orders of a list: the first `count` of 54, as no list has more (18 for the choosing part, 36 for the waiting
+// part).
+#[derive(Clone, Copy)]
+pub struct Orders {
+    list: [Order; 54],
+    pub count: usize,
+    pub ghost few: { count ≤ 54 },
 }
 
-// Writes the records of the first k orders from the start on, and answers the place after them. Inner layer: callers
-// see to it that o has the orders, and to the room.
-pub fn put_orders(out: &mut [u8], o: &[u8], k: usize) -> usize
-    requires { (4 * k ≤ length o.now) × (8 * length (orders k o.now) ≤ length out.old) }
-    ensures { Wrote out.old 0 (sheet_bytes (orders k o.now)) out.new result }
-{
-    let mut p: usize = 0;
-    let mut i: usize = 0;
-    while i < k {
-        let at = 4 * i;
-        let n = fields::two_at(o, at + 2);
-        p = put_same(&mut *out, p, o[at], o[at + 1], n);
-        i += 1;
+impl Orders {
+    ghost use Rattle.std.specs.Prelude.{◌≡◌, ◌<◌, suc, ◌++◌, [], length, replicate};
+    ghost use Rattle.model.specs.Records.{of};
+    ghost use Rattle.text.specs.Text.{HasRoom, Puts};
+    ghost use Rattle.records.specs.Bytes.{sheet_bytes};
+    ghost use Rattle.orders.specs.Orders.{noted};
+
+    // No order yet.
+    pub fn new() -> Orders
+        ensures none { noted result ≡ [] }
+        ensures count { result.count ≡ 0 }
+    {
+        let none = Order {
+            step: 0,
+            board: 0,
+            times: 0,
+        };
+        Orders {
+            list: [none; 54],
+            count: 0,
+        }
     }
-    p
+
+    // One order more.
+    pub fn push(&mut self, order: Order)
+        requires { self.old.count < 54 }
+        ensures more { noted self.new ≡ noted self.old ++ replicate order.times (of order.step order.board) }
+        ensures count { self.new.count ≡ suc self.old.count }
+    {
+        self.list[self.count] = order;
+        self.count += 1;
+    }
+
+    // How many records they are.
+    pub fn total(&self) -> usize
+        ensures { result ≡ length (noted self.now) }
+    {
+        let mut n = 0;
+        for order in &self.list[..self.count] {
+            n += order.times as usize;
+        }
+        n
+    }
+
+    // Writes their records.
+    pub fn put(&self, page: &mut Page<'_>)
+        requires { HasRoom page.old (sheet_bytes (noted self.now)) }
+        ensures { Puts page.old (sheet_bytes (noted self.now)) page.new }
+    {
+        for order in &self.list[..self.count] {
+            order.put(&mut *page);
+        }
+    }
 }

@@ -1,6 +1,9 @@
 -- The call `describe_record` and what is claimed of its lines (document 02, Paper 5). Cited by the promises of
 -- `describe_record` and `claim`. Assumes nothing.
-use Rattle.std.specs.Prelude.{Bool, true, false, cond, ◌&&◌, [], ◌∷◌, ◌++◌, ◌≡◌, ℕ, ◌<◌, ◌≤◌, leb, eqb, length, get_or, replicate}
+use Rattle.std.specs.Prelude.{Bool, Result, Ok, Err, true, false, cond, ◌&&◌, [], ◌∷◌, ◌++◌, ◌≡◌, ℕ, ◌<◌, ◌≤◌, leb, eqb, length, get_or, replicate}
+use Rattle.refusal.specs.declared.Refusal.{Refusal}
+use Rattle.refusal.specs.declared.Refusal.TheVariants.{Invalid, Room}
+use Rattle.refusal.specs.Refusal.{returned}
 use Rattle.text.specs.Text.{Text, over}
 use Rattle.lines.specs.Lines.{word}
 use Rattle.model.specs.Records.{of, of_both, of_value}
@@ -15,11 +18,15 @@ abbrev pub is_told : Text → ℕ → Bool
 is_told s a = eqb (length s) 8 && is_listed a
 
 -- "... then a short slice 3": the line's length, or the refusal.
-unfoldable pub result_of : Text → ℕ → Text → ℕ
+unfoldable pub outcome_of : Text → ℕ → Text → Result ℕ Refusal
 unfolding line is_listed_in
-result_of s a out =
+outcome_of s a out =
     let l = line (record_at s) a in
-    cond (is_told s a) (cond (leb (length l) (length out)) (length l) 3) 1
+    cond (is_told s a) (cond (leb (length l) (length out)) (Ok (length l)) (Err Room)) (Err Invalid)
+
+-- As C has it.
+abbrev pub result_of : Text → ℕ → Text → ℕ
+result_of s a out = returned (outcome_of s a out)
 
 -- "... the slice untouched": what the slice holds then.
 unfoldable pub left : Text → ℕ → Text → Text
@@ -79,7 +86,7 @@ LinesHold =
 -- A slice one byte short is refused and keeps its bytes; one of the line's length is enough; a longer one keeps those
 -- past the line.
 unfoldable pub RoomHolds : Type 0
-unfolding result_of left record_bytes
+unfolding outcome_of left record_bytes
 RoomHolds =
     let s = record_bytes (of_value 1 1 41) in let l = word "board 1 appends value 41: accepted\n" in
     (result_of s 0 (replicate 34 255) ≡ 3) × (left s 0 (replicate 34 255) ≡ replicate 34 255)

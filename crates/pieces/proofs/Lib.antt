@@ -1,3 +1,4 @@
 pub mod Keeping
 pub mod Trying
+pub mod Sinking
 pub mod Standing

@@ -1,73 +1,56 @@
--- A list that leads to normal, in the making on a row: the row after the records so far stands for the state of the
--- model's draft. Cited by the contracts of pieces, drafting and planning. Assumes nothing.
-use Rattle.std.specs.Prelude.{Bool, true, ◌&&◌, [], ◌∷◌, ◌++◌, ◌≢◌, ◌≡◌, ℕ, suc, ◌+◌, ◌≤◌, eqb, length}
-use Rattle.model.specs.Members.{is_replica}
-use Rattle.model.specs.State.{Entry, entries, RowState, outline, waiting, stage_number}
-use Rattle.model.specs.Steps.{Step, answer_of, step}
-use Rattle.model.specs.Records.{Record, of, step_of}
-use Rattle.cluster.specs.declared.Cluster.{Cluster}
-use Rattle.cluster.specs.declared.Outcome.{Outcome}
-use Rattle.refinement.specs.Refinement.{Places, Full, abs, Short}
-use Rattle.text.specs.Text.{Text}
+-- A list that leads to normal, in the making on a row: the row after the steps so far stands for the state of the model's
+-- draft. Cited by the contracts of pieces and drafting. Assumes nothing.
+use Rattle.std.specs.Prelude.{false, true, ◌≡◌, ℕ, ◌+◌, ◌≤◌, Result, Ok, Err}
+use Rattle.refusal.specs.declared.Refusal.{Refusal}
+use Rattle.refusal.specs.declared.Refusal.TheVariants.{NoPlan}
+use Rattle.refusal.specs.Refusal.{answer}
+use Rattle.model.specs.State.{Entry, entries, outline}
+use Rattle.model.specs.Steps as S
+use Rattle.model.specs.Records.{Record, bare, of, step_of}
+use Rattle.refinement.specs.Refinement.{abs}
+use Rattle.refinement.specs.Lent.{places_in}
 use Rattle.recovery.specs.Plan as P
-use Rattle.orders.specs.Orders.{orders}
-use Rattle.pieces.specs.declared.Draft.{Draft}
+use Rattle.orders.specs.Orders.{noted}
+use Rattle.pieces.specs.declared.Step.{Step}
+use Rattle.pieces.specs.declared.Step.TheVariants.{Refresh, Join, Receive, RefreshController, ReadLeader, Read, SetNormal, Hear, Install}
+use Rattle.pieces.specs.declared.Sketch.{Sketch}
 
--- What the steps of a list rely on in leaders: those of views are boards or none; the registry names one while it is
--- waiting, and the controller has one at stage leader.
-pub record Leaders (s : RowState) : Type 0 where
-  pub named : s.registry.view.leader ≤ 8
-  pub waiting : s.registry.status ≡ waiting → is_replica s.registry.view.leader ≡ true
-  pub views : (b : ℕ) → (s.view b).leader ≤ 8
-  pub reads : stage_number s.controller.stage ≡ 1 → is_replica s.controller.view.leader ≡ true
+-- The record of a step.
+abbrev pub record_of : Step → Record
+record_of (Refresh b) = of 6 b.number
+record_of (Join b) = of 7 b.number
+record_of (Receive b) = of 8 b.number
+record_of RefreshController = bare 10
+record_of ReadLeader = bare 11
+record_of (Read b) = of 12 b.number
+record_of SetNormal = bare 13
+record_of (Hear b) = of 14 b.number
+record_of (Install b) = of 15 b.number
 
--- A step that keeps them so. (Steps 6 to 15 do.)
-abbrev pub Keeps : Step → Type 0
-Keeps st = (s : RowState) → Leaders s → Leaders (step entries s st)
+-- The record r was tried: the answer and what is left are the model's.
+pub record Tried (r : Record) (s : Sketch) (x : Result ℕ Refusal) (s' : Sketch) : Type 0 where
+  pub answer : answer x ≡ S.answer_of (outline (abs s.row (places_in s.places))) (step_of r)
+  pub state : abs s'.row (places_in s'.places) ≡ S.step entries (abs s.row (places_in s.places)) (step_of r)
+  pub orders : s'.orders ≡ s.orders
 
--- A row and places on which the steps of a list can be tried. (A row that refusal 1 lets through is one.)
-pub record Fit (row : Cluster) (p : Places) : Type 0 where
-  pub short : Short row.len
-  pub issued : row.issued ≤ 512
-  pub full : Full p
-  pub leaders : Leaders (abs row p)
+-- The row and the places are those of the model's draft m, in which no error was met.
+pub record Plays (m : P.Draft Entry) (s : Sketch) : Type 0 where
+  pub state : abs s.row (places_in s.places) ≡ m.state
+  pub sound : m.sound ≡ true
 
--- The record r was tried on the row and the places: the answer and the row of x, and p', are the model's.
-pub record Tried (r : Record) (row : Cluster) (p : Places) (x : Outcome) (p' : Places) : Type 0 where
-  pub fit : Fit x.row p'
-  pub answer : x.answer ≡ answer_of (outline (abs row p)) (step_of r)
-  pub state : abs x.row p' ≡ step entries (abs row p) (step_of r)
-  pub refused : x.answer ≢ 0 → (x.row ≡ row) × (p' ≡ p)
+-- So are the records that s has noted.
+pub record Stands (m : P.Draft Entry) (s : Sketch) : Type 0 where
+  pub plays : Plays m s
+  pub records : noted s.orders ≡ m.records
 
--- The row and its word `ok`, with the places p, are those of the model's draft m.
-pub record Plays (m : P.Draft Entry) (row : Cluster) (ok : Bool) (p : Places) : Type 0 where
-  pub state : abs row p ≡ m.state
-  pub sound : ok ≡ m.sound
+-- What became of the draft: s stands for it now, or error 20 was met.
+abbrev pub Ends : P.Draft Entry → Result (Unit {0}) Refusal → Sketch → Type 0
+Ends m (Ok u) s = Stands m s
+Ends m (Err e) s = (e ≡ NoPlan) × (m.sound ≡ false)
 
--- So are the records: d has noted them in o.
-pub record Stands (m : P.Draft Entry) (d : Draft) (p : Places) (o : Text) : Type 0 where
-  pub plays : Plays m d.row d.ok p
-  pub records : orders d.count o ≡ m.records
-
--- The record r was noted, and d with the outcome x became y.
-pub record Noted (r : Record) (d : Draft) (x : Outcome) (o : Text) (y : Draft) (o' : Text) : Type 0 where
-  pub row : y.row ≡ x.row
-  pub count : y.count ≡ suc d.count
-  pub ok : y.ok ≡ d.ok && eqb x.answer 0
-  pub records : orders (suc d.count) o' ≡ orders d.count o ++ (r ∷ [])
-
--- b was tried to receive n times.
-pub record Received (b n : ℕ) (d : Draft) (p : Places) (x : Draft) (p' : Places) : Type 0 where
-  pub fit : Fit x.row p'
-  pub count : x.count ≡ d.count
-  pub plays : (m : P.Draft Entry) → Plays m d.row d.ok p
-      → Plays (P.times n (P.put entries (of 8 b)) m) x.row x.ok p'
-
--- What a piece of a list, f, makes of a draft on a row: at most k orders more, and whatever draft of the model it stood
--- for, it stands for f of it now.
-pub record Moves (k : ℕ) (f : P.Draft Entry → P.Draft Entry)
-    (d : Draft) (p : Places) (o : Text) (d' : Draft) (p' : Places) (o' : Text) : Type 0 where
-  pub fit : Fit d'.row p'
-  pub room : length o' ≡ length o
-  pub few : d'.count ≤ d.count + k
-  pub stands : (m : P.Draft Entry) → Stands m d p o → Stands (f m) d' p' o'
+-- What a piece of a list, f, makes of a list in the making: at most k orders more, and whatever draft of the model it
+-- stood for, it stands for f of it now, unless that has error 20.
+pub record Moves (k : ℕ) (f : P.Draft Entry → P.Draft Entry) (s : Sketch) (x : Result (Unit {0}) Refusal) (s' : Sketch)
+    : Type 0 where
+  pub few : s'.orders.count ≤ s.orders.count + k
+  pub stands : (m : P.Draft Entry) → Stands m s → Ends (f m) x s'

@@ -1,417 +1,161 @@
-// The pieces of a list that leads a row to normal (document 02, Paper 10): each record is tried on the row, in turn,
-// over a draft by value, the lent places, and the notes, which have the orders so far. Inner layer: the places are
-// written, so callers lend copies, or places that they have done with.
+// The pieces of a list that leads a row to normal (document 02, Paper 10): each step is tried on the row, in turn.
+// Inner layer: the places are written, so callers lend copies, or places that they have done with.
 #![tactic(auto)]
 
-ghost use Rattle.std.specs.Prelude.{◌≡◌, cond, ◌&&◌, ◌∷◌, [], ◌++◌, suc, ◌+◌, ◌-◌, ◌*◌, ◌≤◌, eqb, length, replicate};
-ghost use Rattle.model.specs.State.{entries, RowState};
-ghost use Rattle.model.specs.Records as R;
-ghost use Rattle.model.specs.Members as Q;
-ghost use Rattle.members.specs.Mask.{bits};
-ghost use Rattle.cluster.specs.Layout.{at, no_view};
-ghost use Rattle.refinement.specs.Refinement.{lent};
-ghost use Rattle.recovery.specs.Plan as P;
-ghost use Rattle.orders.specs.Orders.{orders};
-ghost use Rattle.pieces.specs.Pieces.{Keeps, Fit, Tried, Noted, Received, Moves};
+ghost use Rattle.refinement.specs.Lent.{places_in};
+ghost use Rattle.pieces.specs.Fitting.{Fit};
 
-use cluster::{Cluster, Outcome, Status, View, replica};
-use records::Record;
+use cluster::{Cluster, Stage};
+use members::Board;
+use orders::{Order, Orders};
+use refinement::LentMut;
+use refusal::{Refusal, ensure};
 
-// A list in the making: the row after its records so far, how many orders were noted of them, and whether nothing was
-// met that is error 20.
+// A step of a list, with its board where it has one.
 #[derive(Clone, Copy)]
-pub struct Draft {
+pub enum Step {
+    Refresh(Board),
+    Join(Board),
+    Receive(Board),
+    RefreshController,
+    ReadLeader,
+    Read(Board),
+    SetNormal,
+    Hear(Board),
+    Install(Board),
+}
+
+impl Step {
+    ghost use Rattle.std.specs.Prelude.{◌≡◌};
+    ghost use Rattle.model.specs.Records as R;
+    ghost use Rattle.pieces.specs.Pieces.{record_of};
+
+    // It, n times in a row.
+    fn times(self, n: u16) -> Order
+        ensures order { R.of result.step result.board ≡ record_of self }
+        ensures times { result.times ≡ n }
+    {
+        let (step, board) = match self {
+            Step::Refresh(b) => (6, b.number),
+            Step::Join(b) => (7, b.number),
+            Step::Receive(b) => (8, b.number),
+            Step::RefreshController => (10, 0),
+            Step::ReadLeader => (11, 0),
+            Step::Read(b) => (12, b.number),
+            Step::SetNormal => (13, 0),
+            Step::Hear(b) => (14, b.number),
+            Step::Install(b) => (15, b.number),
+        };
+        Order {
+            step,
+            board,
+            times: n,
+        }
+    }
+}
+
+// A list in the making: the row after its steps so far, the places on which they were tried, and their orders. A step
+// that is refused is error 20, and ends it.
+#[derive(Drop)]
+pub struct Sketch<'a> {
     pub row: Cluster,
-    pub count: usize,
-    pub ok: bool,
+    pub places: LentMut<'a>,
+    pub orders: Orders,
+    pub ghost fit: { Fit row (places_in places) },
 }
 
-// Tries the record of a step and a board. Callers see to the row, the places and the step.
-fn attempt(
-    row: Cluster,
-    store: &mut [u32],
-    store2: &mut [u16],
-    list: &mut [u32],
-    list2: &mut [u16],
-    step: u8,
-    board: u8,
-) -> Outcome
-    requires { Keeps (R.step_of (R.of step board))
-        × Fit row (lent store.old store2.old list.old list2.old) }
-    ensures { Tried (R.of step board) row
-        (lent store.old store2.old list.old list2.old)
-        result (lent store.new store2.new list.new list2.new) }
-{
-    let r = Record {
-        step: step,
-        board: board,
-        other: 0,
-        spare: 0,
-        value: 0,
-    };
-    turning::turn(row, &mut *store, &mut *store2, &mut *list, &mut *list2, r)
-}
+impl Sketch<'_> {
+    ghost use Rattle.std.specs.Prelude.{◌≡◌, ◌≢◌, ◌+◌, ◌<◌, ◌≤◌};
+    ghost use Rattle.model.specs.State.{entries};
+    ghost use Rattle.recovery.specs.Plan as P;
+    ghost use Rattle.refusal.specs.Refusal.{number};
+    ghost use Rattle.pieces.specs.Pieces.{record_of, Tried, Moves};
 
-// The draft after the record of a step and a board that was tried on it, with the outcome x: it is noted. Callers see
-// to the room.
-fn add(d: Draft, x: Outcome, notes: &mut [u8], step: u8, board: u8) -> Draft
-    requires { 4 * (d.count + 1) ≤ length notes.old }
-    ensures { Noted (R.of step board) d x notes.old result notes.new }
-{
-    orders::note(&mut *notes, d.count, step, board, 1);
-    let row = x.row;
-    Draft {
-        row: row,
-        count: d.count + 1,
-        ok: d.ok & (x.answer == 0),
+    // Tries a step.
+    fn attempt(&mut self, step: Step) -> Result<u8, Refusal>
+        ensures { Tried (record_of step) self.old result self.new }
+    {
+        let _view = self.row.views[0]; // So the proof knows how long the row's arrays are.
+        dispatch::send(&mut self.row, &mut self.places, step.times(1).record())
     }
-}
 
-// One record more. Inner layer: callers see to the step and to the places.
-pub fn put(
-    d: Draft,
-    store: &mut [u32],
-    store2: &mut [u16],
-    list: &mut [u32],
-    list2: &mut [u16],
-    notes: &mut [u8],
-    step: u8,
-    board: u8,
-) -> Draft
-    requires { Keeps (R.step_of (R.of step board)) × Fit d.row (lent store.old store2.old list.old list2.old)
-        × (4 * (d.count + 1) ≤ length notes.old) }
-    ensures { Moves 1 (P.put entries (R.of step board))
-        d (lent store.old store2.old list.old list2.old) notes.old
-        result (lent store.new store2.new list.new list2.new) notes.new }
-{
-    let row = d.row;
-    let x = attempt(
-        row,
-        &mut *store,
-        &mut *store2,
-        &mut *list,
-        &mut *list2,
-        step,
-        board,
-    );
-    add(d, x, &mut *notes, step, board)
-}
-
-// One record more, left out where it would be refused with `skip`. Inner layer: callers see to the step, to a refusal and
-// to the places.
-pub fn put_unless(
-    d: Draft,
-    store: &mut [u32],
-    store2: &mut [u16],
-    list: &mut [u32],
-    list2: &mut [u16],
-    notes: &mut [u8],
-    step: u8,
-    board: u8,
-    skip: u8,
-) -> Draft
-    requires { Keeps (R.step_of (R.of step board)) × (1 ≤ skip) × Fit d.row (lent store.old store2.old list.old list2.old)
-        × (4 * (d.count + 1) ≤ length notes.old) }
-    ensures { Moves 1 (P.put_unless entries skip (R.of step board))
-        d (lent store.old store2.old list.old list2.old) notes.old
-        result (lent store.new store2.new list.new list2.new) notes.new }
-{
-    let row = d.row;
-    let x = attempt(
-        row,
-        &mut *store,
-        &mut *store2,
-        &mut *list,
-        &mut *list2,
-        step,
-        board,
-    );
-    if x.answer == skip {
-        return d;
+    // One step more.
+    pub fn put(&mut self, step: Step) -> Result<(), Refusal>
+        requires { self.old.orders.count < 54 }
+        ensures { Moves 1 (P.put entries (record_of step)) self.old result self.new }
+    {
+        self.attempt(step).map_err(|_| Refusal::NoPlan)?;
+        self.orders.push(step.times(1));
+        Ok(())
     }
-    add(d, x, &mut *notes, step, board)
-}
 
-// Choosing: news and hearing of b. Inner layer: callers see to the places.
-pub fn hears(
-    d: Draft,
-    store: &mut [u32],
-    store2: &mut [u16],
-    list: &mut [u32],
-    list2: &mut [u16],
-    notes: &mut [u8],
-    b: u8,
-) -> Draft
-    requires { Fit d.row (lent store.old store2.old list.old list2.old)
-        × (4 * (d.count + 2) ≤ length notes.old) }
-    ensures { Moves 2 (P.hears entries b)
-        d (lent store.old store2.old list.old list2.old) notes.old
-        result (lent store.new store2.new list.new list2.new) notes.new }
-{
-    let e = put_unless(
-        d,
-        &mut *store,
-        &mut *store2,
-        &mut *list,
-        &mut *list2,
-        &mut *notes,
-        6,
-        b,
-        12,
-    );
-    put_unless(
-        e,
-        &mut *store,
-        &mut *store2,
-        &mut *list,
-        &mut *list2,
-        &mut *notes,
-        14,
-        b,
-        12,
-    )
-}
-
-// n receives of b, which are not noted.
-fn receive_all(
-    d: Draft,
-    store: &mut [u32],
-    store2: &mut [u16],
-    list: &mut [u32],
-    list2: &mut [u16],
-    b: u8,
-    n: u16,
-) -> Draft
-    requires { Fit d.row (lent store.old store2.old list.old list2.old) }
-    ensures { Received b n d (lent store.old store2.old list.old list2.old)
-        result (lent store.new store2.new list.new list2.new) }
-{
-    let mut row = d.row;
-    let mut ok = d.ok;
-    let mut i: u16 = 0;
-    while i < n {
-        let x = attempt(
-            row,
-            &mut *store,
-            &mut *store2,
-            &mut *list,
-            &mut *list2,
-            8,
-            b,
-        );
-        let next = x.row;
-        row = next;
-        ok = ok & (x.answer == 0);
-        i += 1;
+    // One step more, left out where it would be refused with `skip`.
+    pub fn put_unless(&mut self, step: Step, skip: Refusal) -> Result<(), Refusal>
+        requires { self.old.orders.count < 54 }
+        ensures { Moves 1 (P.put_unless entries (number skip) (record_of step)) self.old result self.new }
+    {
+        match self.attempt(step) {
+            Ok(_) => {
+                self.orders.push(step.times(1));
+                Ok(())
+            }
+            Err(e) => ensure(e == skip, Refusal::NoPlan),
+        }
     }
-    Draft {
-        row: row,
-        count: d.count,
-        ok: ok,
+
+    // Choosing: news and hearing of b.
+    pub fn hears(&mut self, b: Board) -> Result<(), Refusal>
+        requires { self.old.orders.count + 2 ≤ 54 }
+        ensures { Moves 2 (P.hears entries b.number) self.old result self.new }
+    {
+        self.put_unless(Step::Refresh(b), Refusal::NothingDue)?;
+        self.put_unless(Step::Hear(b), Refusal::NothingDue)
     }
-}
 
-// The draft with n receives of b noted: one order. Callers see to the room.
-fn add_receives(d: Draft, notes: &mut [u8], b: u8, n: u16) -> Draft
-    requires { 4 * (d.count + 1) ≤ length notes.old }
-    ensures { (result.row ≡ d.row) × (result.count ≡ suc d.count) × (result.ok ≡ d.ok)
-        × (orders (suc d.count) notes.new
-        ≡ orders d.count notes.old ++ replicate n (R.of 8 b)) }
-{
-    orders::note(&mut *notes, d.count, 8, b, n);
-    let row = d.row;
-    Draft {
-        row: row,
-        count: d.count + 1,
-        ok: d.ok,
+    // As many receives as bring b to the length of l: one order.
+    pub fn receives(&mut self, l: Board, b: Board) -> Result<(), Refusal>
+        requires { self.old.orders.count < 54 }
+        ensures { Moves 1 (P.receives entries l.number b.number) self.old result self.new }
+    {
+        let n = self.row.len[l.index()].saturating_sub(self.row.len[b.index()]);
+        for _ in 0..n {
+            self.attempt(Step::Receive(b)).map_err(|_| Refusal::NoPlan)?;
+        }
+        self.orders.push(Step::Receive(b).times(n));
+        Ok(())
     }
-}
 
-// The replica b's number of eight, 0 where b is no replica.
-fn number_of(xs: [u16; 8], b: u8) -> u16
-    ensures { result ≡ at 0 xs b }
-{
-    if !replica(b) {
-        return 0;
+    // Waiting: news of b, after which it has the leader l in its view.
+    pub fn informs(&mut self, l: Board, b: Board) -> Result<(), Refusal>
+        requires { self.old.orders.count < 54 }
+        ensures { Moves 1 (P.informs entries l.number b.number) self.old result self.new }
+    {
+        self.put_unless(Step::Refresh(b), Refusal::NothingDue)?;
+        ensure(
+            self.row.views[b.index()].leader == l.number,
+            Refusal::NoPlan,
+        )
     }
-    let i = (b - 1) as usize;
-    xs[i]
-}
 
-// The leader in the view of b, 0 where b is no replica.
-fn leader_of(views: [View; 8], b: u8) -> u8
-    ensures { result ≡ (at no_view views b).leader }
-{
-    if !replica(b) {
-        return 0;
+    // News, join, receives and reading of b, for the leader l.
+    pub fn follows(&mut self, l: Board, b: Board) -> Result<(), Refusal>
+        requires { self.old.orders.count + 4 ≤ 54 }
+        ensures { Moves 4 (P.follows entries l.number b.number) self.old result self.new }
+    {
+        self.informs(l, b)?;
+        self.put_unless(Step::Join(b), Refusal::Joining)?;
+        self.receives(l, b)?;
+        self.put_unless(Step::Read(b), Refusal::NothingDue)
     }
-    let i = (b - 1) as usize;
-    let v = views[i];
-    v.leader
-}
 
-// How much n is below m, 0 where it is not.
-fn lacks(m: u16, n: u16) -> u16
-    ensures { result ≡ m - n }
-{
-    if m < n {
-        return 0;
+    // Read leader, left out in stage boards.
+    pub fn reads_leader(&mut self) -> Result<(), Refusal>
+        requires { self.old.orders.count < 54 }
+        ensures { Moves 1 (P.reads_leader entries) self.old result self.new }
+    {
+        if self.row.controller.stage == Stage::Boards {
+            return Ok(());
+        }
+        self.put(Step::ReadLeader)
     }
-    m - n
-}
-
-// As many receives as bring b to the length of l: one order. Inner layer: callers see to the places.
-pub fn receives(
-    d: Draft,
-    store: &mut [u32],
-    store2: &mut [u16],
-    list: &mut [u32],
-    list2: &mut [u16],
-    notes: &mut [u8],
-    l: u8,
-    b: u8,
-) -> Draft
-    requires { Fit d.row (lent store.old store2.old list.old list2.old)
-        × (4 * (d.count + 1) ≤ length notes.old) }
-    ensures { Moves 1 (P.receives entries l b)
-        d (lent store.old store2.old list.old list2.old) notes.old
-        result (lent store.new store2.new list.new list2.new) notes.new }
-{
-    let row = d.row;
-    let len = row.len;
-    let n = lacks(number_of(len, l), number_of(len, b));
-    let e = receive_all(d, &mut *store, &mut *store2, &mut *list, &mut *list2, b, n);
-    add_receives(e, &mut *notes, b, n)
-}
-
-// Waiting: news of b, after which it has the leader l in its view. Inner layer: callers see to the places.
-pub fn informs(
-    d: Draft,
-    store: &mut [u32],
-    store2: &mut [u16],
-    list: &mut [u32],
-    list2: &mut [u16],
-    notes: &mut [u8],
-    l: u8,
-    b: u8,
-) -> Draft
-    requires { Fit d.row (lent store.old store2.old list.old list2.old)
-        × (4 * (d.count + 1) ≤ length notes.old) }
-    ensures { Moves 1 (P.informs entries l b)
-        d (lent store.old store2.old list.old list2.old) notes.old
-        result (lent store.new store2.new list.new list2.new) notes.new }
-{
-    let e = put_unless(
-        d,
-        &mut *store,
-        &mut *store2,
-        &mut *list,
-        &mut *list2,
-        &mut *notes,
-        6,
-        b,
-        12,
-    );
-    let row = e.row;
-    let views = row.views;
-    let k = leader_of(views, b);
-    Draft {
-        row: row,
-        count: e.count,
-        ok: e.ok & (k == l),
-    }
-}
-
-// News, join, receives and reading of b, for the leader l. Inner layer: callers see to the places.
-pub fn follows(
-    d: Draft,
-    store: &mut [u32],
-    store2: &mut [u16],
-    list: &mut [u32],
-    list2: &mut [u16],
-    notes: &mut [u8],
-    l: u8,
-    b: u8,
-) -> Draft
-    requires { Fit d.row (lent store.old store2.old list.old list2.old)
-        × (4 * (d.count + 4) ≤ length notes.old) }
-    ensures { Moves 4 (P.follows entries l b)
-        d (lent store.old store2.old list.old list2.old) notes.old
-        result (lent store.new store2.new list.new list2.new) notes.new }
-{
-    let e = informs(
-        d,
-        &mut *store,
-        &mut *store2,
-        &mut *list,
-        &mut *list2,
-        &mut *notes,
-        l,
-        b,
-    );
-    let f = put_unless(
-        e,
-        &mut *store,
-        &mut *store2,
-        &mut *list,
-        &mut *list2,
-        &mut *notes,
-        7,
-        b,
-        11,
-    );
-    let g = receives(
-        f,
-        &mut *store,
-        &mut *store2,
-        &mut *list,
-        &mut *list2,
-        &mut *notes,
-        l,
-        b,
-    );
-    put_unless(
-        g,
-        &mut *store,
-        &mut *store2,
-        &mut *list,
-        &mut *list2,
-        &mut *notes,
-        12,
-        b,
-        12,
-    )
-}
-
-// Read leader, left out in stage boards. Inner layer: callers see to the places.
-pub fn reads_leader(
-    d: Draft,
-    store: &mut [u32],
-    store2: &mut [u16],
-    list: &mut [u32],
-    list2: &mut [u16],
-    notes: &mut [u8],
-) -> Draft
-    requires { Fit d.row (lent store.old store2.old list.old list2.old)
-        × (4 * (d.count + 1) ≤ length notes.old) }
-    ensures { Moves 1 (P.reads_leader entries)
-        d (lent store.old store2.old list.old list2.old) notes.old
-        result (lent store.new store2.new list.new list2.new) notes.new }
-{
-    let row = d.row;
-    let c = row.controller;
-    let g = c.stage;
-    if cluster::number(g) == 2 {
-        return d;
-    }
-    put(
-        d,
-        &mut *store,
-        &mut *store2,
-        &mut *list,
-        &mut *list2,
-        &mut *notes,
-        11,
-        0,
-    )
 }

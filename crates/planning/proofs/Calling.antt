@@ -2,9 +2,10 @@
 use mathlib.Core.Bool.{true, false, cond, ◌&&◌}
 use mathlib.Core.List.{List}
 use mathlib.Core.Path.{◌≡◌, sym, subst, ap, ap₂, ◌∙◌}
-use Prim.Native.Nat.{ℕ, ◌≤◌, ◌<◌}
-use lib.ListN.{length}
-use borrow.Author.Tests.{le-leb, lt-leb}
+use Prim.Native.Nat.{ℕ, ◌≤◌}
+use Rattle.std.specs.Prelude.{Result, Err}
+use Rattle.refusal.specs.declared.Refusal.{Refusal}
+use Rattle.refusal.specs.declared.Refusal.TheVariants.{Invalid, Room}
 use Rattle.model.specs.State.{entries, RowState}
 use Rattle.model.proofs.Tests.{is_true}
 use Rattle.cluster.specs.declared.Cluster.{Cluster}
@@ -15,26 +16,27 @@ use Rattle.shown.proofs.Valid.{valid-full, valid-range}
 use Rattle.steps.specs.Calls.{CallsSafe}
 use Rattle.recovery.specs.Plan.{found, plan}
 use Rattle.recovery.specs.Claim.{Leads, RunsRecover}
-use Rattle.pieces.specs.Pieces.{Fit}
-use Rattle.delivery.specs.declared.Planned.{Planned}
+use Rattle.pieces.specs.Fitting.{Fit}
+use Rattle.delivery.specs.Planned.{Planned, planned}
 use Rattle.delivery.specs.Delivery.{enough, plan_answer, plan_count, plan_left, Gives}
 use Rattle.drafting.proofs.Fitting.{ranged-fit}
 use Rattle.planning.specs.Planning.{Plans, CallsRecover, FollowsRecover}
 
 -- The three ways in which a call ends.
 module _ (row : Cluster) (p : Places) (out : Text) where
-  pub plans-invalid : valid row p ≡ false → Plans row p out (record { answer = 1; count = 0 }) out
-  plans-invalid v = record { answer = rw v; count = rw v; left = rw v }
+  pub plans-invalid : valid row p ≡ false → {y : Result ℕ Refusal} → y ≡ Err Invalid → Plans row p out (planned y) out
+  plans-invalid v q =
+      subst (λ y. Plans row p out (planned y) out) (sym q) (record { answer = rw v; count = rw v; left = rw v })
 
-  pub plans-short : valid row p ≡ true → length out < 16512 → Plans row p out (record { answer = 3; count = 0 }) out
-  plans-short v h =
-      let e = lt-leb 16512 (length out) h in record { answer = rw (v, e); count = rw (v, e); left = rw (v, e) }
+  pub plans-short : valid row p ≡ true → enough out ≡ false → {y : Result ℕ Refusal} → y ≡ Err Room
+      → Plans row p out (planned y) out
+  plans-short v e q =
+      subst (λ y. Plans row p out (planned y) out) (sym q)
+      (record { answer = rw (v, e); count = rw (v, e); left = rw (v, e) })
 
-  pub plans-list : valid row p ≡ true → 16512 ≤ length out → {x : Planned} {out' : Text}
+  pub plans-list : valid row p ≡ true → enough out ≡ true → {x : Planned} {out' : Text}
       → Gives (plan entries (abs row p)) out x out' → Plans row p out x out'
-  plans-list v h g =
-      let e = le-leb 16512 (length out) h in
-      record { answer = rw (v, e) g.answer; count = rw (v, e) g.count; left = rw (v, e) g.left }
+  plans-list v e g = record { answer = rw (v, e) g.answer; count = rw (v, e) g.count; left = rw (v, e) g.left }
 
 -- After a run the list is there, and leads to normal.
 pub follows-recover : RunsRecover → FollowsRecover

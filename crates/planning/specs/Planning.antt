@@ -12,7 +12,7 @@ use Rattle.shown.specs.Shown.{valid}
 use Rattle.steps.specs.Calls.{Held, state_of, Calls, Begins, Follows}
 use Rattle.recovery.specs.Plan.{Plan, plan}
 use Rattle.recovery.specs.Claim.{Leads}
-use Rattle.delivery.specs.declared.Planned.{Planned}
+use Rattle.delivery.specs.Planned.{Planned}
 use Rattle.delivery.specs.Delivery.{enough, plan_answer, plan_count, plan_left}
 
 -- The list of the state that a row and the lent places stand for.

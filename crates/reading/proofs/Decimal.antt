@@ -39,7 +39,7 @@ digits-back =
 pub digits-differ : (n m : ℕ) → digits n ≡ digits m → n ≡ m
 digits-differ n m e = sym (digits-back n) ∙ ap (reads 0) e ∙ digits-back m
 
-pub is_digit_lem : (x : ℕ) → 48 ≤ x → x ≤ 57 → is_digit x ≡ true
+is_digit_lem : (x : ℕ) → 48 ≤ x → x ≤ 57 → is_digit x ≡ true
 is_digit_lem x l h = rw (le-leb 48 x l, le-leb x 57 h)
 
 -- The digits of a number are all digits,

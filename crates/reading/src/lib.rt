@@ -1,7 +1,7 @@
-// Reading a line: a number within a text, and whether two texts are the same.
+// Reading a line: a number within a text.
 #![tactic(auto)]
 
-ghost use Rattle.std.specs.Prelude.{◌↔◌, ◌≡◌, ◌+◌, ◌≤◌, T, length};
+ghost use Rattle.std.specs.Prelude.{◌≡◌, ◌+◌, ◌≤◌, length};
 ghost use Rattle.reading.specs.Reading.{digits_at, reads};
 
 // A number, and the place after its digits.
@@ -18,35 +18,13 @@ pub fn number_at(s: &[u8], at: usize) -> Number
     ensures { (result.value ≡ reads 0 (digits_at s.now at))
         × (result.end ≡ at + length (digits_at s.now at)) }
 {
-    let mut v: u64 = 0;
-    let mut i = at;
-    while i < s.len() {
-        let b = s[i];
-        if b < 48 {
-            return Number { value: v, end: i };
+    let mut n = Number { value: 0, end: at };
+    for &b in &s[at..] {
+        if !b.is_ascii_digit() {
+            break;
         }
-        if b > 57 {
-            return Number { value: v, end: i };
-        }
-        v = 10 * v + (b - 48) as u64;
-        i += 1;
+        n.value = 10 * n.value + (b - b'0') as u64;
+        n.end += 1;
     }
-    Number { value: v, end: i }
-}
-
-// Whether two texts are the same.
-pub fn same(a: &[u8], b: &[u8]) -> bool
-    ensures { T result ↔ (a.now ≡ b.now) }
-{
-    if a.len() != b.len() {
-        return false;
-    }
-    let mut i = 0;
-    while i < a.len() {
-        if a[i] != b[i] {
-            return false;
-        }
-        i += 1;
-    }
-    true
+    n
 }

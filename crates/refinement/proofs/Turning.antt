@@ -1,34 +1,62 @@
 -- A row in outline, and the state that it stands for with the lent places: from a refused and from an accepted step to
 -- `Turns`; what a write does to the lengths, the logs and the counts. Assumes nothing.
-use mathlib.Core.Bool.{true, false, cond, ◌&&◌}
+use mathlib.Core.Bool.{true, false, not, cond, ◌&&◌}
 use mathlib.Core.List.{List, [], ◌∷◌, ◌++◌}
 use mathlib.Core.Logic.{◌⊎◌, inl, inr, ◌≢◌}
 use mathlib.Core.Path.{◌≡◌, refl, sym, subst, ap, ◌∙◌, fun_ext}
 use Prim.Native.Nat.{ℕ, zero, suc, ◌+◌, ◌-◌, ◌*◌, ◌≤◌, ◌<◌}
 use native.Mathlib.Omega.{arith}
-use lib.Dec.{T, eqb, ltb}
+use lib.Dec.{T, eqb}
 use lib.ListN.{length, take, get_or, set, length-set, get_or-eq_default}
 use lib.Seq.{length-take-le, get_or-set_same, get_or-set_other}
 use borrow.Author.Tests.{ne_eqb}
-use mir.Val.{Fits}
-use mir.Syntax.{w16}
+use Rattle.std.specs.Prelude.{Result, Ok, Err}
+use Rattle.std.specs.Result.{IsErr}
+use Rattle.refusal.specs.declared.Refusal.{Refusal}
+use Rattle.refusal.specs.declared.Refusal.TheVariants.{Invalid, Sheet, Room, Status, Membership, Leader, EpochsUsedUp, NotLeader, FollowsNone, TermsDiffer, Joining, NothingDue, LogFull, NoMajority, Stage, EpochsDiffer, ImageLength, ImageNumber, ImageLinks, NoPlan}
+use Rattle.refusal.specs.Refusal.{number, answer}
 use Rattle.model.specs.Prelude.{upd}
 use Rattle.model.specs.Members.{is_replica, none}
-use Rattle.model.specs.State as M
 use Rattle.model.specs.State.{Entry, entry, outline, entries}
-use Rattle.model.specs.Steps.{Step, counted_above, accepted, answer_of, qualified, next}
-use Rattle.model.proofs.Tests.{at-or, by-test, by_cond, eqb_same, upd_same, upd_other, le-or-lt, split-and, is_true, is_false, of-true}
+use Rattle.model.specs.Steps.{Step, accepted, answer_of, qualified, next}
+use Rattle.model.proofs.Tests.{at-or, by-test, by_cond, ne-fact, eqb_same, upd_same, upd_other, le-or-lt, split-and, is_true, is_false}
 use Rattle.model.proofs.Quorum.{replica-range}
 use Rattle.model.proofs.Answer.{zero-accepted, nonzero-refused}
-use Rattle.members.specs.Mask.{bits, under}
-use Rattle.members.proofs.Laws.{replica, gathered}
+use Rattle.members.specs.Mask.{bits}
 pub use Rattle.members.proofs.Laws.{bits_none}
 use Rattle.logstore.specs.Log.{place, log_of}
 use Rattle.logstore.proofs.Laws.{pairs-length, pairs-at, pairs_set, log-length, log-other, log-gains}
 use Rattle.cluster.specs.declared.Cluster.{Cluster}
+use Rattle.cluster.specs.Ended.{outcome}
 use Rattle.cluster.specs.Layout.{at, at_pair, outline_of}
 use Rattle.cluster.proofs.Laws.{at-index, at_set}
 use Rattle.refinement.specs.Refinement.{Places, logged, listed, put_log, put_list, store_at, Full, abs, Short, places_after, Turns}
+
+-- A refusal is no acceptance.
+refused : (r : Refusal) → number r ≢ 0
+refused r e = absurd (ne-fact (number r) 0 (go r) e)
+  where
+    go : (r : Refusal) → T (not (eqb (number r) 0))
+    go Invalid = tt
+    go Sheet = tt
+    go Room = tt
+    go Status = tt
+    go Membership = tt
+    go Leader = tt
+    go EpochsUsedUp = tt
+    go NotLeader = tt
+    go FollowsNone = tt
+    go TermsDiffer = tt
+    go Joining = tt
+    go NothingDue = tt
+    go LogFull = tt
+    go NoMajority = tt
+    go Stage = tt
+    go EpochsDiffer = tt
+    go ImageLength = tt
+    go ImageNumber = tt
+    go ImageLinks = tt
+    go NoPlan = tt
 
 -- A list of eight by a number that is no replica.
 pub at_none : {A : Type 0} (d : A) (xs : List A) (b : ℕ) → length xs ≡ 8 → 8 < b → at d xs b ≡ d
@@ -119,6 +147,20 @@ module _ (row : Cluster) (short : Short row.len) (few : row.issued ≤ 512) (p :
         refused = λ h. absurd (h refl);
       }
 
+-- So where a call's result is the step's refusal.
+pub turned_away : {A : Type 0} (row : Cluster) (p : Places) (st : Step) (x : Result A Refusal) → IsErr x
+    → answer x ≡ answer_of (outline_of row) st → Short row.len → row.issued ≤ 512 → Full p
+    → Turns st row p (record { answer = answer x; behind = 0; row = row }) p
+turned_away row p st (Ok y) e h short few full = absurd (cc)
+turned_away row p st (Err r) e h short few full = turns-refused row short few p full st (number r) h (refused r)
+
+-- The same of a call that hands back the set behind the step.
+pub turned_away_set : (row : Cluster) (p : Places) (st : Step) (x : Result ℕ Refusal) → IsErr x
+    → answer x ≡ answer_of (outline_of row) st → Short row.len → row.issued ≤ 512 → Full p
+    → Turns st row p (outcome x row) p
+turned_away_set row p st (Ok y) e h short few full = absurd (cc)
+turned_away_set row p st (Err r) e h short few full = turned_away {A = ℕ} row p st (Err r) e h short few full
+
 -- What stands at a place, written there again.
 pub set-idle : {A : Type 0} (d : A) (xs : List A) (i : ℕ) → set xs i (get_or xs i d) ≡ xs
 set-idle d [] i = refl
@@ -128,10 +170,6 @@ set-idle d (x ∷ xs) (suc i) = ap (λ ys. x ∷ ys) (set-idle d xs i)
 -- The length at the place of a replica.
 pub short-at : (len : List ℕ) (k : ℕ) → Short len → 1 ≤ k → get_or len (k - 1) 0 ≤ 512
 short-at len k short h = subst (λ m. m ≤ 512) (at-index 0 len k h) (short.most k)
-
--- One entry more fits its type.
-pub fits_next : {n : ℕ} → n < 512 → Fits w16 (n + 1)
-fits_next h = record { fits = omega arith }
 
 -- The lengths after one of them becomes n.
 module _ (len : List ℕ) (short : Short len) (k n : ℕ) (low : 1 ≤ k) (high : k ≤ 8) where
@@ -189,79 +227,3 @@ module _ (cs : List ℕ) (a b n : ℕ) (ra : T (is_replica a)) (rb : T (is_repli
       (get_or-set_same cs pair n 0 (omega (arith, replica-range a ra, replica-range b rb))))))
       (λ y m. rw (eqb_same a) (rw (ne_eqb y b m) (apart a y (λ _ q. m q)))))
       (λ x m y. rw (ne_eqb x a m) (apart x y (λ q _. m q))) x y))
-
--- The k numbers from place i on set to 0, one after the other.
-abbrev pub wiped : List ℕ → ℕ → ℕ → List ℕ
-wiped cs i zero = cs
-wiped cs i (suc zero) = set cs i 0
-wiped cs i (suc (suc k)) = set (wiped cs i (suc k)) (i + suc k) 0
-
--- The eight counts of b set to 0, then its own to n.
-module _ (acked : List ℕ) (b n : ℕ) (low : 1 ≤ b) (high : b ≤ 8) (all : length acked ≡ 64) where
-  rb : T (is_replica b)
-  rb = of-true (replica b low high)
-
-  record Cleared (k : ℕ) (cs : List ℕ) : Type 0 where
-    many : length cs ≡ 64
-    others : (x y : ℕ) → x ≢ b → at_pair cs x y ≡ at_pair acked x y
-    own : (y : ℕ) → y ≤ k → at_pair cs b y ≡ 0
-
-  start : Cleared 0 acked
-  start = record { many = all; others = λ _ _ _. refl; own = none }
-    where
-      none : (y : ℕ) → y ≤ 0 → at_pair acked b y ≡ 0
-      none zero h = rw (replica b low high)
-      none (suc y) h = absurd (omega arith)
-
-  clear : {cs : List ℕ} (k j : ℕ) → k < 8 → j ≡ 8 * (b - 1) + k → Cleared k cs → Cleared (suc k) (set cs j 0)
-  clear {cs} k j h q c = record {
-    many = length-set cs j 0 ∙ c.many;
-    others = λ x y m. ap (λ f. f x y) e ∙ ap (λ f. f y) (upd_other (at_pair cs) b _ x m) ∙ c.others x y m;
-    own = λ y l. ap (λ f. f b y) e ∙ ap (λ f. f y) (upd_same (at_pair cs) b _)
-        ∙ at-or {P = λ y. y ≤ suc k → upd (at_pair cs b) (suc k) 0 y ≡ 0} (suc k)
-        (λ _. upd_same (at_pair cs b) (suc k) 0)
-        (λ y m l. upd_other (at_pair cs b) (suc k) 0 y m ∙ c.own y (omega arith)) y l;
-  }
-    where
-      e : at_pair (set cs j 0) ≡ upd (at_pair cs) b (upd (at_pair cs b) (suc k) 0)
-      e =
-          let p : j ≡ 8 * (b - 1) + (suc k - 1) = omega arith in
-          rw p (pair_set cs b (suc k) 0 rb (of-true (replica (suc k) (omega arith) (omega arith))) c.many)
-
-  finish : {cs : List ℕ} → Cleared 8 cs → (length (set cs (8 * (b - 1) + (b - 1)) n) ≡ 64)
-      × (at_pair (set cs (8 * (b - 1) + (b - 1)) n) ≡ upd (at_pair acked) b (upd M.zeros b n))
-  finish {cs} c = (
-    length-set cs (8 * (b - 1) + (b - 1)) n ∙ c.many,
-    pair_set cs b b n rb rb c.many ∙ fun_ext (λ x. fun_ext (λ y. go x y)),
-  )
-    where
-      zero-own : (y : ℕ) → at_pair cs b y ≡ 0
-      zero-own y =
-          by-test (is_replica y) (λ t. c.own y (replica-range y t).1)
-          (λ t. rw (replica b low high, is_false (is_replica y) t))
-
-      go : (x y : ℕ) → upd (at_pair cs) b (upd (at_pair cs b) b n) x y ≡ upd (at_pair acked) b (upd M.zeros b n) x y
-      go = at-or b
-          (λ y. rw (eqb_same b) (at-or {P = λ y. upd (at_pair cs b) b n y ≡ upd M.zeros b n y} b (rw (eqb_same b))
-          (λ y m. rw (ne_eqb y b m) (zero-own y)) y))
-          (λ x m y. rw (ne_eqb x b m) (c.others x y m))
-
-  cleared : (k : ℕ) → k ≤ 8 → Cleared k (wiped acked (8 * (b - 1)) k)
-  cleared zero h = start
-  cleared (suc zero) h = clear 0 _ (omega arith) (omega arith) start
-  cleared (suc (suc k)) h = clear (suc k) _ h refl (cleared (suc k) (omega arith))
-
-  pub wiped-room : (k j : ℕ) → k ≤ 8 → j < 8 → 8 * (b - 1) + j < length (wiped acked (8 * (b - 1)) k)
-  wiped-room k j h l = omega (arith, (cleared k h).many)
-
-  pub restart : (length (set (wiped acked (8 * (b - 1)) 8) (8 * (b - 1) + (b - 1)) n) ≡ 64)
-      × (at_pair (set (wiped acked (8 * (b - 1)) 8) (8 * (b - 1) + (b - 1)) n) ≡ upd (at_pair acked) b (upd M.zeros b n))
-  restart = finish (cleared 8 (omega arith))
-
--- One more replica is looked at for the quorum of a receipt.
-pub counted-more : (acked : List ℕ) (b n x q q' : ℕ) → 1 ≤ b → b ≤ 8 → 1 ≤ x → x ≤ 8 → bits q
-    ≡ under x (counted_above (at_pair acked b) n)
-    → bits q' ≡ upd (bits q) x (ltb n (get_or acked (8 * (b - 1) + (x - 1)) 0)) → bits q'
-    ≡ under (x + 1) (counted_above (at_pair acked b) n)
-counted-more acked b n x q q' hb kb hx kx e f =
-    gathered (counted_above (at_pair acked b) n) x q q' _ hx kx e f (rw (replica b hb kb, replica x hx kx))

@@ -1,35 +1,45 @@
-// A row with the lent places, as a state of the model: definitions and laws, and how a replica's part is read. Inner
-// layer: callers see to it that k and h are replicas, 1 to 8.
+// A row with the lent places, as a state of the model: definitions and laws; and the places as they are lent.
 #![tactic(auto)]
 
-ghost use Rattle.std.specs.Prelude.{◌≡◌, ◌+◌, ◌-◌, ◌*◌, ◌≤◌, length, get_or};
-ghost use Rattle.cluster.specs.Layout.{no_view};
+ghost use Rattle.std.specs.Prelude.{◌≡◌};
+ghost use Rattle.refinement.specs.Refinement.{Shape};
+ghost use Rattle.refinement.specs.Lent.{places_of, places_in};
 
-use cluster::View;
+use cluster::Cluster;
 
-// The view of the replica k. Inner layer: callers see to k.
-pub fn view(views: [View; 8], k: u8) -> View
-    requires { (1 ≤ k) × (k ≤ 8) }
-    ensures { result ≡ get_or views (k - 1) no_view }
-{
-    let i = (k - 1) as usize;
-    views[i]
+// The lent places, to be read: the log store and the receipts, values and terms.
+#[derive(Clone, Copy)]
+pub struct Lent<'a> {
+    pub store: &'a [u32],
+    pub store2: &'a [u16],
+    pub list: &'a [u32],
+    pub list2: &'a [u16],
 }
 
-// The replica k's number of eight: its joined epoch, the length of its log. Inner layer: callers see to k and the
-// eight.
-pub fn lookup(xs: &[u16], k: u8) -> u16
-    requires { (1 ≤ k) × (k ≤ 8) × (length xs.now ≡ 8) }
-    ensures { result ≡ get_or xs.now (k - 1) 0 }
-{
-    let i = (k - 1) as usize;
-    xs[i]
+// The lent places, to be written.
+#[derive(Drop)]
+pub struct LentMut<'a> {
+    pub store: &'a mut [u32],
+    pub store2: &'a mut [u16],
+    pub list: &'a mut [u32],
+    pub list2: &'a mut [u16],
 }
 
-// The place of the count that the replica h has of k, among the 64. Inner layer: callers see to h and k.
-pub fn pair(h: u8, k: u8) -> usize
-    requires { (1 ≤ h) × (h ≤ 8) × (1 ≤ k) × (k ≤ 8) }
-    ensures { result ≡ 8 * (h - 1) + (k - 1) }
-{
-    8 * ((h - 1) as usize) + ((k - 1) as usize)
+impl<'a> LentMut<'a> {
+    // The same places, to be read.
+    pub fn lent(&self) -> Lent<'_>
+        ensures { places_of result ≡ places_in self.now }
+    {
+        Lent {
+            store: &*self.store,
+            store2: &*self.store2,
+            list: &*self.list,
+            list2: &*self.list2,
+        }
+    }
 }
+
+// What a row's type fixes, for a caller's proof. By value: a reference tells nothing of lengths. Nothing to run.
+pub fn typed(row: Cluster)
+    ensures { Shape row }
+{}

@@ -8,80 +8,48 @@
 
 use cluster::Cluster;
 use records::Record;
+use refinement::{Lent, LentMut};
+use refusal::{Refusal, ensure};
 use std::io;
 
-// Four bytes as a number, the low byte first.
-fn number(a: u8, b: u8, c: u8, d: u8) -> usize {
-    a as usize + 256 * (b as usize) + 65536 * (c as usize) + 16777216 * (d as usize)
+// The image and the records of an input; refusal 2 where they are not there.
+fn parts(given: &[u8]) -> Result<(&[u8], &[u8]), Refusal> {
+    ensure(given.len() >= 4, Refusal::Sheet)?;
+    let n = fields::four_at(given, 0) as usize;
+    ensure(n <= given.len() - 4, Refusal::Sheet)?;
+    let end = n + 4;
+    let records = &given[end..];
+    ensure(
+        records.len() % 8 == 0 && records.len() <= 32760,
+        Refusal::Sheet,
+    )?;
+    Ok((&given[4..end], records))
 }
 
 // Writes one byte: the first of the output.
 fn begin(rt: &impl Print, n: u8) -> io::Result<()> {
-    let one = [n];
-    rt.write_all(&one)
+    rt.write_all(&[n])
 }
 
-// One record: the row goes on, and its answer and the set behind it are written.
-fn tell(
-    rt: &impl Print,
-    row: Cluster,
-    store: &mut [u32],
-    store2: &mut [u16],
-    list: &mut [u32],
-    list2: &mut [u16],
-    r: Record,
-) -> io::Result<Cluster> {
-    let x = steps::step(row, &mut *store, &mut *store2, &mut *list, &mut *list2, r);
-    let two = [x.answer, x.behind];
-    rt.write_all(&two)?;
-    Ok(x.row)
-}
-
-// All records, one after the other.
-fn play(
-    rt: &impl Print,
-    row: Cluster,
-    store: &mut [u32],
-    store2: &mut [u16],
-    list: &mut [u32],
-    list2: &mut [u16],
-    records: &[u8],
-) -> io::Result<Cluster> {
-    let mut now = row;
-    let mut i: usize = 0;
-    while i < records.len() / 8 {
-        let k = 8 * i;
-        i += 1;
-        let r = records::decode(records, k);
-        let next = tell(
-            rt,
-            now,
-            &mut *store,
-            &mut *store2,
-            &mut *list,
-            &mut *list2,
-            r,
-        )?;
-        now = next;
+// All records, one after the other: the row goes on, and of each its answer and the set behind it are written.
+fn play(rt: &impl Print, row: &mut Cluster, p: &mut LentMut<'_>, records: &[u8]) -> io::Result<()> {
+    for bytes in records.chunks_exact(8) {
+        let two = match steps::step(row, p, Record::at(bytes, 0)) {
+            Ok(behind) => [0, behind],
+            Err(e) => [e.number(), 0],
+        };
+        rt.write_all(&two)?;
     }
-    Ok(now)
+    Ok(())
 }
 
 // Writes the image of a row, or nothing.
-fn keep(
-    rt: &impl Print,
-    row: Cluster,
-    store: &[u32],
-    store2: &[u16],
-    list: &[u32],
-    list2: &[u16],
-) -> io::Result<()> {
+fn keep(rt: &impl Print, row: &Cluster, p: Lent<'_>) -> io::Result<()> {
     let mut image = [0u8; 37122];
-    let n = image::save(row, store, store2, list, list2, &mut image);
-    if n < 4 {
-        return Ok(());
+    match image::save(row, p, &mut image) {
+        Ok(n) => rt.write_all(&image[..n]),
+        Err(_) => Ok(()),
     }
-    rt.write_all(&image[..n])
 }
 
 // Takes the image up and goes on. After a power cut memory may hold anything: here every lent place holds what no entry
@@ -91,51 +59,28 @@ fn go_on(rt: &impl Print, image: &[u8], records: &[u8]) -> io::Result<()> {
     let mut store2 = [65535u16; 4096];
     let mut list = [4294967295u32; 512];
     let mut list2 = [65535u16; 512];
+    let mut p = LentMut {
+        store: &mut store,
+        store2: &mut store2,
+        list: &mut list,
+        list2: &mut list2,
+    };
     let mut scratch = [255u8; 576];
-    let given = steps::opening(1);
-    let x = image::load(
-        given.row,
-        image,
-        &mut store,
-        &mut store2,
-        &mut list,
-        &mut list2,
-        &mut scratch,
-    );
-    begin(rt, x.answer)?;
-    if x.answer != 0 {
-        return Ok(());
+    let mut row = steps::opening(1).unwrap();
+    if let Err(e) = image::load(&mut row, image, &mut p, &mut scratch) {
+        return begin(rt, e.number());
     }
-    let row = play(
-        rt,
-        x.row,
-        &mut store,
-        &mut store2,
-        &mut list,
-        &mut list2,
-        records,
-    )?;
-    keep(rt, row, &store, &store2, &list, &list2)
+    begin(rt, 0)?;
+    play(rt, &mut row, &mut p, records)?;
+    keep(rt, &row, p.lent())
 }
 
 // Takes the input apart.
 fn resume(rt: &impl Print, given: &[u8]) -> io::Result<()> {
-    if given.len() < 4 {
-        return begin(rt, 2);
+    match parts(given) {
+        Ok((image, records)) => go_on(rt, image, records),
+        Err(e) => begin(rt, e.number()),
     }
-    let n = number(given[0], given[1], given[2], given[3]);
-    if given.len() - 4 < n {
-        return begin(rt, 2);
-    }
-    let end = n + 4;
-    let rest = given.len() - end;
-    if rest % 8 != 0 {
-        return begin(rt, 2);
-    }
-    if rest > 32760 {
-        return begin(rt, 2);
-    }
-    go_on(rt, &given[4..end], &given[end..])
 }
 
 // An image has at most 37,122 bytes. Of an input that is longer than what is read here the image is too long or the

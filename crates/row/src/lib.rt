@@ -12,6 +12,8 @@ ghost use Rattle.members.specs.Mask.{bits};
 ghost use Rattle.archive.specs.Archive as Archive;
 ghost use Rattle.guiding.specs.Guiding as Guiding;
 
+use refusal::returned;
+
 // Sheet in, listing out: the listing's length, 2 for a sheet of wrong length or without a valid opening, 3 for a slice
 // that is shorter than the listing; the empty sheet has a listing, of one line (document 02, Paper 9).
 #[unsafe(no_mangle)]
@@ -19,7 +21,7 @@ pub extern "C" fn run_sheet(sheet: &[u8], listing: &mut [u8]) -> usize
     ensures { (result ≡ Sheet.result_of sheet.now listing.old)
         × (listing.new ≡ Sheet.left sheet.now listing.old) }
 {
-    sheet::run_sheet(sheet, &mut *listing)
+    returned(sheet::run_sheet(sheet, listing))
 }
 
 // Writes the sheet of a seed and a count of records, the opening included: the sheet's length, 2 for a count outside 1
@@ -29,7 +31,7 @@ pub extern "C" fn seed_sheet(seed: u32, count: usize, sheet: &mut [u8]) -> usize
     ensures { (result ≡ Seeded.result_of seed count sheet.old)
         × (sheet.new ≡ Seeded.left seed count sheet.old) }
 {
-    generator::seed_sheet(seed, count, &mut *sheet)
+    returned(generator::seed_sheet(seed, count, &mut *sheet))
 }
 
 // How many boards make a majority of a set, by its mask, board 1 the lowest bit: the number that docs/MAJORITY.md
@@ -49,7 +51,7 @@ pub extern "C" fn explain_sheet(sheet: &[u8], text: &mut [u8]) -> usize
     ensures { (result ≡ Explain.result_of sheet.now text.old)
         × (text.new ≡ Explain.left sheet.now text.old) }
 {
-    explain::explain_sheet(sheet, &mut *text)
+    returned(explain::explain_sheet(sheet, &mut *text))
 }
 
 // One line in words of a record and its answer: the line's length, 1 for a record that is not 8 bytes long or an answer
@@ -59,7 +61,7 @@ pub extern "C" fn describe_record(bytes: &[u8], answer: usize, line: &mut [u8]) 
     ensures { (result ≡ Describe.result_of bytes.now answer line.old)
         × (line.new ≡ Describe.left bytes.now answer line.old) }
 {
-    describe::describe_record(bytes, answer, &mut *line)
+    returned(describe::describe_record(bytes, answer, &mut *line))
 }
 
 // Sheet in, the image of its row out (document 02, Paper 7): the image's length, 2 for a sheet of wrong length or without
@@ -69,7 +71,7 @@ pub extern "C" fn save_sheet(sheet: &[u8], image: &mut [u8]) -> usize
     ensures { (result ≡ Archive.save_result sheet.now image.old)
         × (image.new ≡ Archive.save_left sheet.now image.old) }
 {
-    archive::save_sheet(sheet, &mut *image)
+    returned(archive::save_sheet(sheet, image))
 }
 
 // Image in, the lines of its row out: their length, 3 for a scratch that is too short, 17, 18 or 19 for the image, then
@@ -81,7 +83,7 @@ pub extern "C" fn show_image(image: &[u8], text: &mut [u8], scratch: &mut [u8]) 
         × (text.new ≡ Archive.show_left image.now text.old scratch.old)
         × (scratch.new ≡ Archive.scratch_left scratch.old) }
 {
-    archive::show_image(image, &mut *text, &mut *scratch)
+    returned(archive::show_image(image, text, scratch))
 }
 
 // Sheet in, the records that lead its row to normal out (document 02, Paper 10): their length in bytes, a multiple of 8,
@@ -92,7 +94,7 @@ pub extern "C" fn plan_sheet(sheet: &[u8], list: &mut [u8]) -> usize
     ensures { (result ≡ Guiding.sheet_result sheet.now list.old)
         × (list.new ≡ Guiding.sheet_left sheet.now list.old) }
 {
-    guiding::plan_sheet(sheet, &mut *list)
+    returned(guiding::plan_sheet(sheet, list))
 }
 
 // Image in, the records that lead its row to normal out: their length in bytes, a multiple of 8, 3 for a slice shorter
@@ -104,5 +106,5 @@ pub extern "C" fn plan_image(image: &[u8], list: &mut [u8], scratch: &mut [u8]) 
         × (list.new ≡ Guiding.image_left image.now list.old scratch.old)
         × (scratch.new ≡ Guiding.scratch_left list.old scratch.old) }
 {
-    guiding::plan_image(image, &mut *list, &mut *scratch)
+    returned(guiding::plan_image(image, list, scratch))
 }

@@ -24,7 +24,7 @@ use Rattle.model.proofs.Bounds.{in-range}
 use Rattle.model.proofs.Made.{kept_in, terms-run}
 use Rattle.model.proofs.Theorem.{run-append}
 use Rattle.cluster.specs.declared.Cluster.{Cluster}
-use Rattle.cluster.specs.declared.Outcome.{Outcome}
+use Rattle.cluster.specs.Ended.{Outcome}
 use Rattle.cluster.specs.Layout.{bits, outline_of}
 use Rattle.refinement.specs.Refinement.{Places, Full, abs, Shape, Ready, Turns}
 use Rattle.refinement.proofs.Turning.{bits_none}
@@ -192,6 +192,20 @@ module _ (s : Text) (sheet : is_sheet s ≡ true) (k : ℕ) (row : Cluster) (p :
       room = length-set ns (suc k) x.answer ∙ h.room;
       set_room = length-set ms (suc k) x.behind ∙ h.set_room;
     }
+
+-- The same by the record's place among all.
+pub ran-next : (s : Text) → is_sheet s ≡ true → (k : ℕ) (row : Cluster) (p : Places) (ns ms : List ℕ) → 1 ≤ k
+    → Ran s (k - 1) row p ns ms → (r : Record) → r ≡ record_at (drop (8 * k) s) → (x : Outcome) (p' : Places)
+    → Turns (step_of r) row p x p' → k < length s / 8
+    → Ran s (k + 1 - 1) x.row p' (set ns k x.answer) (set ms k x.behind)
+ran-next s sheet k row p ns ms some h r place x p' t last =
+    let e : k - 1 + 1 ≡ k = omega arith in
+    let e' : k + 1 - 1 ≡ k = omega arith in
+    let n : 8 * (k - 1) + 8 ≡ 8 * k = omega arith in
+    let most = sheet-most s sheet in
+    rw e' (subst (λ m. Ran s m x.row p' (set ns m x.answer) (set ms m x.behind)) e
+    (ran-more s sheet (k - 1) row p ns ms h r (place ∙ ap (λ m. record_at (drop m s)) (sym n)) t
+    (omega (arith, h.room)) (omega (arith, h.set_room))))
 
 -- Nothing but the opening.
 pub ran-none : (s : Text) (row : Cluster) → OpenedWith (opening_of (record_at s)) row → (p : Places) → Full p

@@ -3,23 +3,14 @@
 
 use std::io;
 
-// Prints a refusal.
-fn refuse(rt: &impl Print, n: usize) -> io::Result<()> {
-    if n == 2 {
-        return rt.write_all(b"refused 2\n");
-    }
-    rt.write_all(b"refused 3\n")
-}
-
 // The longest sheet has 32,760 bytes: of a longer one so much is read that it is seen to be too long. An image has 258
 // to 37,122 bytes (`LengthsTell`, archive::sample), so refusal 3 does not happen here.
 fn main(rt: HostRuntime) -> io::Result<()> {
     let mut sheet = [0u8; 32768];
     let mut image = [0u8; 37122];
     let n = wholeinput::read_whole(&mut rt.stdin(), &mut sheet)?;
-    let m = archive::save_sheet(&sheet[..n], &mut image);
-    if m < 4 {
-        return refuse(&rt, m);
+    match archive::save_sheet(&sheet[..n], &mut image) {
+        Ok(m) => rt.write_all(&image[..m]),
+        Err(e) => println!(rt; "{e}"),
     }
-    rt.write_all(&image[..m])
 }

@@ -18,7 +18,7 @@ unfolding bytes_of
 bytes-append [] ss = refl
 bytes-append (r ∷ rs) ss = rw (bytes-append rs ss)
 
-records-bytes : (rs : List Record) → length (bytes_of rs) ≡ 8 * length rs
+pub records-bytes : (rs : List Record) → length (bytes_of rs) ≡ 8 * length rs
 unfolding bytes_of
 records-bytes [] = refl
 records-bytes (r ∷ rs) = omega (arith, records-bytes rs)

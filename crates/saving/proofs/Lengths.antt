@@ -3,13 +3,15 @@
 use mathlib.Core.Bool.{Bool, true, false, cond}
 use mathlib.Core.List.{List, [], ◌∷◌, ◌++◌, map}
 use mathlib.Core.Path.{◌≡◌, refl, sym, ap, subst, ◌∙◌}
-use Prim.Native.Nat.{ℕ, zero, suc, zero-le, ◌+◌, ◌-◌, ◌*◌, ◌<◌, ◌≤◌}
+use Prim.Native.Nat.{ℕ, zero, suc, zero-le, ◌+◌, ◌*◌, ◌<◌, ◌≤◌}
 use native.Mathlib.Nat.{not-suc-le-zero, add-zero}
 use native.Mathlib.Omega.{arith}
 use lib.Dec.{eqb}
 use lib.ListN.{length, get_or, take, length-append, length-map, get_or-append, get_or-map}
 use lib.Seq.{length-take-le, get_or_at}
 use borrow.Author.Tests.{eqb-true, eqb-false, ne_eqb}
+use Rattle.std.specs.Prelude.{sum}
+use Rattle.std.proofs.lemmas.List.Sums.{sum_by-cons}
 use Rattle.model.specs.State.{Entry}
 use Rattle.logstore.specs.Log.{pairs, log_of}
 use Rattle.logstore.proofs.Laws.{pairs-length, log-length}
@@ -60,6 +62,16 @@ pub sum_by_lem : (xss : List (List Entry)) → sum_of xss ≡ sum_by (map length
 unfolding sum_of sum_by
 sum_by_lem [] = refl
 sum_by_lem (xs ∷ xss) = rw (sum_by_lem xss)
+
+-- The numbers before the last one, by std's sum.
+pub sum-last : (ns : List ℕ) (n : ℕ) → sum_by (ns ++ (n ∷ [])) ≡ sum ns + n
+unfolding sum_by
+sum-last [] n = omega arith
+sum-last (m ∷ ns) n = omega (arith, sum-last ns n, sum_by-cons (λ (x : ℕ). x) m ns)
+
+pub sum-bound : (ns : List ℕ) → ((i : ℕ) → get_or ns i 0 ≤ 512) → sum ns ≤ 512 * length ns
+sum-bound [] h = omega arith
+sum-bound (n ∷ ns) h = omega (arith, h 0, sum-bound ns (λ i. h (suc i)), sum_by-cons (λ (x : ℕ). x) n ns)
 
 sum-within : (ns : List ℕ) → ((i : ℕ) → get_or ns i 0 ≤ 512) → sum_by ns ≤ 512 * length ns
 unfolding sum_by

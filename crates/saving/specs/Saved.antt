@@ -3,7 +3,9 @@
 use Rattle.std.specs.Prelude.{cond, List, [], ◌∷◌, ◌++◌, ℕ, suc, ◌+◌, eqb, length, take}
 use Rattle.model.specs.State.{Entry}
 use Rattle.logstore.specs.Log.{pairs, log_of}
+use Rattle.cluster.specs.declared.Cluster.{Cluster}
 use Rattle.cluster.specs.Layout.{at}
+use Rattle.refinement.specs.Refinement.{Places}
 use Rattle.text.specs.Text.{Text}
 use Rattle.fields.specs.Fields.{two, four}
 
@@ -49,6 +51,9 @@ nine_lists store store2 len list list2 count =
     log_of logged 1 (at 0 len 1) ∷ log_of logged 2 (at 0 len 2) ∷ log_of logged 3 (at 0 len 3)
     ∷ log_of logged 4 (at 0 len 4) ∷ log_of logged 5 (at 0 len 5) ∷ log_of logged 6 (at 0 len 6)
     ∷ log_of logged 7 (at 0 len 7) ∷ log_of logged 8 (at 0 len 8) ∷ take count (pairs list list2) ∷ []
+
+abbrev pub lists_in : Cluster → Places → List (List Entry)
+lists_in row p = nine_lists p.store p.store2 row.len p.list p.list2 row.issued
 
 -- How many records they make, and by the lists' lengths alone: how many, and the first records from the number k on.
 unfoldable pub sum_of : List (List Entry) → ℕ

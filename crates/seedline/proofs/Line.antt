@@ -1,17 +1,19 @@
 -- The line of a seed and a count: its length, and its numbers read back. Assumes nothing.
 use mathlib.Core.Bool.{Bool, true, false, ◌&&◌, true≢false}
-use mathlib.Core.List.{[], ◌∷◌, ◌++◌, tail-eq_of_cons-eq}
+use mathlib.Core.List.{[], ◌++◌, tail-eq_of_cons-eq}
 use mathlib.Core.Logic.{◌⊎◌, inl, inr, ◌↔◌}
 use mathlib.Core.Path.{◌≡◌, refl, sym, ap, subst, ◌∙◌}
 use Prim.Native.Nat.{ℕ, ◌+◌, ◌^◌, ◌<◌, ◌≤◌}
 use native.Mathlib.Omega.{arith}
-use lib.Dec.{eqb, ltb, lit≤}
+use lib.Dec.{ltb, lit≤}
 use lib.ListN.{length, take, drop, length-append, length-take}
-use lib.Seq.{drop-drop, drop_at, take_all}
+use lib.Seq.{drop-drop, drop_at, take_all, length-take-le}
 use borrow.Author.Tests.{lt-ltb}
-use Rattle.model.proofs.Tests.{eqb_same, le-or-lt}
+use Rattle.std.specs.Str.{bytes_eq}
+use Rattle.std.proofs.lemmas.Slice.Eq.{bytes_eq-Decides}
+use Rattle.model.proofs.Tests.{le-or-lt}
 use Rattle.text.specs.Text.{Text, Wrote, digits_within, digits}
-use Rattle.text.proofs.Laws.{digits-most-4, digits-most-10, wrote-length}
+use Rattle.text.proofs.Laws.{digits-most-4, digits-most-10, wrote-length, puts_back}
 use Rattle.lines.specs.Lines.{word, space, newline}
 use Rattle.reading.specs.Reading.{is_digit, leading, digits_at, reads}
 use Rattle.reading.proofs.Decimal.{digits-back, number-lead, cut-number}
@@ -32,7 +34,7 @@ line-most m n h l =
     )
 
 module _ {input : Text} {m n : ℕ} (a : Asks input m n) where
-  pub line-short : length input ≤ 16
+  line-short : length input ≤ 16
   line-short = omega (arith, ap length a.line, line-most m n a.seed (count-range n a.count).1)
 
   -- Its digits, up to the space and behind it.
@@ -40,9 +42,9 @@ module _ {input : Text} {m n : ℕ} (a : Asks input m n) where
   unfolding seed_line
   first-digits = ap (leading is_digit) a.line ∙ number-lead m 32 (digits n ++ newline) refl
 
-  second_digits : (k : ℕ) → k ≡ length (digits_at input 0) → digits_at input (k + 1) ≡ digits n
+  second-digits : (k : ℕ) → k ≡ length (digits_at input 0) → digits_at input (k + 1) ≡ digits n
   unfolding seed_line
-  second_digits k e = ap (leading is_digit) behind ∙ number-lead n 10 [] refl
+  second-digits k e = ap (leading is_digit) behind ∙ number-lead n 10 [] refl
     where
       behind : drop (k + 1) input ≡ digits n ++ newline
       behind =
@@ -50,22 +52,34 @@ module _ {input : Text} {m n : ℕ} (a : Asks input m n) where
           sym (drop-drop 1 k input)
           ∙ ap (λ l. drop 1 l) (ap (drop k) a.line ∙ drop_at (digits m) rest k (sym (e ∙ ap length first-digits)))
 
-  -- So its numbers are read back.
-  pub seed-back : (v : ℕ) → v ≡ reads 0 (digits_at input 0) → v ≡ m
-  seed-back v e = e ∙ ap (reads 0) first-digits ∙ digits-back m
+  -- So its numbers are read back, and there is a byte after the seed.
+  seed-back : reads 0 (digits_at input 0) ≡ m
+  seed-back = ap (reads 0) first-digits ∙ digits-back m
 
-  pub count-back : (k w : ℕ) → k ≡ length (digits_at input 0) → w ≡ reads 0 (digits_at input (k + 1)) → w ≡ n
-  count-back k w ek e = e ∙ ap (reads 0) (second_digits k ek) ∙ digits-back n
+  count-back : (k : ℕ) → k ≡ length (digits_at input 0) → reads 0 (digits_at input (k + 1)) ≡ n
+  count-back k e = ap (reads 0) (second-digits k e) ∙ digits-back n
 
-  pub line-back : (v w : ℕ) → v ≡ m → w ≡ n → input ≡ seed_line v w
-  line-back v w e f = a.line ∙ rw (e, f)
-
-  -- There is a byte after the seed.
-  pub seed-within : (k : ℕ) → k ≡ length (digits_at input 0) → k < length input
+  seed-within : length (digits_at input 0) < length input
   unfolding seed_line
-  seed-within k e =
+  seed-within =
       let rest = space ++ (digits n ++ newline) in
-      omega (arith, e ∙ ap length first-digits, ap length a.line, length-append (digits m) rest)
+      omega (arith, ap length first-digits, ap length a.line, length-append (digits m) rest)
+
+-- What an input that asks for a sheet is not: too long, or without a byte after its first number; and its numbers are
+-- those of the sheet.
+pub other-long : {input : Text} {m n : ℕ} → Asks input m n → 16 < length input → ⊥
+other-long a h = omega (arith, line-short a)
+
+pub other-end : {input : Text} {m n : ℕ} → Asks input m n → (k : ℕ) → k ≡ 0 + length (digits_at input 0) → length input ≤ k
+    → ⊥
+other-end a k e h = omega (arith, seed-within a)
+
+pub seed-read : {input : Text} {m n : ℕ} → Asks input m n → (v : ℕ) → v ≡ reads 0 (digits_at input 0) → v ≡ m
+seed-read a v e = e ∙ seed-back a
+
+pub count-read : {input : Text} {m n : ℕ} → Asks input m n → (k v : ℕ) → k ≡ 0 + length (digits_at input 0)
+    → v ≡ reads 0 (digits_at input (k + 1)) → v ≡ n
+count-read a k v e f = f ∙ count-back a k (omega arith)
 
 -- A line is that of one seed and one count.
 pub lines-differ : LinesDiffer
@@ -95,31 +109,20 @@ lines-look = (refl, refl)
 
 -- Other inputs, by a test that is computed
 
--- Whether two texts are the same.
-abbrev alike : Text → Text → Bool
-alike [] [] = true
-alike [] (y ∷ ys) = false
-alike (x ∷ xs) [] = false
-alike (x ∷ xs) (y ∷ ys) = eqb x y && alike xs ys
-
-alike-itself : (xs : Text) → alike xs xs ≡ true
-alike-itself [] = refl
-alike-itself (x ∷ xs) = rw (eqb_same x) (alike-itself xs)
-
 -- Whether the input is the line of the numbers that are read from it.
 abbrev asks : Text → Bool
 asks input =
     let s = reads 0 (digits_at input 0) in
     let n = reads 0 (digits_at input (length (digits_at input 0) + 1)) in
-    ltb s (2 ^ 32) && is_count n && alike input (seed_line s n)
+    ltb s (2 ^ 32) && is_count n && bytes_eq input (seed_line s n)
 
 other : (input : Text) → asks input ≡ false → IsOther input
 other input f s n a = true≢false (sym yes ∙ f)
   where
     yes : asks input ≡ true
     yes =
-        rw (seed-back a _ refl, count-back a _ _ refl refl, lt-ltb s (2 ^ 32) a.seed, a.count, sym a.line)
-        (alike-itself input)
+        rw (seed-back a, count-back a _ refl, lt-ltb s (2 ^ 32) a.seed, a.count, sym a.line)
+        ((bytes_eq-Decides input input).1 refl)
 
 pub others-refused : OthersRefused
 unfolding seed_line digits digits_within
@@ -167,3 +170,13 @@ printed-within {input} {d} {e} {r} h p = go (le-or-lt r (length e))
         omega (arith, w.next, sheet-bytes s n, wrote-length w, count-range n a.count, h, l) in
         let w = p.refusal none in
         omega (arith, w.next, wrote-length w, h, l)
+
+-- For `read`, as its tactic.
+pub same-true : (xs ys : Text) → bytes_eq xs ys ≡ true → xs ≡ ys
+same-true xs ys e = (bytes_eq-Decides xs ys).0 e
+
+pub same-false : (xs ys : Text) → bytes_eq xs ys ≡ false → xs ≡ ys → ⊥
+same-false xs ys e q = true≢false (sym ((bytes_eq-Decides xs ys).1 q) ∙ e)
+
+pub ruleset asked =
+    (other-long, other-end, seed-read, count-read, line-most, count-range, puts_back, length-take-le, same-true, same-false)

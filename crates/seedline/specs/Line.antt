@@ -1,11 +1,9 @@
 -- The line that the program of document 02, Paper 2, reads, and what it prints. Cited by the contracts of seedline.
 -- Assumes nothing.
-use Rattle.std.specs.Prelude.{true, [], ◌++◌, ◌↔◌, ◌≡◌, ℕ, ◌^◌, ◌<◌, take}
+use Rattle.std.specs.Prelude.{Option, Some, None, true, [], ◌++◌, ◌↔◌, ◌≡◌, ℕ, ◌^◌, ◌<◌, take}
 use Rattle.text.specs.Text.{Text, Wrote, digits}
 use Rattle.lines.specs.Lines.{word, space, newline}
 use Rattle.generator.specs.Seeded.{seed_sheet, is_count}
-use Rattle.seedline.specs.declared.Input.{Input}
-use Rattle.seedline.specs.declared.Input.TheVariants.{Asked, Other}
 
 -- The line of the seed s and the count n: "in base ten without leading zeros, one space between and byte 10 after".
 unfoldable pub seed_line : ℕ → ℕ → Text
@@ -24,9 +22,9 @@ IsOther input = (s n : ℕ) → Asks input s n → ⊥
 
 -- What was read: the seed and the count that the input asks for, or that it asks for none, which is refusal 2
 -- (`Prints`). It asks for one pair at most (`LinesDiffer`), so this settles what is read, and what is printed.
-abbrev pub Read : Input → Text → Type 0
-Read (Asked s n) input = Asks input s n
-Read Other input = IsOther input
+abbrev pub Read : Option (ℕ × ℕ) → Text → Type 0
+Read (Some (s, n)) input = Asks input s n
+Read None input = IsOther input
 
 -- What the program prints for an input: r bytes of a slice d that became e. ".. and writes that sheet"; "any other
 -- input prints `refused 2`", and byte 10 as document 01's program does.

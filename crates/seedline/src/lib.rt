@@ -1,58 +1,50 @@
 // The input of the program `seedsheet`: a line with a seed and a count; and what the program prints.
-#![tactic(auto)]
+#![tactic(auto, using(text::proofs::Laws::pages))]
 
 ghost use Rattle.std.specs.Prelude.{◌*◌, ◌≤◌, length};
-ghost use Rattle.text.specs.Text.{Wrote};
+ghost use Rattle.text.specs.Text.{HasRoom, Puts};
 ghost use Rattle.seedline.specs.Line.{seed_line, Read, Prints, LinesDiffer, LinesSeen, LinesLook, OthersRefused};
 
-// What an input asks for: the sheet of a seed and a count of records, in this order; or it is another input.
-#[derive(Clone, Copy)]
-pub enum Input {
-    Asked(u32, u32),
-    Other,
-}
+use generator::{is_count, seed_sheet};
+use reading::number_at;
+use text::Page;
 
 // Writes the line of a seed and a count.
-fn put_line(out: &mut [u8], seed: u32, count: u32) -> usize
-    requires { length (seed_line seed count) ≤ length out.old }
-    ensures { Wrote out.old 0 (seed_line seed count) out.new result }
+#[tactic(auto, using(text::proofs::Laws::pages), unfolding(crate::specs::Line::seed_line))]
+fn put_line(page: &mut Page<'_>, seed: u32, count: u32)
+    requires { HasRoom page.old (seed_line seed count) }
+    ensures { Puts page.old (seed_line seed count) page.new }
 {
-    let p = text::put_field(&mut *out, 0, seed);
-    let q = text::put_number(&mut *out, p, count);
-    text::put_byte(&mut *out, q, 10)
+    page.put_field(seed);
+    page.put_number(count);
+    page.put_byte(b'\n');
 }
 
-// Reads the input. The numbers are read with no regard to form; the line that they make is then compared with the
-// input, so that nothing but that line is taken.
-pub fn read(input: &[u8]) -> Input
+// The seed and the count of records for which an input asks. The numbers are read with no regard to form; the line that
+// they make is then compared with the input, so that nothing but that line is taken.
+#[tactic(auto, using(text::proofs::Laws::pages, crate::proofs::Line::asked))]
+pub fn read(input: &[u8]) -> Option<(u32, u32)>
     ensures { Read result input.now }
 {
     if input.len() > 16 {
-        return Input::Other;
+        return None;
     }
-    let a = reading::number_at(input, 0);
-    let s = a.value;
-    let from = a.end;
-    if from >= input.len() {
-        return Input::Other;
+    let seed = number_at(input, 0);
+    if seed.end >= input.len() {
+        return None;
     }
-    let b = reading::number_at(input, from + 1);
-    let n = b.value;
-    if s > 4294967295 {
-        return Input::Other;
-    }
-    if n < 1 {
-        return Input::Other;
-    }
-    if n > 4095 {
-        return Input::Other;
+    let count = number_at(input, seed.end + 1);
+    let seed = u32::try_from(seed.value).ok()?;
+    let count = u32::try_from(count.value).ok()?;
+    if !is_count(count as usize) {
+        return None;
     }
     let mut line = [0u8; 16];
-    let k = put_line(&mut line, s as u32, n as u32);
-    if !reading::same(input, &line[..k]) {
-        return Input::Other;
-    }
-    Input::Asked(s as u32, n as u32)
+    let mut page = Page::new(&mut line);
+    put_line(&mut page, seed, count);
+    let end = page.at;
+    let same = input == &line[..end];
+    if same { Some((seed, count)) } else { None }
 }
 
 // Writes what the program prints for an input: the sheet that it asks for, or `refused 2`. Inner layer: callers see to
@@ -61,10 +53,12 @@ pub fn answer(input: &[u8], out: &mut [u8]) -> usize
     requires { 8 * 4095 ≤ length out.old }
     ensures { Prints input.now out.old out.new result }
 {
-    let Input::Asked(seed, count) = read(input) else {
-        return text::put_bytes(&mut *out, 0, b"refused 2\n");
+    let Some((seed, count)) = read(input) else {
+        let mut page = Page::new(out);
+        page.put_bytes(b"refused 2\n");
+        return page.at;
     };
-    generator::seed_sheet(seed, count as usize, &mut *out)
+    seed_sheet(seed, count as usize, out).unwrap()
 }
 
 // What is claimed of the lines. By the definitions: nothing to run.

@@ -1,5 +1,5 @@
 -- A sheet that was run, and its listing: what was written is what the definition says. Assumes nothing.
-use mathlib.Core.Bool.{Bool, true, false, cond, ◌&&◌, true≢false}
+use mathlib.Core.Bool.{Bool, true, false, ◌&&◌, true≢false}
 use mathlib.Core.List.{List, [], ◌∷◌, ◌++◌, append_assoc}
 use mathlib.Core.Path.{◌≡◌, refl, sym, subst, ap, ap₂, ◌∙◌}
 use Prim.Native.Nat.{ℕ, suc, ◌+◌, ◌-◌, ◌*◌, ◌/◌, ◌^◌, ◌<◌, ◌≤◌}
@@ -8,6 +8,10 @@ use lib.Dec.{leb}
 use lib.ListN.{length, take, drop, get_or, length-append}
 use lib.Seq.{get_or-drop}
 use borrow.Author.Tests.{eq-eqb, ne_eqb}
+use Rattle.std.specs.Prelude.{Result, Ok, Err}
+use Rattle.refusal.specs.declared.Refusal.{Refusal}
+use Rattle.refusal.specs.declared.Refusal.TheVariants.{Sheet, Room}
+use Rattle.refusal.specs.Refusal.{returned}
 use Rattle.model.specs.Members.{none}
 use Rattle.model.specs.State.{entries, outline, Opening, opened}
 use Rattle.model.specs.Records.{opening_of, Record}
@@ -24,7 +28,8 @@ use Rattle.model.proofs.Theorem.{safe}
 use Rattle.cluster.specs.declared.Cluster.{Cluster}
 use Rattle.cluster.specs.Layout.{outline_of}
 use Rattle.refinement.specs.Refinement.{Places, listed}
-use Rattle.text.specs.Text.{Text, over, Delivered}
+use Rattle.text.specs.Text.{Text, Delivers}
+use Rattle.text.proofs.Laws.{ok-within}
 use Rattle.records.specs.Bytes.{record_at, records, whole_records, is_opening, is_sheet}
 use Rattle.lines.specs.Lines.{answer_line}
 use Rattle.listing.specs.Listing.{answer_lines, lines}
@@ -32,10 +37,10 @@ use Rattle.ending.specs.Ending.{ending}
 use Rattle.unopened.specs.Unopened.{unopened}
 use Rattle.listing.proofs.AnswerLines.{line-most, each-most, records-small}
 use Rattle.ending.proofs.Endings.{ending-least, ending-most}
-use Rattle.sheet.specs.Sheet.{listing_of, is_empty, listing, has_listing, result_of, left, opening_bytes, Refused, RefusedHolds, LengthsTell}
+use Rattle.sheet.specs.Sheet.{listing_of, is_empty, listing, has_listing, outcome_of, left, opening_bytes, Refused, RefusedHolds, LengthsTell}
 use Rattle.running.specs.Running.{following, state_at, Ran}
 use Rattle.records.proofs.Decoding.{room, records-length}
-use Rattle.running.proofs.Results.{within, kept-length}
+use Rattle.running.proofs.Results.{kept-length}
 use Rattle.running.proofs.Playing.{sheet-whole, sheet-some, sheet-most, sheet-step, sheet-real, all_most}
 
 -- The first lines of the listing.
@@ -154,8 +159,8 @@ unfolding LengthsTell
 lengths-tell s = (long-enough s, longer s, λ h e. all_short s (λ i. omega (arith, h i)) e)
 
 -- Refusal 2.
-pub no-sheet : (s out : Text) → 1 ≤ length s → is_sheet s ≡ false → (2 ≡ result_of s out) × (out ≡ left s out)
-unfolding result_of left
+pub no-sheet : (s out : Text) → 1 ≤ length s → is_sheet s ≡ false → (Err Sheet ≡ outcome_of s out) × (out ≡ left s out)
+unfolding outcome_of left
 no-sheet s out some e = let h = has-records s some ∙ e in (rw h, rw h)
 
 -- P2's sheets: the board of the first record is none, so it is no valid opening.
@@ -164,7 +169,7 @@ and-false true = refl
 and-false false = refl
 
 refused : (s out : Text) → 1 ≤ length s → is_sheet s ≡ false → Refused s out
-refused s out some e = let n = no-sheet s out some e in (sym n.0, sym n.1)
+refused s out some e = let n = no-sheet s out some e in (ap returned (sym n.0), sym n.1)
 
 pub refused-holds : RefusedHolds
 unfolding RefusedHolds
@@ -179,21 +184,18 @@ still-refused [] out h e = absurd (true≢false h)
 still-refused (b ∷ s) out h e = refused (b ∷ s) out (omega arith) (ap (λ t. t && is_opening (record_at (b ∷ s))) e)
 
 -- What is delivered of a listing is what the call answers and leaves.
-as-listing : (s : Text) {out out' : Text} {r : ℕ} → has_listing s ≡ true → Delivered (listing s) out out' r
-    → (r ≡ result_of s out) × (out' ≡ left s out)
-unfolding result_of left
-as-listing s {out} h d = (
-  d.answer ∙ ap (λ t. cond t (cond (leb (length (listing s)) (length out)) (length (listing s)) 3) 2) (sym h),
-  d.left ∙ ap (λ t. cond (t && leb (length (listing s)) (length out)) (over out 0 (listing s)) out) (sym h),
-)
+as-listing : (s : Text) {out out' : Text} {r : Result ℕ Refusal} → has_listing s ≡ true → Delivers (listing s) out out' r
+    → (r ≡ outcome_of s out) × (out' ≡ left s out)
+unfolding outcome_of left
+as-listing s {out} h d = (d.answer ∙ rw h, d.left ∙ rw h)
 
 -- The empty sheet.
-pub delivered-unopened : (s : Text) {out out' : Text} {r : ℕ} → length s ≡ 0 → Delivered unopened out out' r
-    → (r ≡ result_of s out) × (out' ≡ left s out)
+pub delivered-unopened : (s : Text) {out out' : Text} {r : Result ℕ Refusal} → length s ≡ 0
+    → Delivers unopened out out' r → (r ≡ outcome_of s out) × (out' ≡ left s out)
 unfolding listing
 delivered-unopened s {out} {out'} {r} e d =
     let h : is_empty s ≡ true = eq-eqb (length s) 0 e in
-    as-listing s (rw h) (subst (λ x. Delivered x out out' r) (rw h) d)
+    as-listing s (rw h) (subst (λ x. Delivers x out out' r) (rw h) d)
 
 module _ (s : Text) (e : is_sheet s ≡ true) (row : Cluster) (p : Places) (ns ms : List ℕ)
     (h : Ran s (length s / 8 - 1) row p ns ms) where
@@ -223,25 +225,24 @@ module _ (s : Text) (e : is_sheet s ≡ true) (row : Cluster) (p : Places) (ns m
       (answer_lines 2 (following s k) (answers entries (opened opening) past) (sets_behind entries (opened opening) past))
       (ending (outline (state_at s k)) (receipts entries opening past))
 
-  pub delivered : {text out out' : Text} {r : ℕ} → text ≡ ending (outline_of row) (take row.issued (listed p))
-      → Delivered (lines s ns ms (length s / 8) ++ text) out out' r → (r ≡ result_of s out) × (out' ≡ left s out)
+  pub delivered : {text out out' : Text} {r : Result ℕ Refusal} → text ≡ ending (outline_of row) (take row.issued (listed p))
+      → Delivers (lines s ns ms (length s / 8) ++ text) out out' r → (r ≡ outcome_of s out) × (out' ≡ left s out)
   delivered {text} {out} {out'} {r} t d =
       let l : lines s ns ms (length s / 8) ++ text ≡ listing s =
       ap (λ x. lines s ns ms (length s / 8) ++ x) t ∙ whole ∙ sym (listing-is s some) in
-      as-listing s (has-records s some ∙ e) (subst (λ x. Delivered x out out' r) l d)
+      as-listing s (has-records s some ∙ e) (subst (λ x. Delivers x out out' r) l d)
 
--- A result that is no refusal is a length within the slice,
-result-within : (s out : Text) → 3 < result_of s out → result_of s out ≤ length out
-unfolding result_of
-result-within s out h =
-    within (has_listing s) (leb (length (listing s)) (length out)) (length (listing s)) (length out) refl h
-
--- and the slice is as long as it was.
+-- The slice is as long as it was,
 left-length : (s out : Text) → length (left s out) ≡ length out
 unfolding left
 left-length s out = kept-length (has_listing s && leb (length (listing s)) (length out)) out (listing s)
 
+-- and an accepted listing is within it.
+outcome-within : (s out : Text) (n : ℕ) → Ok n ≡ outcome_of s out → n ≤ length out
+unfolding outcome_of
+outcome-within s out n e =
+    ok-within (has_listing s) (leb (length (listing s)) (length out)) (length (listing s)) (length out) n Room Sheet refl e
+
 -- So a caller can read the listing back.
-pub readable : (s out : Text) {r : ℕ} {out' : Text} → (r ≡ result_of s out) × (out' ≡ left s out) → 4 ≤ r → r ≤ length out'
-readable s out p h =
-    omega (arith, p.0, result-within s out (omega (arith, h, p.0)), ap length p.1, left-length s out)
+pub readable : (s out : Text) {n : ℕ} {out' : Text} → Ok n ≡ outcome_of s out → out' ≡ left s out → n ≤ length out'
+readable s out {n} e l = omega (arith, outcome-within s out n e, ap length l, left-length s out)

@@ -1,7 +1,10 @@
 -- Sheets and listings of the papers, byte for byte, through the model's run; the records stand in the crate records,
 -- single lines in lines, the parts of a listing in listing, ending and unopened. Cited by the promises of `run_sheet`
 -- and `sample`. Assumes nothing.
-use Rattle.std.specs.Prelude.{Bool, true, false, cond, ◌&&◌, ◌||◌, List, [], ◌∷◌, ◌++◌, ◌≡◌, ℕ, ◌+◌, ◌-◌, ◌*◌, ◌/◌, ◌≤◌, eqb, leb, length, get_or, drop}
+use Rattle.std.specs.Prelude.{Bool, true, false, cond, ◌&&◌, ◌||◌, List, [], ◌∷◌, ◌++◌, ◌≡◌, ℕ, ◌+◌, ◌-◌, ◌*◌, ◌/◌, ◌≤◌, eqb, leb, length, get_or, drop, Result, Ok, Err}
+use Rattle.refusal.specs.declared.Refusal.{Refusal}
+use Rattle.refusal.specs.declared.Refusal.TheVariants.{Sheet, Room}
+use Rattle.refusal.specs.Refusal.{returned}
 use Rattle.model.specs.Members.{none}
 use Rattle.model.specs.State.{entries, outline, Opening, opened}
 use Rattle.model.specs.Records.{opening_of, Record, bare, of, of_both, of_value}
@@ -42,9 +45,14 @@ abbrev pub has_listing : Text → Bool
 has_listing s = is_empty s || is_sheet s
 
 -- "... one number, the listing's length, or 2 or 3 if refused"; "for a sheet 2, then 3."
-unfoldable pub result_of : Text → Text → ℕ
+unfoldable pub outcome_of : Text → Text → Result ℕ Refusal
 unfolding listing
-result_of s out = cond (has_listing s) (cond (leb (length (listing s)) (length out)) (length (listing s)) 3) 2
+outcome_of s out =
+    cond (has_listing s) (cond (leb (length (listing s)) (length out)) (Ok (length (listing s))) (Err Room)) (Err Sheet)
+
+-- As C has it.
+abbrev pub result_of : Text → Text → ℕ
+result_of s out = returned (outcome_of s out)
 
 -- What the slice holds then: "Refusals 2 and 3 leave the listing slice untouched; bytes past the end of a listing ...
 -- keep their values."

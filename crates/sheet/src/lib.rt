@@ -3,7 +3,12 @@
 
 ghost use Rattle.std.specs.Prelude.{◌≡◌};
 ghost use Rattle.model.specs.Trials.{TrialsHold};
-ghost use Rattle.sheet.specs.Sheet.{SampleHolds, SetsHold, RoomHolds, RefusedHolds, UnopenedHolds, LengthsTell, result_of, left};
+ghost use Rattle.sheet.specs.Sheet.{SampleHolds, SetsHold, RoomHolds, RefusedHolds, UnopenedHolds, LengthsTell, outcome_of, left};
+
+use listing::Listed;
+use refinement::LentMut;
+use refusal::{Refusal, ensure};
+use text::Page;
 
 // The papers' sample sheet has the papers' listing, byte for byte, a sheet with large sets its own, and the empty one
 // its line; short slices, bad openings and all other wrong lengths are refused; a listing of n records has at most
@@ -12,36 +17,37 @@ pub fn sample()
     ensures { SampleHolds × SetsHold × RoomHolds × RefusedHolds × UnopenedHolds × LengthsTell × TrialsHold }
 {}
 
-// Sheet in, listing out. It returns the listing's length, 2 for a sheet of wrong length or without a valid opening, 3
-// for a slice that is shorter than the listing; the empty sheet has a listing, of one line. Nothing is written before
-// both are decided: the sheet is run in places of this call's own, and the ending, whose length is then known, is
-// written aside.
-pub fn run_sheet(sheet: &[u8], listing: &mut [u8]) -> usize
-    ensures { (result ≡ result_of sheet.now listing.old)
-        × (listing.new ≡ left sheet.now listing.old) }
+// Sheet in, listing out. It returns the listing's length; refusal 2 for a sheet of wrong length or without a valid
+// opening, 3 for a slice that is shorter than the listing; the empty sheet has a listing, of one line. Nothing is
+// written before both are decided: the sheet is run in places of this call's own, and the ending, whose length is then
+// known, is written aside.
+pub fn run_sheet(sheet: &[u8], listing: &mut [u8]) -> Result<usize, Refusal>
+    ensures result { result ≡ outcome_of sheet.now listing.old }
+    ensures text { listing.new ≡ left sheet.now listing.old }
 {
     if sheet.len() == 0 {
         return unopened::deliver(listing);
     }
-    if !records::is_sheet(sheet) {
-        return 2;
-    }
-    let mut store = [0u32; 4096];
-    let mut store2 = [0u16; 4096];
-    let mut list = [0u32; 512];
-    let mut list2 = [0u16; 512];
-    let mut answers = [0u8; 4096];
-    let mut sets = [0u8; 4096];
-    let row = running::play(
+    ensure(records::is_sheet(sheet), Refusal::Sheet)?;
+    let mut answers = [0; 4096];
+    let mut sets = [0; 4096];
+    let mut p = LentMut {
+        store: &mut [0; 4096],
+        store2: &mut [0; 4096],
+        list: &mut [0; 512],
+        list2: &mut [0; 512],
+    };
+    let row = running::play(sheet, &mut p, &mut answers, &mut sets);
+    let list = p.list;
+    let list2 = p.list2;
+    let mut end = [0; 8704];
+    let mut page = Page::new(&mut end);
+    ending::put_ending(&mut page, &row, list, list2);
+    let n = page.at;
+    let listed = Listed {
         sheet,
-        &mut store,
-        &mut store2,
-        &mut list,
-        &mut list2,
-        &mut answers,
-        &mut sets,
-    );
-    let mut end = [0u8; 8704];
-    let n = ending::put_ending(&mut end, row, &list, &list2);
-    listing::deliver(sheet, &answers, &sets, &end[..n], listing)
+        answers: &answers,
+        sets: &sets,
+    };
+    listed.deliver(&page.out[..n], listing)
 }

@@ -3,20 +3,6 @@
 
 use std::io;
 
-// Prints a refusal.
-fn refuse(rt: &impl Print, n: usize) -> io::Result<()> {
-    if n == 17 {
-        return rt.write_all(b"refused 17\n");
-    }
-    if n == 18 {
-        return rt.write_all(b"refused 18\n");
-    }
-    if n == 19 {
-        return rt.write_all(b"refused 19\n");
-    }
-    rt.write_all(b"refused 3\n")
-}
-
 // The longest image has 37,122 bytes: of a longer one so much is read that it is seen to be too long. The lines of a
 // row have 20 to 8,650 bytes (`LengthsTell`, archive::sample), so refusal 3 does not happen here.
 fn main(rt: HostRuntime) -> io::Result<()> {
@@ -24,9 +10,8 @@ fn main(rt: HostRuntime) -> io::Result<()> {
     let mut text = [0u8; 8650];
     let mut scratch = [0u8; 576];
     let n = wholeinput::read_whole(&mut rt.stdin(), &mut image)?;
-    let m = archive::show_image(&image[..n], &mut text, &mut scratch);
-    if m < 20 {
-        return refuse(&rt, m);
+    match archive::show_image(&image[..n], &mut text, &mut scratch) {
+        Ok(m) => rt.write_all(&text[..m]),
+        Err(e) => println!(rt; "{e}"),
     }
-    rt.write_all(&text[..m])
 }

@@ -3,9 +3,9 @@
 use Rattle.std.specs.Prelude.{Bool, cond, ◌&&◌, List, [], map, ℕ, eqb, length}
 use Rattle.model.specs.State.{Entry}
 use Rattle.model.specs.Ranges.{in_range, kept_in_range}
-use Rattle.logstore.specs.Log.{visible_at}
+use Rattle.logstore.specs.Log.{visible_of, visible_at}
 use Rattle.cluster.specs.declared.Cluster.{Cluster}
-use Rattle.cluster.specs.Layout.{outline_of}
+use Rattle.cluster.specs.Layout.{at, outline_of}
 use Rattle.refinement.specs.Refinement.{Places, abs}
 
 -- Not "a store not 4,096 or receipts not 512 long"; "a second store of 4,096 numbers and a second list of 512, with
@@ -33,6 +33,12 @@ shown_values row p = map (λ x. x.value) (shown row p)
 
 abbrev pub shown_terms : Cluster → Places → List ℕ
 shown_terms row p = map (λ x. x.term) (shown row p)
+
+-- That part of any numbers that stand at the places of the store and of the list.
+abbrev pub shown_part : {A : Type 0} → Cluster → Places → List A → List A → List A
+shown_part row p store list =
+    let leader = row.registry.view.leader in
+    cond (valid row p) (visible_of store list leader (at 0 row.len leader) row.issued) []
 
 -- Where such a part begins, a block and an offset in bytes, if a number has w bytes and the store and the list of these
 -- numbers begin at `s` and `l`: it is a part of what was lent, "not a copy". The empty part is one of the list.

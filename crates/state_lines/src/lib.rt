@@ -1,126 +1,111 @@
 // The writers of the lines of a state: the registry, the controller, the boards, a receipt. Inner layer: callers see to
-// it that `out` has room for the text.
-#![tactic(auto)]
+// it that the page has room for the text.
+#![tactic(auto, using(text::proofs::Laws::pages))]
 
 ghost use Rattle.std.specs.Prelude.{◌++◌, ◌+◌, ◌≤◌, length};
 ghost use Rattle.model.specs.State.{entry};
-ghost use Rattle.members.specs.Mask.{bits};
 ghost use Rattle.cluster.specs.Layout.{status_of, stage_of, view_of, registry_of, controller_of};
-ghost use Rattle.text.specs.Text.{Wrote};
+ghost use Rattle.text.specs.Text.{Puts, HasRoom};
 ghost use Rattle.lines.specs.Lines.{space, newline, view_text, status_word, stage_word, late_word, registry_line, control_line, board_text, receipt_text};
 
 use cluster::{Controller, Registry, Stage, Status, View};
-
-// Writes the four parts of a view.
-fn put_parts(out: &mut [u8], at: usize, epoch: u16, term: u16, leader: u8, m: u8) -> usize
-    requires { at + length (view_text (record { epoch = epoch; term = term; leader = leader; members = bits m }))
-        ≤ length out.old }
-    ensures { Wrote out.old at
-        (view_text (record { epoch = epoch; term = term; leader = leader; members = bits m })) out.new result }
-{
-    let a = text::put_field(&mut *out, at, epoch as u32);
-    let b = text::put_field(&mut *out, a, term as u32);
-    let c = text::put_field(&mut *out, b, leader as u32);
-    lines::put_members(&mut *out, c, m)
-}
+use members::Board;
+use text::Page;
 
 // Writes a view and a space after it: epoch, leader epoch, leader, members.
-fn put_view(out: &mut [u8], at: usize, v: View) -> usize
-    requires { at + length (view_text (view_of v) ++ space) ≤ length out.old }
-    ensures { Wrote out.old at (view_text (view_of v) ++ space) out.new result }
+#[tactic(auto, using(text::proofs::Laws::pages), unfolding(lines::specs::Lines::view_text))]
+fn put_view(page: &mut Page<'_>, v: &View)
+    requires { HasRoom page.old (view_text (view_of v.now) ++ space) }
+    ensures { Puts page.old (view_text (view_of v.now) ++ space) page.new }
 {
-    let a = put_parts(&mut *out, at, v.epoch, v.term, v.leader, v.members);
-    text::put_byte(&mut *out, a, 32)
+    page.put_field(v.epoch as u32);
+    page.put_field(v.term as u32);
+    page.put_field(v.leader as u32);
+    lines::put_members(page, v.members);
+    page.put_byte(b' ');
 }
 
 // Writes the registry's status, which ends its line.
-fn put_status(out: &mut [u8], at: usize, g: Status) -> usize
-    requires { at + length (status_word (status_of g) ++ newline) ≤ length out.old }
-    ensures { Wrote out.old at (status_word (status_of g) ++ newline) out.new result }
+fn put_status(page: &mut Page<'_>, g: Status)
+    requires { HasRoom page.old (status_word (status_of g) ++ newline) }
+    ensures { Puts page.old (status_word (status_of g) ++ newline) page.new }
 {
     match g {
-        Status::Normal => text::put_bytes(&mut *out, at, b"normal\n"),
-        Status::Waiting => text::put_bytes(&mut *out, at, b"waiting\n"),
-        Status::Choosing => text::put_bytes(&mut *out, at, b"choosing\n"),
+        Status::Normal => page.put_bytes(b"normal\n"),
+        Status::Waiting => page.put_bytes(b"waiting\n"),
+        Status::Choosing => page.put_bytes(b"choosing\n"),
     }
 }
 
 // Writes the controller's stage, which ends its line.
-fn put_stage(out: &mut [u8], at: usize, g: Stage) -> usize
-    requires { at + length (stage_word (stage_of g) ++ newline) ≤ length out.old }
-    ensures { Wrote out.old at (stage_word (stage_of g) ++ newline) out.new result }
+fn put_stage(page: &mut Page<'_>, g: Stage)
+    requires { HasRoom page.old (stage_word (stage_of g) ++ newline) }
+    ensures { Puts page.old (stage_word (stage_of g) ++ newline) page.new }
 {
     match g {
-        Stage::Idle => text::put_bytes(&mut *out, at, b"idle\n"),
-        Stage::Leader => text::put_bytes(&mut *out, at, b"leader\n"),
-        Stage::Boards => text::put_bytes(&mut *out, at, b"boards\n"),
-        Stage::Choosing => text::put_bytes(&mut *out, at, b"choosing\n"),
+        Stage::Idle => page.put_bytes(b"idle\n"),
+        Stage::Leader => page.put_bytes(b"leader\n"),
+        Stage::Boards => page.put_bytes(b"boards\n"),
+        Stage::Choosing => page.put_bytes(b"choosing\n"),
     }
 }
 
 // Writes the registry's line. Inner layer: callers see to the room.
-pub fn put_registry(out: &mut [u8], at: usize, r: Registry) -> usize
-    requires { at + length (registry_line (registry_of r)) ≤ length out.old }
-    ensures { Wrote out.old at (registry_line (registry_of r)) out.new result }
+#[tactic(auto, using(text::proofs::Laws::pages), unfolding(lines::specs::Lines::registry_line))]
+pub fn put_registry(page: &mut Page<'_>, r: &Registry)
+    requires { HasRoom page.old (registry_line (registry_of r.now)) }
+    ensures { Puts page.old (registry_line (registry_of r.now)) page.new }
 {
-    let v = r.view;
-    let g = r.status;
-    let a = text::put_bytes(&mut *out, at, b"registry ");
-    let b = put_view(&mut *out, a, v);
-    put_status(&mut *out, b, g)
+    page.put_bytes(b"registry ");
+    put_view(page, &r.view);
+    put_status(page, r.status);
 }
 
 // Writes the controller's line. Inner layer: callers see to the room.
-pub fn put_control(out: &mut [u8], at: usize, k: Controller) -> usize
-    requires { at + length (control_line (controller_of k)) ≤ length out.old }
-    ensures { Wrote out.old at (control_line (controller_of k)) out.new result }
+#[tactic(auto, using(text::proofs::Laws::pages), unfolding(lines::specs::Lines::control_line))]
+pub fn put_control(page: &mut Page<'_>, k: &Controller)
+    requires { HasRoom page.old (control_line (controller_of k.now)) }
+    ensures { Puts page.old (control_line (controller_of k.now)) page.new }
 {
-    let v = k.view;
-    let g = k.stage;
-    let a = text::put_bytes(&mut *out, at, b"control ");
-    let b = put_view(&mut *out, a, v);
-    put_stage(&mut *out, b, g)
+    page.put_bytes(b"control ");
+    put_view(page, &k.view);
+    put_stage(page, k.stage);
 }
 
 // Writes whether a replica is late, which ends its line.
-fn put_late(out: &mut [u8], at: usize, late: bool) -> usize
-    requires { at + length (late_word late ++ newline) ≤ length out.old }
-    ensures { Wrote out.old at (late_word late ++ newline) out.new result }
+fn put_late(page: &mut Page<'_>, late: bool)
+    requires { HasRoom page.old (late_word late ++ newline) }
+    ensures { Puts page.old (late_word late ++ newline) page.new }
 {
     if late {
-        return text::put_bytes(&mut *out, at, b"late\n");
+        page.put_bytes(b"late\n");
+    } else {
+        page.put_bytes(b"current\n");
     }
-    text::put_bytes(&mut *out, at, b"current\n")
 }
 
 // Writes the line of a replica: its number, its view, its joined epoch, its log's length, whether it is late.
 // Inner layer: callers see to the room.
-pub fn put_board(
-    out: &mut [u8],
-    at: usize,
-    b: u8,
-    v: View,
-    joined: u16,
-    len: u16,
-    late: bool,
-) -> usize
-    requires { at + length (board_text b (view_of v) joined len late) ≤ length out.old }
-    ensures { Wrote out.old at (board_text b (view_of v) joined len late) out.new result }
+#[tactic(auto, using(text::proofs::Laws::pages), unfolding(lines::specs::Lines::board_text))]
+pub fn put_board(page: &mut Page<'_>, b: Board, v: &View, joined: u16, len: u16, late: bool)
+    requires { HasRoom page.old (board_text b.number (view_of v.now) joined len late) }
+    ensures { Puts page.old (board_text b.number (view_of v.now) joined len late) page.new }
 {
-    let p0 = text::put_bytes(&mut *out, at, b"board ");
-    let p1 = text::put_field(&mut *out, p0, b as u32);
-    let p2 = put_view(&mut *out, p1, v);
-    let p3 = text::put_field(&mut *out, p2, joined as u32);
-    let p4 = text::put_field(&mut *out, p3, len as u32);
-    put_late(&mut *out, p4, late)
+    page.put_bytes(b"board ");
+    page.put_field(b.number as u32);
+    put_view(page, v);
+    page.put_field(joined as u32);
+    page.put_field(len as u32);
+    put_late(page, late);
 }
 
 // Writes a receipt: its value, `@`, its term. Inner layer: callers see to the room.
-pub fn put_receipt(out: &mut [u8], at: usize, value: u32, term: u16) -> usize
-    requires { at + length (receipt_text (entry value term)) ≤ length out.old }
-    ensures { Wrote out.old at (receipt_text (entry value term)) out.new result }
+#[tactic(auto, using(text::proofs::Laws::pages), unfolding(lines::specs::Lines::receipt_text))]
+pub fn put_receipt(page: &mut Page<'_>, value: u32, term: u16)
+    requires { HasRoom page.old (receipt_text (entry value term)) }
+    ensures { Puts page.old (receipt_text (entry value term)) page.new }
 {
-    let a = text::put_number(&mut *out, at, value);
-    let b = text::put_byte(&mut *out, a, 64);
-    text::put_number(&mut *out, b, term as u32)
+    page.put_number(value);
+    page.put_byte(b'@');
+    page.put_number(term as u32);
 }

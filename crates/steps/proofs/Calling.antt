@@ -8,7 +8,7 @@ use Rattle.model.specs.State.{Entry, outline, entries}
 use Rattle.model.specs.Steps.{Step, Writes, appends, commits, receives, nothing, writes, accepted, answer_of, behind, step}
 use Rattle.model.proofs.Tests.{by_cond}
 use Rattle.cluster.specs.declared.Cluster.{Cluster}
-use Rattle.cluster.specs.declared.Outcome.{Outcome}
+use Rattle.cluster.specs.Ended.{Outcome}
 use Rattle.cluster.specs.Layout.{bits, outline_of}
 use Rattle.refinement.specs.Refinement.{Places, Full, abs, put_log, put_list, written, places_after, Turns}
 use Rattle.refinement.proofs.Turning.{bits_none, outline-abs}

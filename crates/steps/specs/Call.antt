@@ -5,7 +5,7 @@ use Rattle.model.specs.Members.{none}
 use Rattle.model.specs.State.{outline, entries}
 use Rattle.model.specs.Steps.{Step, accepted, answer_of, behind, step}
 use Rattle.cluster.specs.declared.Cluster.{Cluster}
-use Rattle.cluster.specs.declared.Outcome.{Outcome}
+use Rattle.cluster.specs.Ended.{Outcome}
 use Rattle.cluster.specs.Layout.{bits, outline_of}
 use Rattle.refinement.specs.Refinement.{Places, abs, places_after}
 pub use Rattle.shown.specs.Shown.{valid}

@@ -1,24 +1,26 @@
 -- The opened row is the model's, and the opening call's answer. Assumes nothing.
 use mathlib.Core.Bool.{Bool, true, false, cond, ◌&&◌}
 use mathlib.Core.Logic.{◌⊎◌, inl, inr}
-use mathlib.Core.Path.{◌≡◌, refl, sym, ap, subst, ◌∙◌, fun_ext}
+use mathlib.Core.Path.{◌≡◌, refl, ap, ◌∙◌, fun_ext}
 use Prim.Native.Nat.{ℕ, zero, suc, ◌+◌, ◌-◌, ◌*◌, ◌≤◌, ◌<◌}
 use native.Mathlib.Omega.{arith}
 use lib.ListN.{get_or, take, replicate, get_or-replicate, get_or-eq_default}
 use borrow.Author.Tests.{le-leb, lt-leb}
 use Rattle.model.specs.Members.{is_replica, only}
 use Rattle.model.specs.State as M
+use Rattle.model.specs.Steps.{deaf}
 use Rattle.model.proofs.Tests.{le-or-lt}
 use Rattle.members.specs.Mask.{bits}
-use Rattle.members.proofs.Laws.{replica, replica-range, bits_none}
+use Rattle.members.proofs.Laws.{replica, bits_none, bits-single}
 use Rattle.logstore.specs.Log.{log_of}
 use Rattle.cluster.specs.declared.View.{View}
-use Rattle.cluster.specs.declared.Status.TheVariants.{Normal}
 use Rattle.cluster.specs.declared.Stage.TheVariants.{Idle}
+use Rattle.cluster.specs.declared.Controller.{Controller}
 use Rattle.cluster.specs.declared.Cluster.{Cluster}
-use Rattle.cluster.specs.Layout.{at, at_pair, no_view, view_of, outline_of}
+use Rattle.cluster.specs.Layout.{at, at_pair, no_view, view_of, controller_of, outline_of}
+use Rattle.cluster.proofs.Laws.{deaf-of}
 use Rattle.refinement.specs.Refinement.{logged, listed}
-use Rattle.steps_central.specs.Opening.{OpenedWith, Opens}
+use Rattle.steps_central.specs.Opening.{OpenedWith, first_row}
 
 -- Eight of a kind, by a number: 0, 1 to 8, or above.
 at_all : {A : Type 0} (d v : A) (x : ℕ) → at d (replicate 8 v) x ≡ cond (is_replica x) v d
@@ -47,20 +49,13 @@ none-counted = fun_ext (λ x. fun_ext (λ y. go (is_replica x) (is_replica y) (8
     go true false k = refl
     go false u k = refl
 
-module _ (b m : ℕ) (e : bits m ≡ only b) where
+-- The board b, whose mask is m, and a controller that has heard nothing.
+module _ (b m : ℕ) (e : bits m ≡ only b) (c : Controller) where
   abbrev first : View
   first = record { epoch = 1; term = 1; leader = b; members = m }
 
-  abbrev pub open_row : Cluster
-  open_row = record {
-    registry = record { view = first; status = Normal };
-    controller = record { view = first; stage = Idle; heard = replicate 8 0; joined = replicate 8 0 };
-    views = replicate 8 first;
-    joined = replicate 8 1;
-    acked = replicate 64 0;
-    len = replicate 8 0;
-    issued = 0;
-  }
+  abbrev open_row : Cluster
+  open_row = record (first_row b m) { controller = c }
 
   first-view : view_of first ≡ M.first_view (M.opening_with b)
   first-view i = record { epoch = 1; term = 1; leader = b; members = e i }
@@ -72,48 +67,37 @@ module _ (b m : ℕ) (e : bits m ≡ only b) where
       go true = first-view
       go false = λ i. record { epoch = 0; term = 0; leader = 0; members = bits_none i }
 
-  outlined : outline_of open_row ≡ M.outline {E = M.Entry} (M.opened (M.opening_with b))
-  outlined i = record {
-    registry = record { view = first-view i; status = M.normal };
-    controller = record { view = first-view i; stage = M.idle; heard = none-heard i; heard_joined = none-heard i };
-    view = views i;
-    joined = fun_ext (at_all 0 1) i;
-    acked = none-counted i;
-    len = none-heard i;
-    issued = 0;
-  }
+  module _ (quiet : controller_of c ≡ deaf (view_of first) M.idle) where
+    heard : controller_of c ≡ (M.opened {E = M.Entry} (M.opening_with b)).controller
+    heard = quiet ∙ (λ i. record { view = first-view i; stage = M.idle; heard = M.zeros; heard_joined = M.zeros })
 
-  pub opened_with : OpenedWith (M.opening_with b) open_row
-  opened_with = record {
-    state = λ p i. record {
-      registry = (outlined i).registry;
-      controller = (outlined i).controller;
-      view = (outlined i).view;
-      joined = (outlined i).joined;
-      acked = (outlined i).acked;
-      log = λ x. log_of (logged p) x (none-heard i x);
-      committed = take 0 (listed p);
-    };
-    outline = outlined;
-  }
+    outlined : outline_of open_row ≡ M.outline {E = M.Entry} (M.opened (M.opening_with b))
+    outlined i = record {
+      registry = record { view = first-view i; status = M.normal };
+      controller = heard i;
+      view = views i;
+      joined = fun_ext (at_all 0 1) i;
+      acked = none-counted i;
+      len = none-heard i;
+      issued = 0;
+    }
 
--- The replica that the row is opened with.
-module _ (b k : ℕ) (e : k ≡ cond (is_replica b) b 1) where
-  pub chosen : (1 ≤ k) × (k ≤ 8)
-  chosen = subst (λ n. (1 ≤ n) × (n ≤ 8)) (sym e) (go (is_replica b) refl)
-    where
-      go : (t : Bool) → is_replica b ≡ t → (1 ≤ cond t b 1) × (cond t b 1 ≤ 8)
-      go true h = replica-range b h
-      go false h = (omega arith, omega arith)
+    pub opened_with : OpenedWith (M.opening_with b) open_row
+    opened_with = record {
+      state = λ p i. record {
+        registry = (outlined i).registry;
+        controller = (outlined i).controller;
+        view = (outlined i).view;
+        joined = (outlined i).joined;
+        acked = (outlined i).acked;
+        log = λ x. log_of (logged p) x (none-heard i x);
+        committed = take 0 (listed p);
+      };
+      outline = outlined;
+    }
 
-  pub opens : (n : ℕ) (row : Cluster) → n ≡ M.open_answer (M.opening_with b) → OpenedWith (M.opening_with k) row
-      → Opens (M.opening_with b) (record { answer = n; behind = 0; row = row })
-  opens n row a o = record {
-    answer = a;
-    behind = bits_none;
-    row = subst (λ p. OpenedWith p row) (ap M.opening_with e ∙ by-board (is_replica b)) o;
-  }
-    where
-      by-board : (t : Bool) → M.opening_with (cond t b 1) ≡ cond t (M.opening_with b) (M.opening_with 1)
-      by-board true = refl
-      by-board false = refl
+-- The row opened with board 1.
+pub opened_first : OpenedWith (M.opening_with 1) (first_row 1 1)
+opened_first =
+    let v : View = record { epoch = 1; term = 1; leader = 1; members = 1 } in
+    opened_with 1 1 (bits-single 1 (omega arith) (omega arith)) _ (deaf-of v Idle)

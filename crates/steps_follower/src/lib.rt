@@ -1,237 +1,137 @@
-// The steps by which a replica follows: refresh (6), join (7), receive (8), over the parts of a row that they use: the
-// replicas' views by value; their joined epochs, counts and lengths and the two stores lent. Each promise is for every
-// row with these parts, at most 512 receipts and lent places of their lengths. Inner layer: callers see to it that the
-// lent places have their lengths, that no log is longer than 512, and that the leaders in the views are replicas or
-// none.
+// The steps by which a replica follows: refresh (6), join (7), receive (8), on a row and the lent places. Its `may_`
+// function makes a step's checks, in the paper's order. Inner layer: callers see to it that the lent places have their
+// lengths, that no log is longer than 512, and that the leaders in the views are replicas or none.
 #![tactic(auto)]
 
-ghost use Rattle.std.specs.Prelude.{◌≡◌, not, cond, ◌&&◌, List, ℕ, ◌≤◌, ◌<◌, eqb, length, set};
-ghost use Rattle.model.specs.Prelude.{upd, first_failed};
+ghost use Rattle.std.specs.Prelude.{◌≡◌, not, cond, ◌&&◌, ◌<◌, ◌≤◌, eqb, IfOk, length};
+ghost use Rattle.model.specs.Prelude.{upd};
 ghost use Rattle.model.specs.State as M;
 ghost use Rattle.model.specs.Steps as S;
-ghost use Rattle.members.specs.Mask.{bits};
-ghost use Rattle.cluster.specs.declared.Registry.{Registry};
-ghost use Rattle.cluster.specs.declared.Controller.{Controller};
-ghost use Rattle.cluster.specs.declared.Status.{Status};
-ghost use Rattle.cluster.specs.Layout.{at_pair};
-ghost use Rattle.refinement.specs.Refinement.{Places, lent, Full, row_of, Short, Led, Leaves};
-ghost use Rattle.steps_follower.specs.Checks.{refresh_checks, join_checks, receive_checks};
+ghost use Rattle.refusal.specs.Refusal.{answer};
+ghost use Rattle.cluster.specs.Layout.{at, at_pair, no_view, outline_of};
+ghost use Rattle.refinement.specs.Refinement.{Places, Full, Short, Led, Leaves};
+ghost use Rattle.refinement.specs.Lent.{places_of, places_in, SameLent};
 
-use cluster::{View, check, replica, seat};
-use refinement::{lookup, view};
-
-// What step 6 answers, and the view it leaves at a place among the views.
-#[derive(Clone, Copy)]
-pub struct Taken {
-    pub answer: u8,
-    pub place: usize,
-    pub view: View,
-}
+use cluster::{Cluster, View};
+use members::Board;
+use refinement::{Lent, LentMut};
+use refusal::{Refusal, ensure};
 
 // The counts of b become 0 but its own, which becomes n.
-fn restart(acked: &mut [u16], b: u8, n: u16)
-    requires { (1 ≤ b) × (b ≤ 8) × (length acked.old ≡ 64) }
-    ensures { at_pair acked.new ≡ upd (at_pair acked.old) b (upd M.zeros b n) }
+fn restart(acked: &mut [u16; 64], b: Board, n: u16)
+    ensures { at_pair acked.new ≡ upd (at_pair acked.old) b.number (upd M.zeros b.number n) }
 {
-    let i = 8 * ((b - 1) as usize);
-    acked[i] = 0;
-    acked[i + 1] = 0;
-    acked[i + 2] = 0;
-    acked[i + 3] = 0;
-    acked[i + 4] = 0;
-    acked[i + 5] = 0;
-    acked[i + 6] = 0;
-    acked[i + 7] = 0;
-    acked[i + ((b - 1) as usize)] = n;
+    let i = b.index();
+    acked[8 * i..8 * i + 8].fill(0);
+    acked[8 * i + i] = n;
 }
 
-// Step 6: the joined epoch of b, which was j, after news w; t was its leader epoch.
-fn joins(t: u16, w: View, b: u8, j: u16) -> u16
-    ensures { result ≡ cond (not (eqb t w.term) && eqb w.leader b) w.term j }
+// Step 6: the checks of b's news of the registry, and the replica b where they pass.
+fn may_refresh(row: &Cluster, b: u8) -> Result<Board, Refusal>
+    ensures answer { answer result ≡ S.answer_of (outline_of row.now) (S.Step.refresh b) }
+    ensures board { IfOk result (λ x. x.number ≡ b) }
 {
-    if t == w.term {
-        return j;
+    let b = Board::new(b)?;
+    ensure(
+        row.view(b).epoch < row.registry.view.epoch,
+        Refusal::NothingDue,
+    )?;
+    Ok(b)
+}
+
+// Step 6, b takes news of the registry. Inner layer: callers see to the lengths.
+pub fn refresh(row: &mut Cluster, b: u8) -> Result<(), Refusal>
+    requires { Short row.old.len }
+    ensures { (p : Places) → row.old.issued ≤ 512 → Full p
+        → Leaves (S.Step.refresh b) row.old p (answer result) 0 row.new p }
+{
+    let b = may_refresh(row, b)?;
+    let i = b.index();
+    let n = row.len(b);
+    let news = row.registry.view;
+    let changed = row.view(b).term != news.term;
+    row.views[i] = news;
+    if changed {
+        restart(&mut row.acked, b, n);
+        if news.leader == b.number {
+            row.joined[i] = news.term;
+        }
     }
-    if w.leader == b {
-        return w.term;
-    }
-    j
+    Ok(())
 }
 
-// Step 6: the counts after news w for b, whose leader epoch was t and whose log has n entries.
-fn counts(t: u16, w: View, b: u8, acked: &mut [u16], n: u16)
-    requires { (1 ≤ b) × (b ≤ 8) × (length acked.old ≡ 64) }
-    ensures { at_pair acked.new
-        ≡ cond (not (eqb t w.term)) (upd (at_pair acked.old) b (upd M.zeros b n))
-        (at_pair acked.old) }
+// The replica that b follows, by b's view: neither none nor b itself.
+fn followed(view: View, b: Board) -> Result<Board, Refusal>
+    requires { view.leader ≤ 8 }
+    ensures answer { answer result ≡ cond (not (eqb view.leader 0) && not (eqb view.leader b.number)) 0 9 }
+    ensures leader { IfOk result (λ x. x.number ≡ view.leader) }
 {
-    if t == w.term {
-        return;
-    }
-    restart(&mut *acked, b, n);
+    let leader = Board::new(view.leader).map_err(|_| Refusal::FollowsNone)?;
+    ensure(leader != b, Refusal::FollowsNone)?;
+    Ok(leader)
 }
 
-// Step 6: what b is answered: its view v, the registry's view w.
-fn may_refresh(v: View, w: View, b: u8) -> u8
-    ensures { result ≡ first_failed (refresh_checks v w b) }
+// Step 7: the checks of b's joining; where they pass, the replica b and its leader.
+fn may_join(row: &Cluster, b: u8) -> Result<(Board, Board), Refusal>
+    requires { Led row.now.views }
+    ensures answer { answer result ≡ S.answer_of (outline_of row.now) (S.Step.join b) }
+    ensures boards { IfOk result (λ x. (x.0.number ≡ b) × (x.1.number ≡ (at no_view row.now.views b).leader)) }
 {
-    let n12 = check(v.epoch < w.epoch, 0, 12);
-    check(replica(b), n12, 1)
-}
-
-// Step 6, b takes news of the registry, whose view is w. Inner layer: callers see to the lengths.
-pub fn refresh(
-    w: View,
-    views: [View; 8],
-    joined: &mut [u16],
-    acked: &mut [u16],
-    len: &[u16],
-    b: u8,
-) -> Taken
-    requires { (length joined.old ≡ 8) × (length acked.old ≡ 64) × Short len.now }
-    ensures { (result.place < 8) × (
-        (s : Status) (c : Controller) (issued : ℕ) (p : Places) → issued ≤ 512 → Full p
-        → Leaves (S.Step.refresh b)
-        (row_of (record { view = w; status = s }) c views joined.old acked.old len.now
-        issued) p
-        result.answer 0 (row_of (record { view = w; status = s }) c (set views result.place result.view) joined.new
-        acked.new len.now issued) p
-        ) }
-{
-    let k = seat(b);
-    let i = (k - 1) as usize;
-    let v = view(views, k);
-    let r = may_refresh(v, w, b);
-    if r != 0 {
-        return Taken {
-            answer: r,
-            place: i,
-            view: v,
-        };
-    }
-    let n = lookup(len, k);
-    let j = joined[i];
-    joined[i] = joins(v.term, w, k, j);
-    counts(v.term, w, k, &mut *acked, n);
-    Taken {
-        answer: 0,
-        place: i,
-        view: w,
-    }
-}
-
-// Whether the leader l of b is neither none nor b.
-fn follows(l: u8, b: u8) -> bool
-    ensures { result ≡ (not (eqb l 0) && not (eqb l b)) }
-{
-    (l != 0) & (l != b)
-}
-
-// Step 7: what b, whose seat is k, is answered: its view v, its leader's view w, its joined epoch j.
-fn may_join(v: View, w: View, j: u16, k: u8, b: u8) -> u8
-    requires { (1 ≤ k) × (k ≤ 8) }
-    ensures { result ≡ first_failed (join_checks v w j k b) }
-{
-    let n11 = check(j != v.term, 0, 11);
-    let n10 = check(v.term == w.term, n11, 10);
-    let n5 = check(members::has(v.members, k), n10, 5);
-    let n9 = check(follows(v.leader, b), n5, 9);
-    check(replica(b), n9, 1)
+    let b = Board::new(b)?;
+    let own = row.view(b);
+    let leader = followed(own, b)?;
+    ensure(members::has(own.members, b), Refusal::Membership)?;
+    ensure(own.term == row.view(leader).term, Refusal::TermsDiffer)?;
+    ensure(row.joined(b) != own.term, Refusal::Joining)?;
+    Ok((b, leader))
 }
 
 // Step 7, b joins. Inner layer: callers see to the lengths and the leaders.
-pub fn join(
-    views: [View; 8],
-    joined: &mut [u16],
-    len: &mut [u16],
-    store: &[u32],
-    store2: &[u16],
-    b: u8,
-) -> u8
-    requires { Led views × (length joined.old ≡ 8) × Short len.old
-        × (length store.now ≡ 4096) × (length store2.now ≡ 4096) }
-    ensures { (g : Registry) (c : Controller) (acked : List ℕ) (issued : ℕ) (list list2 : List ℕ) → issued ≤ 512
-        → Full (lent store.now store2.now list list2)
-        → Leaves (S.Step.join b)
-        (row_of g c views joined.old acked len.old issued)
-        (lent store.now store2.now list list2)
-        result 0 (row_of g c views joined.new acked len.new issued)
-        (lent store.now store2.now list list2) }
+pub fn join(row: &mut Cluster, p: Lent<'_>, b: u8) -> Result<(), Refusal>
+    requires { Led row.old.views × Short row.old.len
+        × (length p.store.now ≡ 4096) × (length p.store2.now ≡ 4096) }
+    ensures { row.old.issued ≤ 512 → Full (places_of p.entry)
+        → Leaves (S.Step.join b) row.old (places_of p.entry) (answer result) 0 row.new (places_of p.entry) }
 {
-    let k = seat(b);
-    let i = (k - 1) as usize;
-    let v = view(views, k);
-    let j = joined[i];
-    let l = seat(v.leader);
-    let m = (l - 1) as usize;
-    let w = view(views, l);
-    let r = may_join(v, w, j, k, b);
-    if r != 0 {
-        return r;
-    }
-    let own = len[i];
-    let other = len[m];
-    let n = logstore::shared(store, store2, k, own, l, other);
-    len[i] = n;
-    joined[i] = v.term;
-    0
+    let (b, leader) = may_join(row, b)?;
+    let i = b.index();
+    row.len[i] = logstore::shared(p.store, p.store2, b, row.len(b), leader, row.len(leader));
+    row.joined[i] = row.view(b).term;
+    Ok(())
 }
 
-// Whether b is in both sets.
-fn both_have(m: u8, o: u8, b: u8) -> bool
-    requires { (1 ≤ b) × (b ≤ 8) }
-    ensures { result ≡ (bits m b && bits o b) }
+// Step 8: the checks of b's receiving; where they pass, the replica b and its leader.
+fn may_receive(row: &Cluster, b: u8) -> Result<(Board, Board), Refusal>
+    requires { Led row.now.views }
+    ensures answer { answer result ≡ S.answer_of (outline_of row.now) (S.Step.receive b) }
+    ensures boards { IfOk result (λ x. (x.0.number ≡ b) × (x.1.number ≡ (at no_view row.now.views b).leader)) }
+    ensures room { IfOk result (λ x. at 0 row.now.len b < at 0 row.now.len x.1.number) }
 {
-    members::has(m, b) & members::has(o, b)
-}
-
-// Step 8: what b, whose seat is k, is answered: its view v, its leader's view w, its joined epoch j, the lengths n and
-// o of their logs.
-fn may_receive(v: View, w: View, j: u16, n: u16, o: u16, k: u8, b: u8) -> u8
-    requires { (1 ≤ k) × (k ≤ 8) }
-    ensures { result ≡ first_failed (receive_checks v w j n o k b) }
-{
-    let n12 = check(n < o, 0, 12);
-    let n11 = check(j == v.term, n12, 11);
-    let n10 = check(v.term == w.term, n11, 10);
-    let n5 = check(both_have(v.members, w.members, k), n10, 5);
-    let n9 = check(follows(v.leader, b), n5, 9);
-    check(replica(b), n9, 1)
+    let b = Board::new(b)?;
+    let own = row.view(b);
+    let leader = followed(own, b)?;
+    let other = row.view(leader);
+    ensure(
+        members::has(own.members, b) && members::has(other.members, b),
+        Refusal::Membership,
+    )?;
+    ensure(own.term == other.term, Refusal::TermsDiffer)?;
+    ensure(row.joined(b) == own.term, Refusal::Joining)?;
+    ensure(row.len(b) < row.len(leader), Refusal::NothingDue)?;
+    Ok((b, leader))
 }
 
 // Step 8, b receives. Inner layer: callers see to the lengths and the leaders.
-pub fn receive(
-    views: [View; 8],
-    joined: &[u16],
-    len: &mut [u16],
-    store: &mut [u32],
-    store2: &mut [u16],
-    b: u8,
-) -> u8
-    requires { Led views × (length joined.now ≡ 8) × Short len.old
-        × (length store.old ≡ 4096) × (length store2.old ≡ 4096) }
-    ensures { (g : Registry) (c : Controller) (acked : List ℕ) (issued : ℕ) (list list2 : List ℕ) → issued ≤ 512
-        → Full (lent store.old store2.old list list2)
-        → Leaves (S.Step.receive b)
-        (row_of g c views joined.now acked len.old issued)
-        (lent store.old store2.old list list2)
-        result 0 (row_of g c views joined.now acked len.new issued)
-        (lent store.new store2.new list list2) }
+pub fn receive(row: &mut Cluster, p: &mut LentMut<'_>, b: u8) -> Result<(), Refusal>
+    requires { Led row.old.views × Short row.old.len
+        × (length p.old.store.now ≡ 4096) × (length p.old.store2.now ≡ 4096) }
+    ensures same { SameLent p.old p.new }
+    ensures step { row.old.issued ≤ 512 → Full (places_in p.old)
+        → Leaves (S.Step.receive b) row.old (places_in p.old) (answer result) 0 row.new (places_in p.new) }
 {
-    let k = seat(b);
-    let i = (k - 1) as usize;
-    let v = view(views, k);
-    let j = lookup(joined, k);
-    let n = len[i];
-    let l = seat(v.leader);
-    let m = (l - 1) as usize;
-    let w = view(views, l);
-    let o = len[m];
-    let r = may_receive(v, w, j, n, o, k, b);
-    if r != 0 {
-        return r;
-    }
-    logparts::receive_entry(&mut *store, &mut *store2, k, l, n);
-    len[i] = n + 1;
-    0
+    let (b, leader) = may_receive(row, b)?;
+    let n = row.len(b);
+    logparts::receive_entry(p.store, p.store2, b, leader, n);
+    row.len[b.index()] = n + 1;
+    Ok(())
 }

@@ -1,96 +1,60 @@
-// The receipt of a leader: commit (2), over the parts of a row that it uses: the replicas' views by value; their counts
-// and lengths, the two stores and the two lists lent. Its promise is for every row with these parts and lent places of
-// their lengths. Inner layer: callers see to it that there are at most 512 receipts, that the lent places have their
-// lengths and that no log is longer than 512.
+// The receipt of a leader: commit (2), on a row and the lent places. Inner layer: callers see to it that there are at
+// most 512 receipts, that the lent places have their lengths and that no log is longer than 512.
 #![tactic(auto)]
 
-ghost use Rattle.std.specs.Prelude.{◌≡◌, List, ℕ, ◌≤◌, length};
-ghost use Rattle.model.specs.Prelude.{first_failed};
+ghost use Rattle.std.specs.Prelude.{◌≡◌, ◌<◌, ◌≤◌, IfOk};
 ghost use Rattle.model.specs.Steps as S;
+ghost use Rattle.refusal.specs.Refusal.{answer};
 ghost use Rattle.members.specs.Mask.{bits, under};
-ghost use Rattle.cluster.specs.declared.Registry.{Registry};
-ghost use Rattle.cluster.specs.declared.Controller.{Controller};
-ghost use Rattle.cluster.specs.Layout.{at_pair};
-ghost use Rattle.refinement.specs.Refinement.{lent, Full, row_of, Short, Leaves};
-ghost use Rattle.steps_receipt.specs.Checks.{commit_checks};
+ghost use Rattle.cluster.specs.Ended.{outcome};
+ghost use Rattle.cluster.specs.Layout.{at, at_pair, outline_of};
+ghost use Rattle.refinement.specs.Refinement.{Full, Short, Turns};
+ghost use Rattle.refinement.specs.Lent.{places_in, SameLent};
 
-use cluster::{View, check, replica, seat};
-use refinement::{lookup, pair, view};
+use cluster::Cluster;
+use members::Board;
+use refinement::LentMut;
+use refusal::{Refusal, ensure};
 
-// What step 2 answers, the members behind it, and the number of receipts it leaves.
-#[derive(Clone, Copy)]
-pub struct Given {
-    pub answer: u8,
-    pub behind: u8,
-    pub issued: u16,
+// The replicas that b has counted above the receipts' length, members or not.
+fn counted(row: &Cluster, b: Board) -> u8
+    ensures { bits result ≡ under 9 (S.counted_above (at_pair row.now.acked b.number) row.now.issued) }
+{
+    members::gather(|x| row.issued < row.acked(b, x))
 }
 
-// The replicas that b has counted above n, members or not, among the counts acked.
-fn counted(acked: &[u16], b: u8, n: u16) -> u8
-    requires { (1 ≤ b) × (b ≤ 8) × (length acked.now ≡ 64) }
-    ensures { bits result ≡ under 9 (S.counted_above (at_pair acked.now b) n) }
+// Step 2: the checks of a receipt by b, in the paper's order; where they pass, the replica b and the members behind it,
+// all that qualify.
+fn may_commit(row: &Cluster, b: u8) -> Result<(Board, u8), Refusal>
+    ensures answer { answer result ≡ S.answer_of (outline_of row.now) (S.Step.commit b) }
+    ensures board { IfOk result (λ x. x.0.number ≡ b) }
+    ensures behind { IfOk result (λ x. bits x.1 ≡ S.qualified (outline_of row.now) (S.Step.commit b)) }
+    ensures room { IfOk result (λ x. row.now.issued < at 0 row.now.len b) }
 {
-    let mut q: u8 = 0;
-    let mut x: u8 = 1;
-    while x <= 8 {
-        let i = pair(b, x);
-        q = members::put(q, x, n < acked[i]);
-        x += 1;
-    }
-    q
+    let b = Board::new(b)?;
+    let view = row.view(b);
+    let behind = members::both(view.members, counted(row, b));
+    ensure(view.leader == b.number, Refusal::NotLeader)?;
+    ensure(row.issued < row.len(b), Refusal::NothingDue)?;
+    ensure(
+        members::is_quorum(view.members, behind),
+        Refusal::NoMajority,
+    )?;
+    Ok((b, behind))
 }
 
-// Step 2: what b is answered: its view v, the length n of its log, the members q that it has counted above `issued`.
-fn may_commit(v: View, n: u16, issued: u16, q: u8, b: u8) -> u8
-    ensures { result ≡ first_failed (commit_checks v n issued q b) }
+// Step 2, a receipt by b; what is handed back are the members behind it. Inner layer: callers see to the lengths.
+pub fn commit(row: &mut Cluster, p: &mut LentMut<'_>, b: u8) -> Result<u8, Refusal>
+    requires { (row.old.issued ≤ 512) × Short row.old.len × Full (places_in p.old) }
+    ensures same { SameLent p.old p.new }
+    ensures step { Turns (S.Step.commit b) row.old (places_in p.old) (outcome result row.new) (places_in p.new) }
 {
-    let n14 = check(members::is_quorum(v.members, q), 0, 14);
-    let n12 = check(issued < n, n14, 12);
-    let n8 = check(v.leader == b, n12, 8);
-    check(replica(b), n8, 1)
-}
-
-// Step 2, a receipt by b, after `issued` others. Inner layer: callers see to the lengths.
-pub fn commit(
-    views: [View; 8],
-    issued: u16,
-    acked: &[u16],
-    len: &[u16],
-    store: &[u32],
-    store2: &[u16],
-    list: &mut [u32],
-    list2: &mut [u16],
-    b: u8,
-) -> Given
-    requires { (issued ≤ 512) × (length acked.now ≡ 64) × Short len.now
-        × Full (lent store.now store2.now list.old list2.old) }
-    ensures { (g : Registry) (c : Controller) (joined : List ℕ)
-        → Leaves (S.Step.commit b)
-        (row_of g c views joined acked.now len.now issued)
-        (lent store.now store2.now list.old list2.old)
-        result.answer result.behind (row_of g c views joined acked.now len.now result.issued)
-        (lent store.now store2.now list.new list2.new) }
-{
-    let k = seat(b);
-    let v = view(views, k);
-    let n = lookup(len, k);
-    let p = counted(acked, k, issued);
-    let s = members::both(v.members, p); // All that qualify: counted, and handed back.
-    let r = may_commit(v, n, issued, s, b);
-    if r != 0 {
-        return Given {
-            answer: r,
-            behind: 0,
-            issued: issued,
-        };
-    }
-    let e = logstore::value(store, k, issued);
-    let t = logstore::term(store2, k, issued);
-    logstore::commit(&mut *list, &mut *list2, issued, e, t);
-    let m = issued + 1;
-    Given {
-        answer: 0,
-        behind: s,
-        issued: m,
-    }
+    let (b, behind) = may_commit(row, b)?;
+    let n = row.issued;
+    let places = p.lent();
+    let value = logstore::entry(places.store, b, n);
+    let term = logstore::entry(places.store2, b, n);
+    logstore::commit(p.list, p.list2, n, value, term);
+    row.issued = n + 1;
+    Ok(behind)
 }

@@ -1,92 +1,115 @@
 // A record and its answer in words: the writer of one English line (document 02, Paper 5). Inner layer: callers see to
 // the room, and that the answer is on the list.
-#![tactic(auto)]
+#![tactic(auto, using(text::proofs::Laws::pages))]
 
-ghost use Rattle.std.specs.Prelude.{true, ◌≡◌, ◌+◌, ◌<◌, ◌≤◌, length};
-ghost use Rattle.text.specs.Text.{Wrote};
-ghost use Rattle.model.specs.Records.{well_formed};
+ghost use Rattle.std.specs.Prelude.{true, ◌≡◌, ◌<◌, ◌≤◌, length};
+ghost use Rattle.text.specs.Text.{HasRoom, Puts};
 ghost use Rattle.records.specs.Record.{record_of};
 ghost use Rattle.phrases.specs.Phrases.{is_listed};
 ghost use Rattle.phrases.specs.Line as Line;
-ghost use Rattle.phrases.specs.Line.{step_text, head_text, verdict_text};
+ghost use Rattle.phrases.specs.Line.{step_text, raw_text, head_text, verdict_text};
 
+use form::{is_well_formed, put_board, put_second};
 use records::Record;
+use text::Page;
+use wording::{NO_STEP, put_lead, put_reason, put_trail};
 
 // Writes a step in words.
-fn put_step(out: &mut [u8], at: usize, r: Record) -> usize
-    requires { (r.step < 17) × (at + length (step_text (record_of r)) ≤ length out.old) }
-    ensures { Wrote out.old at (step_text (record_of r)) out.new result }
+#[tactic(auto, using(text::proofs::Laws::pages), unfolding(phrases::specs::Line::step_text))]
+fn put_step(page: &mut Page<'_>, r: Record)
+    requires step { r.step < 17 }
+    requires room { HasRoom page.old (step_text (record_of r)) }
+    ensures { Puts page.old (step_text (record_of r)) page.new }
 {
     let k = r.step as usize;
-    let p = wording::put_lead(&mut *out, at, k);
-    let q = form::put_board(&mut *out, p, r);
-    let e = wording::put_trail(&mut *out, q, k);
-    form::put_second(&mut *out, e, r)
+    put_lead(page, k);
+    put_board(page, r);
+    put_trail(page, k);
+    put_second(page, r);
 }
 
 // Writes a malformed record: its bytes.
-fn put_raw(out: &mut [u8], at: usize, r: Record) -> usize
-    requires { at + length (Line.raw_text (record_of r)) ≤ length out.old }
-    ensures { Wrote out.old at (Line.raw_text (record_of r)) out.new result }
+#[tactic(auto, using(text::proofs::Laws::pages), unfolding(phrases::specs::Line::raw_text))]
+fn put_raw(page: &mut Page<'_>, r: Record)
+    requires { HasRoom page.old (raw_text (record_of r)) }
+    ensures { Puts page.old (raw_text (record_of r)) page.new }
 {
-    let b = records::bytes(r);
-    let p = wording::put_lead(&mut *out, at, 16);
-    hexes::put_hexes(&mut *out, p, &b)
+    let bytes: [u8; 8] = r.into();
+    put_lead(page, NO_STEP);
+    hexes::put_hexes(page, &bytes);
 }
 
-// Writes the step of a record, or its bytes.
-fn put_head(out: &mut [u8], at: usize, r: Record, formed: bool) -> usize
-    requires { (formed ≡ well_formed (record_of r)) × (at + length (head_text (record_of r)) ≤ length out.old) }
-    ensures { Wrote out.old at (head_text (record_of r)) out.new result }
+// Writes the step of a record, or its bytes, and answers the step by whose phrases its answer is told.
+#[tactic(auto, using(text::proofs::Laws::pages, crate::proofs::Telling::last_step), unfolding(phrases::specs::Line::head_text))]
+fn put_head(page: &mut Page<'_>, r: Record) -> usize
+    requires { HasRoom page.old (head_text (record_of r)) }
+    ensures head { Puts page.old (head_text (record_of r)) page.new }
+    ensures place { result ≡ Line.place (record_of r) }
+    ensures form { result < 17 }
 {
-    if formed {
-        return put_step(&mut *out, at, r);
+    if is_well_formed(r) {
+        put_step(page, r);
+        r.step as usize
+    } else {
+        put_raw(page, r);
+        NO_STEP
     }
-    put_raw(&mut *out, at, r)
 }
 
 // Writes the answer a to the step k in words.
-fn put_verdict(out: &mut [u8], at: usize, k: usize, a: usize) -> usize
-    requires { (k < 17) × (is_listed a ≡ true) × (at + length (verdict_text k a) ≤ length out.old) }
-    ensures { Wrote out.old at (verdict_text k a) out.new result }
+#[tactic(auto, using(text::proofs::Laws::pages), unfolding(phrases::specs::Line::verdict_text))]
+fn put_verdict(page: &mut Page<'_>, k: usize, a: usize)
+    requires step { k < 17 }
+    requires listed { is_listed a ≡ true }
+    requires room { HasRoom page.old (verdict_text k a) }
+    ensures { Puts page.old (verdict_text k a) page.new }
 {
-    if a == 0 {
-        return wording::put_reason(&mut *out, at, k, a);
+    if a != 0 {
+        page.put_bytes(b"refused, ");
     }
-    let p = text::put_bytes(&mut *out, at, b"refused, ");
-    wording::put_reason(&mut *out, p, k, a)
-}
-
-// The step by whose phrases an answer is told.
-fn place(r: Record, formed: bool) -> usize
-    requires { formed ≡ well_formed (record_of r) }
-    ensures { (result ≡ Line.place (record_of r)) × (result < 17) }
-{
-    if formed {
-        return r.step as usize;
-    }
-    16
+    put_reason(page, k, a);
 }
 
 // Writes the line of a record and its answer. Inner layer: callers see to the room, and that the answer is on the list.
-pub fn put_line(out: &mut [u8], at: usize, r: Record, a: usize) -> usize
-    requires { (is_listed a ≡ true) × (at + length (Line.line (record_of r) a) ≤ length out.old) }
-    ensures { Wrote out.old at (Line.line (record_of r) a) out.new result }
+#[tactic(auto, using(text::proofs::Laws::pages), unfolding(phrases::specs::Line::line))]
+pub fn put_line(page: &mut Page<'_>, r: Record, a: usize)
+    requires listed { is_listed a ≡ true }
+    requires room { HasRoom page.old (Line.line (record_of r) a) }
+    ensures { Puts page.old (Line.line (record_of r) a) page.new }
 {
-    let w = form::is_well_formed(r);
-    let k = place(r, w);
-    let p = put_head(&mut *out, at, r, w);
-    let q = text::put_bytes(&mut *out, p, b": ");
-    let e = put_verdict(&mut *out, q, k, a);
-    text::put_byte(&mut *out, e, 10)
+    let k = put_head(page, r);
+    page.put_bytes(b": ");
+    put_verdict(page, k, a);
+    page.put_byte(b'\n');
 }
 
-// How long the line of a record and its answer is: it is written aside. Inner layer: callers see to it that the answer
-// is on the list.
-pub fn line_length(r: Record, a: usize) -> usize
-    requires { is_listed a ≡ true }
-    ensures { (result ≡ length (Line.line (record_of r) a)) × (result ≤ 96) }
-{
-    let mut aside = [0u8; 96];
-    put_line(&mut aside, 0, r, a)
+// A line, written aside: the first `length` of these bytes. No line is longer.
+#[derive(Clone, Copy)]
+pub struct Told {
+    bytes: [u8; 96],
+    length: usize,
+    ghost short: { length ≤ 96 },
+}
+
+impl Told {
+    ghost use Rattle.telling.specs.Told.{told_text};
+
+    // The line of a record and its answer. Inner layer: callers see to it that the answer is on the list.
+    #[tactic(auto, using(text::proofs::Laws::pages, crate::proofs::Telling::aside))]
+    pub fn new(r: Record, a: usize) -> Told
+        requires { is_listed a ≡ true }
+        ensures { told_text result ≡ Line.line (record_of r) a }
+    {
+        let mut bytes = [0u8; 96];
+        let mut page = Page::new(&mut bytes);
+        put_line(&mut page, r, a);
+        let length = page.at;
+        Told { bytes, length }
+    }
+
+    pub fn text(&self) -> &[u8]
+        ensures { result.now ≡ told_text self.now }
+    {
+        &self.bytes[..self.length]
+    }
 }

@@ -6,11 +6,17 @@ use Prim.Native.Nat.{ℕ, zero, suc, zero-le, ◌+◌, ◌-◌, ◌*◌, ◌/◌
 use native.Mathlib.Nat.{zero-add, add-zero, add-suc, suc-add, mul-suc, not-suc-le-zero, pow-le-pow_right}
 use native.Mathlib.Numerals.{add-one}
 use native.Mathlib.Omega.{arith}
-use lib.Dec.{ltb}
+use lib.Dec.{ltb, leb}
 use lib.ListN.{length, take, drop, set, length-append}
-use lib.Seq.{length-sets, sets-eq, length-take-le, drop_at, take-append_seam, take-set-le, drop-set-lt, set_comm}
-use borrow.Author.Tests.{lt-ltb, le-ltb, ltb-true, ltb-false, lt-leb, le-leb}
-use Rattle.text.specs.Text.{Text, over, Wrote, Delivered, each_of, digits_within, digits}
+use lib.Seq.{length-sets, sets-eq, length-take-le, drop_at, drop-drop, take-append_seam, take-set-le, drop-set-lt, set_comm}
+use borrow.Rule.Slice.PartMut.{put_mid}
+use borrow.Author.Tests.{leb-true, lt-ltb, le-ltb, ltb-true, ltb-false, lt-leb, le-leb}
+use Rattle.std.specs.Prelude.{Result, Ok, Err}
+use Rattle.refusal.specs.declared.Refusal.{Refusal}
+use Rattle.refusal.specs.declared.Refusal.TheVariants.{Room}
+use Rattle.refusal.specs.Refusal.{returned}
+use Rattle.text.specs.declared.Page.{Page}
+use Rattle.text.specs.Text.{Text, over, Wrote, Puts, HasRoom, Delivered, Delivers, each_of, digits_within, digits}
 
 -- Storing a text
 
@@ -21,6 +27,10 @@ over_none d at = refl
 pub over-one : (d : Text) (at v : ℕ) → over d at (v ∷ []) ≡ set d at v
 unfolding over
 over-one d at v = refl
+
+pub over_cons : (d : Text) (at v : ℕ) (xs : Text) → over d at (v ∷ xs) ≡ over (over d at (v ∷ [])) (at + 1) xs
+unfolding over
+over_cons d at v xs = rw (add-one at)
 
 pub over-append : (d : Text) (at : ℕ) (xs ys : Text) → over d at (xs ++ ys) ≡ over (over d at xs) (at + length xs) ys
 unfolding over
@@ -52,6 +62,14 @@ over-holds d at xs h =
     let rest = drop (at + length xs) d in
     rw (sets-eq xs d at h, append_assoc (take at d) xs rest, drop_at (take at d) (xs ++ rest) at l)
     (take-append_seam xs rest)
+
+-- A part of a slice into which a text was copied.
+pub over_part : (d xs ys : Text) (at : ℕ) → at + length xs ≤ length d → ys ≡ xs
+    → put_mid at (at + length xs - at) d ys ≡ over d at xs
+unfolding over
+over_part d xs ys at h e =
+    let n : at + length xs - at ≡ length xs = omega arith in
+    rw (e, sets-eq xs d at h, n, drop-drop (length xs) at d) (sym (append_assoc (take at d) xs (drop (at + length xs) d)))
 
 -- A store past the text may as well come before it.
 pub over-set : (d : Text) (at : ℕ) (xs : Text) (i v : ℕ) → at + length xs ≤ i
@@ -115,6 +133,43 @@ read_back {d} {xs} {e} {r} w h =
     let n : r ≡ length xs = omega (arith, w.next) in
     rw (n, w.text) (over-holds d 0 xs (omega (arith, h, n)))
 
+-- Writing on a page
+
+-- A text and another after it are one text.
+pub puts-then : {p q r : Page} {xs ys : Text} → Puts p xs q → Puts q ys r → Puts p (xs ++ ys) r
+puts-then v w = record { wrote = then v.wrote w.wrote; same = w.same ∙ v.same }
+
+pub puts-nothing : (p : Page) → Puts p [] p
+puts-nothing p = record { wrote = nothing p.out.now p.at; same = refl }
+
+-- The same text, known by another name.
+pub puts_as : {p q : Page} {xs ys : Text} → xs ≡ ys → Puts p xs q → Puts p ys q
+puts_as {p} {q} e w = subst (λ t. Puts p t q) e w
+
+pub room_as : (p : Page) {xs ys : Text} → xs ≡ ys → HasRoom p xs → HasRoom p ys
+room_as p {xs} {ys} e h = subst (λ t. p.at + length t ≤ length p.out.now) e h
+
+-- Room for two texts is room for the first, and, once it is written, for the second.
+pub room-first : (p : Page) (xs ys : Text) → HasRoom p (xs ++ ys) → HasRoom p xs
+room-first p xs ys h = fits p.at xs ys h
+
+pub room-rest : {p q : Page} (xs ys : Text) → Puts p xs q → HasRoom p (xs ++ ys) → HasRoom q ys
+room-rest xs ys w h = rest xs ys w.wrote h
+
+-- The same where what is written first is two texts, such as a number and the space after it.
+pub puts-both : {p q r : Page} (xs ys : Text) {zs : Text} → Puts p (xs ++ ys) q → Puts q zs r → Puts p (xs ++ (ys ++ zs)) r
+puts-both xs ys {zs} v w = puts_as (append_assoc xs ys zs) (puts-then v w)
+
+-- A page's slice stays as long as it was.
+pub puts-length : {p q : Page} {xs : Text} → Puts p xs q → length q.out.now ≡ length p.out.now
+puts-length w = wrote-length w.wrote
+
+-- What was written from the start of a page on is read back from there.
+pub puts_back : {p q : Page} {xs : Text} → Puts p xs q → p.at ≡ 0 → q.at ≤ length q.out.now → take q.at q.out.now ≡ xs
+puts_back {p} {q} {xs} w z h =
+    let v = subst (λ k. Wrote p.out.now k xs q.out.now q.at) z w.wrote in
+    read_back v (omega (arith, puts-length w))
+
 -- A text that is too long, and one that was written.
 pub too_long : {text out : Text} → length out < length text → Delivered text out out 3
 too_long {text} {out} h =
@@ -126,6 +181,39 @@ fitting {text} {out} h w =
     record {
       answer = w.next ∙ rw (le-leb (length text) (length out) h, zero-add (length text));
       left = w.text ∙ rw (le-leb (length text) (length out) h);
+    }
+
+-- The same for a result.
+pub not_delivered : {text out : Text} → length out < length text → Delivers text out out (Err Room)
+not_delivered {text} {out} h =
+    record { answer = rw (lt-leb (length text) (length out) h); left = rw (lt-leb (length text) (length out) h) }
+
+pub delivers-wrote : {text out out' : Text} {r : ℕ} → length text ≤ length out → Wrote out 0 text out' r
+    → Delivers text out out' (Ok r)
+delivers-wrote {text} {out} h w =
+    record {
+      answer = ap (λ k. Ok k) (w.next ∙ zero-add (length text)) ∙ rw (le-leb (length text) (length out) h);
+      left = w.text ∙ rw (le-leb (length text) (length out) h);
+    }
+
+either_returned : (b : Bool) (n : ℕ) → returned (cond b (Ok n) (Err Room)) ≡ cond b n 3
+either_returned true n = refl
+either_returned false n = refl
+
+-- A length that is handed back, of a text delivered after a check, is one within the slice.
+pub ok-within : (a t : Bool) (n m k : ℕ) (e f : Refusal) → leb n m ≡ t
+    → Ok k ≡ cond a (cond t (Ok n) (Err e)) (Err f) → k ≤ m
+ok-within true true n m k _ _ e q = let same : k ≡ n = cc in omega (arith, leb-true n m e)
+ok-within true false n m k _ _ e q = absurd cc
+ok-within false t n m k _ _ e q = absurd cc
+
+-- A text delivered by a result is delivered.
+pub delivers-returned : {text out out' : Text} {r : Result ℕ Refusal} → Delivers text out out' r
+    → Delivered text out out' (returned r)
+delivers-returned {text} {out} {out'} {r} d =
+    record {
+      answer = ap returned d.answer ∙ either_returned (leb (length text) (length out)) (length text);
+      left = d.left;
     }
 
 -- Texts of numbers, one after the other
@@ -171,6 +259,17 @@ unfolding each_of
 each_same f g zero h = refl
 each_same f g (suc n) h = ap₂ (λ x y. x ++ y) (each_same f g n (λ i q. h i (omega (arith, q)))) (h n (omega arith))
 
+-- Room for n texts is room for each after those before it.
+pub room-next : {p q : Page} (text : ℕ → Text) (i n : ℕ) → i < n → Puts p (each_of text i) q
+    → HasRoom p (each_of text n) → HasRoom q (text i)
+room-next text i n h w r = omega (arith, w.wrote.next, puts-length w, each-room text i n h, r)
+
+-- For a writer on a page, as its crate's tactic: room for what is next, and what was written so far.
+pub ruleset pages = (over_none, over_cons, over-length, over-append, length-append)
+
+-- The same for one that writes such texts in a loop, whose invariant is `Puts l.fn.page (each_of text l.i) l.page`. Room for the next is `room-next`.
+pub ruleset each_page = (over_none, over_cons, over-length, over-append, length-append, each_none, each_next)
+
 -- Digits
 
 -- What stands before the last digit matters from 10 on only.
@@ -211,6 +310,47 @@ digits-length (suc k) n h l =
     let some : 1 ≤ 10 ^ k = pow-le-pow_right (omega arith) zero-le in
     omega (arith, digits-more-length n (omega arith), digits-length k (n / 10) (omega arith) (omega arith))
 
+-- The same by each length, for a match over them.
+pub digits-length-2 : (n : ℕ) → 10 ≤ n → n < 100 → length (digits n) ≡ 2
+digits-length-2 n h l = digits-length 1 n (omega arith) (omega arith)
+
+pub digits-length-3 : (n : ℕ) → 100 ≤ n → n < 1000 → length (digits n) ≡ 3
+digits-length-3 n h l = digits-length 2 n (omega arith) (omega arith)
+
+pub digits-length-4 : (n : ℕ) → 1000 ≤ n → n < 10000 → length (digits n) ≡ 4
+digits-length-4 n h l = digits-length 3 n (omega arith) (omega arith)
+
+pub digits-length-5 : (n : ℕ) → 10000 ≤ n → n < 100000 → length (digits n) ≡ 5
+digits-length-5 n h l = digits-length 4 n (omega arith) (omega arith)
+
+pub digits-length-6 : (n : ℕ) → 100000 ≤ n → n < 1000000 → length (digits n) ≡ 6
+digits-length-6 n h l = digits-length 5 n (omega arith) (omega arith)
+
+pub digits-length-7 : (n : ℕ) → 1000000 ≤ n → n < 10000000 → length (digits n) ≡ 7
+digits-length-7 n h l = digits-length 6 n (omega arith) (omega arith)
+
+pub digits-length-8 : (n : ℕ) → 10000000 ≤ n → n < 100000000 → length (digits n) ≡ 8
+digits-length-8 n h l = digits-length 7 n (omega arith) (omega arith)
+
+pub digits-length-9 : (n : ℕ) → 100000000 ≤ n → n < 1000000000 → length (digits n) ≡ 9
+digits-length-9 n h l = digits-length 8 n (omega arith) (omega arith)
+
+pub digits-length-10 : (n : ℕ) → 1000000000 ≤ n → n < 2 ^ 32 → length (digits n) ≡ 10
+digits-length-10 n h l = digits-length 9 n (omega arith) (omega arith)
+
+pub ruleset digit_lengths = (
+  digits-one-length,
+  digits-length-2,
+  digits-length-3,
+  digits-length-4,
+  digits-length-5,
+  digits-length-6,
+  digits-length-7,
+  digits-length-8,
+  digits-length-9,
+  digits-length-10,
+)
+
 -- One digit more than n / 10 has, or one.
 next : (t : Bool) (k n : ℕ) → ltb n 10 ≡ t → (10 ≤ n → length (digits (n / 10)) ≤ k) → length (digits n) ≤ suc k
 next true k n e p = omega (arith, digits-one-length n (ltb-true n 10 e))
@@ -226,6 +366,18 @@ digits-most-4 n h = digits-most 3 n h
 
 pub digits-most-10 : (n : ℕ) → n < 2 ^ 32 → length (digits n) ≤ 10
 digits-most-10 n h = digits-most 9 n (omega arith)
+
+-- The last digit of n may be stored before the others.
+pub last_first : (d : Text) (at i n : ℕ) → 10 ≤ n → i ≡ at + length (digits (n / 10))
+    → over (set d i (48 + n % 10)) at (digits (n / 10)) ≡ over d at (digits n)
+last_first d at i n h e =
+    let xs = digits (n / 10) in
+    over-set d at xs i (48 + n % 10) (omega arith)
+    ∙ sym (rw (digits_more n h, over-append d at xs ((48 + n % 10) ∷ []), ← e, over-one (over d at xs) i (48 + n % 10)))
+
+-- Where n is one digit, that digit is left to store.
+pub last_one : (d : Text) (at n : ℕ) → n < 10 → set d at (48 + n) ≡ over d at (digits n)
+last_one d at n h = sym (rw (digits-one n h, over-one d at (48 + n)))
 
 -- The definition, tried.
 tried : (digits 0 ≡ 48 ∷ []) × (digits 4095 ≡ 52 ∷ 48 ∷ 57 ∷ 53 ∷ []) × (length (digits 4294967295) ≡ 10)

@@ -2,8 +2,11 @@
 -- Assumes nothing.
 -- io's `digits` is not used: it takes the number of places, which no definition there gives for n, and io's writer
 -- fills an array of 20 from its start.
-use Rattle.std.specs.Prelude.{cond, List, [], ◌∷◌, ◌++◌, ◌≡◌, ℕ, zero, suc, ◌+◌, ◌/◌, ◌%◌, leb, ltb, length}
+use Rattle.std.specs.Prelude.{cond, List, [], ◌∷◌, ◌++◌, ◌≡◌, ℕ, zero, suc, ◌+◌, ◌/◌, ◌%◌, ◌≤◌, leb, ltb, length, Result, Ok, Err}
 use Rattle.std.proofs.lemmas.List.Edits.{sets}
+use Rattle.refusal.specs.declared.Refusal.{Refusal}
+use Rattle.refusal.specs.declared.Refusal.TheVariants.{Room}
+use Rattle.text.specs.declared.Page.{Page}
 
 -- A text is a list of bytes; a slice's contents are one.
 abbrev pub Text : Type 0
@@ -23,6 +26,11 @@ pub record Delivered (text out out' : Text) (r : ℕ) : Type 0 where
   pub answer : r ≡ cond (leb (length text) (length out)) (length text) 3
   pub left : out' ≡ cond (leb (length text) (length out)) (over out 0 text) out
 
+-- The same, told by a result.
+pub record Delivers (text out out' : Text) (r : Result ℕ Refusal) : Type 0 where
+  pub answer : r ≡ cond (leb (length text) (length out)) (Ok (length text)) (Err Room)
+  pub left : out' ≡ cond (leb (length text) (length out)) (over out 0 text) out
+
 -- The texts of 0 to n - 1, one after the other.
 unfoldable pub each_of : (ℕ → Text) → ℕ → Text
 each_of text zero = []
@@ -37,3 +45,12 @@ digits_within (suc k) n =
 -- The decimal digits of n, with no leading zero, 0 as one digit: n + 1 are always enough.
 unfoldable pub digits : ℕ → Text
 digits n = digits_within (suc n) n
+
+-- The text xs was written on the page p, which became q: at its place, over the slice that it was lent.
+pub record Puts (p : Page) (xs : Text) (q : Page) : Type 0 where
+  pub wrote : Wrote p.out.now p.at xs q.out.now q.at
+  pub same : q.out.ghost_name ≡ p.out.ghost_name
+
+-- The page p has room for the text xs.
+abbrev pub HasRoom : Page → Text → Type 0
+HasRoom p xs = p.at + length xs ≤ length p.out.now

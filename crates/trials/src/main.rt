@@ -5,450 +5,290 @@
 
 use cluster::Cluster;
 use records::Record;
+use refinement::{Lent, LentMut};
+use refusal::Refusal;
 use std::io;
 
-// The answer n and a space.
-fn show(rt: &impl Print, n: u8) -> io::Result<()> {
-    let tens = 48 + n / 10 % 10;
-    let ones = 48 + n % 10;
-    if n < 10 {
-        let one = [ones, 32];
-        return rt.write_all(&one);
+// A row, and the places that are lent with it.
+#[derive(Clone, Copy)]
+struct Trial {
+    row: Cluster,
+    store: [u32; 4096],
+    store2: [u16; 4096],
+    list: [u32; 512],
+    list2: [u16; 512],
+}
+
+// Members 1 to 4, leader 1, normal, news taken, logs empty: of a row opened with board 1.
+const FOUR_READY: [[u8; 4]; 13] = [
+    [3, 2, 0, 0],
+    [3, 3, 0, 0],
+    [3, 4, 0, 0],
+    [10, 0, 0, 0],
+    [6, 1, 0, 0],
+    [11, 0, 0, 0],
+    [12, 2, 0, 0],
+    [12, 3, 0, 0],
+    [13, 0, 0, 0],
+    [6, 1, 0, 0],
+    [6, 2, 0, 0],
+    [6, 3, 0, 0],
+    [6, 4, 0, 0],
+];
+
+// A record in short: step, board, second board, value.
+fn record(short: [u8; 4]) -> Record {
+    let [step, board, other, value] = short;
+    Record {
+        step,
+        board,
+        other,
+        spare: 0,
+        value: value as u32,
     }
-    let two = [tens, ones, 32];
-    rt.write_all(&two)
 }
 
-fn wide(x: u8) -> u32 {
-    x as u32
-}
-
-// One record: its step, board, second board and value. The row goes on, and the answer is shown.
-fn tell(
-    rt: &impl Print,
-    row: Cluster,
-    store: &mut [u32],
-    store2: &mut [u16],
-    list: &mut [u32],
-    list2: &mut [u16],
-    r: [u8; 4],
-) -> io::Result<Cluster> {
-    let v = r[3];
-    let x = steps::step(
-        row,
-        &mut *store,
-        &mut *store2,
-        &mut *list,
-        &mut *list2,
-        Record {
-            step: r[0],
-            board: r[1],
-            other: r[2],
-            spare: 0,
-            value: wide(v),
-        },
-    );
-    show(rt, x.answer)?;
-    Ok(x.row)
-}
-
-// Records in short, four bytes each: step, board, second board, value.
-fn play(
-    rt: &impl Print,
-    row: Cluster,
-    store: &mut [u32],
-    store2: &mut [u16],
-    list: &mut [u32],
-    list2: &mut [u16],
-    sheet: &[u8],
-) -> io::Result<Cluster> {
-    let mut now = row;
-    let mut i: usize = 0;
-    while i < sheet.len() / 4 {
-        let k = 4 * i;
-        i += 1;
-        let r = [sheet[k], sheet[k + 1], sheet[k + 2], sheet[k + 3]];
-        let next = tell(
-            rt,
-            now,
-            &mut *store,
-            &mut *store2,
-            &mut *list,
-            &mut *list2,
-            r,
-        )?;
-        now = next;
+// The answer to a step: 0, or the refusal's number.
+fn number(x: Result<u8, Refusal>) -> u8 {
+    match x {
+        Ok(_) => 0,
+        Err(e) => e.number(),
     }
-    Ok(now)
 }
 
-// One record after the other, with no answer shown.
-fn both(
-    row: Cluster,
-    store: &mut [u32],
-    store2: &mut [u16],
-    list: &mut [u32],
-    list2: &mut [u16],
-    a: Record,
-    b: Record,
-) -> Cluster {
-    let x = steps::step(row, &mut *store, &mut *store2, &mut *list, &mut *list2, a);
-    let mid = x.row;
-    let y = steps::step(mid, &mut *store, &mut *store2, &mut *list, &mut *list2, b);
-    y.row
-}
-
-// Two records in turn, so many times.
-fn turns(
-    row: Cluster,
-    store: &mut [u32],
-    store2: &mut [u16],
-    list: &mut [u32],
-    list2: &mut [u16],
-    a: Record,
-    b: Record,
-    times: u32,
-) -> Cluster {
-    let mut now = row;
-    let mut i: u32 = 0;
-    while i < times {
-        i += 1;
-        let next = both(
-            now,
-            &mut *store,
-            &mut *store2,
-            &mut *list,
-            &mut *list2,
-            a,
-            b,
-        );
-        now = next;
+impl Trial {
+    // A record's step: its answer.
+    fn step(&mut self, short: [u8; 4]) -> u8 {
+        let mut p = LentMut {
+            store: &mut self.store,
+            store2: &mut self.store2,
+            list: &mut self.list,
+            list2: &mut self.list2,
+        };
+        number(steps::step(&mut self.row, &mut p, record(short)))
     }
-    now
-}
 
-fn opened(b: u8) -> Cluster {
-    let x = steps::opening(b);
-    x.row
-}
+    // Records one after the other, each answer shown.
+    fn play(&mut self, rt: &impl Print, sheet: &[[u8; 4]]) -> io::Result<()> {
+        for short in sheet {
+            let answer = self.step(*short);
+            print!(rt; "{answer} ")?;
+        }
+        Ok(())
+    }
 
-// Shows the registry's epoch, which is below 256 here.
-fn epoch(rt: &impl Print, row: Cluster) -> io::Result<()> {
-    let g = row.registry;
-    let v = g.view;
-    rt.write_all(b"epoch ")?;
-    show(rt, (v.epoch % 256) as u8)
-}
+    // Two records in turn, so many times, with no answer shown.
+    fn alternate(&mut self, a: [u8; 4], b: [u8; 4], times: u32) {
+        for _ in 0..times {
+            self.step(a);
+            self.step(b);
+        }
+    }
 
-// Shows the registry's leader.
-fn leader(rt: &impl Print, row: Cluster) -> io::Result<()> {
-    let g = row.registry;
-    let v = g.view;
-    rt.write_all(b"leader ")?;
-    show(rt, v.leader)
-}
-
-// Shows the length of board 4's log.
-fn length(rt: &impl Print, row: Cluster) -> io::Result<()> {
-    rt.write_all(b"length ")?;
-    show(rt, (row.len[3] % 256) as u8)
-}
-
-// Shows the opening call's answer.
-fn answer(rt: &impl Print, b: u8) -> io::Result<()> {
-    let x = steps::opening(b);
-    show(rt, x.answer)
-}
-
-// A trial by itself: its name, and its records after an opening with board 1.
-fn trial(rt: &impl Print, name: &[u8], sheet: &[u8]) -> io::Result<()> {
-    let mut store = [7u32; 4096];
-    let mut store2 = [65535u16; 4096];
-    let mut list = [7u32; 512];
-    let mut list2 = [65535u16; 512];
-    rt.write_all(name)?;
-    play(
-        rt,
-        opened(1),
-        &mut store,
-        &mut store2,
-        &mut list,
-        &mut list2,
-        sheet,
-    )?;
-    Ok(())
+    // Shows how long the shown list is, and its last entry, value and term.
+    fn show_last(&self, rt: &impl Print) -> io::Result<()> {
+        let p = Lent {
+            store: &self.store,
+            store2: &self.store2,
+            list: &self.list,
+            list2: &self.list2,
+        };
+        let values = shown::visible(&self.row, p);
+        print!(rt; "shown {} ", values.len())?;
+        if let Some(value) = values.last() {
+            print!(rt; "{value} ")?;
+        }
+        if let Some(term) = shown::visible_terms(&self.row, p).last() {
+            print!(rt; "{term} ")?;
+        }
+        Ok(())
+    }
 }
 
 fn main(rt: HostRuntime) -> io::Result<()> {
-    rt.write_all(b"P2 ")?;
-    answer(&rt, 0)?;
-    answer(&rt, 9)?;
-    answer(&rt, 8)?;
-    let p3 = [2u8, 1, 0, 0, 1, 1, 0, 41, 2, 1, 0, 0];
-    trial(&rt, b"\nP3 ", &p3)?;
-    let p4 = [1u8, 2, 0, 41];
-    trial(&rt, b"\nP4 ", &p4)?;
-    let p5 = [5u8, 0, 0, 0, 4, 1, 0, 0, 4, 2, 0, 0];
-    trial(&rt, b"\nP5 ", &p5)?;
-    let p6 = [3u8, 2, 0, 0, 3, 2, 0, 0];
-    trial(&rt, b"\nP6 ", &p6)?;
-    longer(&rt)?;
-    full(&rt)?;
-    worn(&rt)?;
-    four(&rt)?;
-    sales(&rt)?;
-    vacant(&rt)?;
-    kept(&rt)
+    print!(rt; "P2 ")?;
+    for b in [0, 9, 8] {
+        let answer = match steps::opening(b) {
+            Ok(_) => 0,
+            Err(e) => e.number(),
+        };
+        print!(rt; "{answer} ")?;
+    }
+    let Ok(row) = steps::opening(1) else {
+        return Ok(());
+    };
+    let opened = Trial {
+        row,
+        store: [7; 4096],
+        store2: [65535; 4096],
+        list: [7; 512],
+        list2: [65535; 512],
+    };
+    by_itself(
+        &rt,
+        opened,
+        "P3",
+        &[[2, 1, 0, 0], [1, 1, 0, 41], [2, 1, 0, 0]],
+    )?;
+    by_itself(&rt, opened, "P4", &[[1, 2, 0, 41]])?;
+    by_itself(
+        &rt,
+        opened,
+        "P5",
+        &[[5, 0, 0, 0], [4, 1, 0, 0], [4, 2, 0, 0]],
+    )?;
+    by_itself(&rt, opened, "P6", &[[3, 2, 0, 0], [3, 2, 0, 0]])?;
+    longer(&rt, opened)?;
+    full(&rt, opened)?;
+    worn(&rt, opened)?;
+    four(&rt, opened)?;
+    sales(&rt, opened)?;
+    vacant(&rt, opened)?;
+    kept(&rt, opened)
+}
+
+// A trial by itself: its name, and its records after an opening with board 1.
+fn by_itself(rt: &impl Print, mut t: Trial, name: &str, sheet: &[[u8; 4]]) -> io::Result<()> {
+    print!(rt; "\n{name} ")?;
+    t.play(rt, sheet)
 }
 
 // The trials that go on from each other.
-fn longer(rt: &impl Print) -> io::Result<()> {
-    let mut store = [7u32; 4096];
-    let mut store2 = [65535u16; 4096];
-    let mut list = [7u32; 512];
-    let mut list2 = [65535u16; 512];
-    rt.write_all(b"\nP7 ")?;
-    let p7 = [
-        3u8, 2, 0, 0, 5, 0, 0, 0, 11, 0, 0, 0, 10, 0, 0, 0, 11, 0, 0, 0, 6, 1, 0, 0, 11, 0, 0, 0,
-    ];
-    let a = play(
+fn longer(rt: &impl Print, mut t: Trial) -> io::Result<()> {
+    print!(rt; "\nP7 ")?;
+    t.play(
         rt,
-        opened(1),
-        &mut store,
-        &mut store2,
-        &mut list,
-        &mut list2,
-        &p7,
+        &[
+            [3, 2, 0, 0],
+            [5, 0, 0, 0],
+            [11, 0, 0, 0],
+            [10, 0, 0, 0],
+            [11, 0, 0, 0],
+            [6, 1, 0, 0],
+            [11, 0, 0, 0],
+        ],
     )?;
-    rt.write_all(b"\nP8 ")?;
-    let p8 = [13u8, 0, 0, 0, 12, 2, 0, 0, 13, 0, 0, 0];
-    let b = play(rt, a, &mut store, &mut store2, &mut list, &mut list2, &p8)?;
-    epoch(rt, b)?;
-    rt.write_all(b"\nP9 ")?;
-    let p9 = [5u8, 0, 0, 0];
-    let c = play(rt, b, &mut store, &mut store2, &mut list, &mut list2, &p9)?;
-    leader(rt, c)?;
-    epoch(rt, c)
+    print!(rt; "\nP8 ")?;
+    t.play(rt, &[[13, 0, 0, 0], [12, 2, 0, 0], [13, 0, 0, 0]])?;
+    print!(rt; "epoch {} ", t.row.registry.view.epoch)?;
+    print!(rt; "\nP9 ")?;
+    t.play(rt, &[[5, 0, 0, 0]])?;
+    let view = t.row.registry.view;
+    print!(rt; "leader {} epoch {} ", view.leader, view.epoch)
 }
 
 // A log that gets full.
-fn full(rt: &impl Print) -> io::Result<()> {
-    let mut store = [7u32; 4096];
-    let mut store2 = [65535u16; 4096];
-    let mut list = [7u32; 512];
-    let mut list2 = [65535u16; 512];
-    rt.write_all(b"\nfull ")?;
-    let append = Record {
-        step: 1,
-        board: 1,
-        other: 0,
-        spare: 0,
-        value: 5,
-    };
-    let a = turns(
-        opened(1),
-        &mut store,
-        &mut store2,
-        &mut list,
-        &mut list2,
-        append,
-        append,
-        255,
-    );
-    let last = [1u8, 1, 0, 9, 1, 1, 0, 9, 1, 1, 0, 9];
-    play(rt, a, &mut store, &mut store2, &mut list, &mut list2, &last)?;
-    Ok(())
+fn full(rt: &impl Print, mut t: Trial) -> io::Result<()> {
+    print!(rt; "\nfull ")?;
+    t.alternate([1, 1, 0, 5], [1, 1, 0, 5], 255);
+    t.play(rt, &[[1, 1, 0, 9], [1, 1, 0, 9], [1, 1, 0, 9]])
 }
 
 // Epochs that are used up.
-fn worn(rt: &impl Print) -> io::Result<()> {
-    let mut store = [7u32; 4096];
-    let mut store2 = [65535u16; 4096];
-    let mut list = [7u32; 512];
-    let mut list2 = [65535u16; 512];
-    rt.write_all(b"\nworn ")?;
-    let add = Record {
-        step: 3,
-        board: 2,
-        other: 0,
-        spare: 0,
-        value: 0,
-    };
-    let remove = Record {
-        step: 4,
-        board: 2,
-        other: 0,
-        spare: 0,
-        value: 0,
-    };
-    let b = turns(
-        opened(1),
-        &mut store,
-        &mut store2,
-        &mut list,
-        &mut list2,
-        add,
-        remove,
-        1999,
-    );
-    let end = [3u8, 2, 0, 0, 4, 2, 0, 0];
-    play(rt, b, &mut store, &mut store2, &mut list, &mut list2, &end)?;
-    Ok(())
-}
-
-// Members 1 to 4, leader 1, normal, news taken, logs empty.
-fn four_ready(
-    rt: &impl Print,
-    store: &mut [u32],
-    store2: &mut [u16],
-    list: &mut [u32],
-    list2: &mut [u16],
-) -> io::Result<Cluster> {
-    let ready = [
-        3u8, 2, 0, 0, 3, 3, 0, 0, 3, 4, 0, 0, 10, 0, 0, 0, 6, 1, 0, 0, 11, 0, 0, 0, 12, 2, 0, 0,
-        12, 3, 0, 0, 13, 0, 0, 0, 6, 1, 0, 0, 6, 2, 0, 0, 6, 3, 0, 0, 6, 4, 0, 0,
-    ];
-    play(
-        rt,
-        opened(1),
-        &mut *store,
-        &mut *store2,
-        &mut *list,
-        &mut *list2,
-        &ready,
-    )
+fn worn(rt: &impl Print, mut t: Trial) -> io::Result<()> {
+    print!(rt; "\nworn ")?;
+    t.alternate([3, 2, 0, 0], [4, 2, 0, 0], 1999);
+    t.play(rt, &[[3, 2, 0, 0], [4, 2, 0, 0]])
 }
 
 // The last case: four boards.
-fn four(rt: &impl Print) -> io::Result<()> {
-    let mut store = [7u32; 4096];
-    let mut store2 = [65535u16; 4096];
-    let mut list = [7u32; 512];
-    let mut list2 = [65535u16; 512];
-    rt.write_all(b"\nfour ")?;
-    let a = four_ready(rt, &mut store, &mut store2, &mut list, &mut list2)?;
-    let rest = [
-        1u8, 1, 0, 41, 8, 4, 0, 0, 5, 0, 0, 0, 6, 2, 0, 0, 6, 3, 0, 0, 10, 0, 0, 0, 14, 2, 0, 0,
-        14, 3, 0, 0, 15, 2, 0, 0, 6, 2, 0, 0, 1, 2, 0, 42, 6, 4, 0, 0, 9, 2, 4, 0, 7, 4, 0, 0,
-    ];
-    let b = play(rt, a, &mut store, &mut store2, &mut list, &mut list2, &rest)?;
-    length(rt, b)
-}
-
-// Shows how long the shown list is, and its last entry, value and term; all are below 256 here.
-fn last<'a>(
-    rt: &impl Print,
-    row: Cluster,
-    store: &'a [u32],
-    store2: &'a [u16],
-    list: &'a [u32],
-    list2: &'a [u16],
-) -> io::Result<()> {
-    rt.write_all(b"shown ")?;
-    let v = shown::visible(row, store, store2, list, list2);
-    show(rt, (v.len() % 256) as u8)?;
-    if 0 < v.len() {
-        show(rt, (v[v.len() - 1] % 256) as u8)?;
-    }
-    let t = shown::visible_terms(row, store, store2, list, list2);
-    if 0 < t.len() {
-        show(rt, (t[t.len() - 1] % 256) as u8)?;
-    }
-    Ok(())
+fn four(rt: &impl Print, mut t: Trial) -> io::Result<()> {
+    print!(rt; "\nfour ")?;
+    t.play(rt, &FOUR_READY)?;
+    t.play(
+        rt,
+        &[
+            [1, 1, 0, 41],
+            [8, 4, 0, 0],
+            [5, 0, 0, 0],
+            [6, 2, 0, 0],
+            [6, 3, 0, 0],
+            [10, 0, 0, 0],
+            [14, 2, 0, 0],
+            [14, 3, 0, 0],
+            [15, 2, 0, 0],
+            [6, 2, 0, 0],
+            [1, 2, 0, 42],
+            [6, 4, 0, 0],
+            [9, 2, 4, 0],
+            [7, 4, 0, 0],
+        ],
+    )?;
+    print!(rt; "length {} ", t.row.len[3])
 }
 
 // Document 02, Paper 4: 1 appends 40, which 2 and 4 receive, then 41, which 4 alone receives. 2 leads, under leader
 // epoch 7, and appends 41 too. Board 4's own 41 is another sale: it joins, and its log is cut to 40. Then it receives
 // the sale of 2, is counted, and two receipts are given.
-fn sales(rt: &impl Print) -> io::Result<()> {
-    let mut store = [7u32; 4096];
-    let mut store2 = [65535u16; 4096];
-    let mut list = [7u32; 512];
-    let mut list2 = [65535u16; 512];
-    rt.write_all(b"\nsales ")?;
-    let a = four_ready(rt, &mut store, &mut store2, &mut list, &mut list2)?;
-    let rest = [
-        1u8, 1, 0, 40, 8, 2, 0, 0, 8, 4, 0, 0, 1, 1, 0, 41, 8, 4, 0, 0, 5, 0, 0, 0, 6, 2, 0, 0, 6,
-        3, 0, 0, 10, 0, 0, 0, 14, 2, 0, 0, 14, 3, 0, 0, 15, 2, 0, 0, 6, 2, 0, 0, 1, 2, 0, 41, 6, 4,
-        0, 0, 7, 4, 0, 0,
-    ];
-    let b = play(rt, a, &mut store, &mut store2, &mut list, &mut list2, &rest)?;
-    length(rt, b)?;
-    let end = [8u8, 4, 0, 0, 9, 2, 4, 0, 2, 2, 0, 0, 2, 2, 0, 0];
-    let c = play(rt, b, &mut store, &mut store2, &mut list, &mut list2, &end)?;
-    last(rt, c, &store, &store2, &list, &list2)
+fn sales(rt: &impl Print, mut t: Trial) -> io::Result<()> {
+    print!(rt; "\nsales ")?;
+    t.play(rt, &FOUR_READY)?;
+    t.play(
+        rt,
+        &[
+            [1, 1, 0, 40],
+            [8, 2, 0, 0],
+            [8, 4, 0, 0],
+            [1, 1, 0, 41],
+            [8, 4, 0, 0],
+            [5, 0, 0, 0],
+            [6, 2, 0, 0],
+            [6, 3, 0, 0],
+            [10, 0, 0, 0],
+            [14, 2, 0, 0],
+            [14, 3, 0, 0],
+            [15, 2, 0, 0],
+            [6, 2, 0, 0],
+            [1, 2, 0, 41],
+            [6, 4, 0, 0],
+            [7, 4, 0, 0],
+        ],
+    )?;
+    print!(rt; "length {} ", t.row.len[3])?;
+    t.play(
+        rt,
+        &[[8, 4, 0, 0], [9, 2, 4, 0], [2, 2, 0, 0], [2, 2, 0, 0]],
+    )?;
+    t.show_last(rt)
 }
 
 // While no leader is named the receipts are shown: 1 appends 41, 2 and 3 receive it and are counted, a receipt is
 // given, and the leader is changed.
-fn vacant(rt: &impl Print) -> io::Result<()> {
-    let mut store = [7u32; 4096];
-    let mut store2 = [65535u16; 4096];
-    let mut list = [7u32; 512];
-    let mut list2 = [65535u16; 512];
-    rt.write_all(b"\nvacant ")?;
-    let a = four_ready(rt, &mut store, &mut store2, &mut list, &mut list2)?;
-    let rest = [
-        1u8, 1, 0, 41, 8, 2, 0, 0, 8, 3, 0, 0, 9, 1, 2, 0, 9, 1, 3, 0, 2, 1, 0, 0, 5, 0, 0, 0,
-    ];
-    let b = play(rt, a, &mut store, &mut store2, &mut list, &mut list2, &rest)?;
-    last(rt, b, &store, &store2, &list, &list2)
+fn vacant(rt: &impl Print, mut t: Trial) -> io::Result<()> {
+    print!(rt; "\nvacant ")?;
+    t.play(rt, &FOUR_READY)?;
+    t.play(
+        rt,
+        &[
+            [1, 1, 0, 41],
+            [8, 2, 0, 0],
+            [8, 3, 0, 0],
+            [9, 1, 2, 0],
+            [9, 1, 3, 0],
+            [2, 1, 0, 0],
+            [5, 0, 0, 0],
+        ],
+    )?;
+    t.show_last(rt)
 }
 
 // Kept epochs: 1 appends 41; a receipt with that entry's epoch made 0, 4,001 and 4,000; adding 2 with the receipt's
 // made 0 and 1. A refused row shows nothing.
-fn kept(rt: &impl Print) -> io::Result<()> {
-    let mut store = [7u32; 4096];
-    let mut store2 = [65535u16; 4096];
-    let mut list = [7u32; 512];
-    let mut list2 = [65535u16; 512];
-    rt.write_all(b"\nkept ")?;
-    let append = [1u8, 1, 0, 41];
-    let receipt = [2u8, 1, 0, 0];
-    let add = [3u8, 2, 0, 0];
-    let a = play(
-        rt,
-        opened(1),
-        &mut store,
-        &mut store2,
-        &mut list,
-        &mut list2,
-        &append,
-    )?;
-    store2[0] = 0;
-    let b = play(
-        rt,
-        a,
-        &mut store,
-        &mut store2,
-        &mut list,
-        &mut list2,
-        &receipt,
-    )?;
-    last(rt, b, &store, &store2, &list, &list2)?;
-    store2[0] = 4001;
-    let c = play(
-        rt,
-        b,
-        &mut store,
-        &mut store2,
-        &mut list,
-        &mut list2,
-        &receipt,
-    )?;
-    store2[0] = 4000;
-    let d = play(
-        rt,
-        c,
-        &mut store,
-        &mut store2,
-        &mut list,
-        &mut list2,
-        &receipt,
-    )?;
-    list2[0] = 0;
-    let e = play(rt, d, &mut store, &mut store2, &mut list, &mut list2, &add)?;
-    list2[0] = 1;
-    play(rt, e, &mut store, &mut store2, &mut list, &mut list2, &add)?;
-    rt.write_all(b"\n")
+fn kept(rt: &impl Print, mut t: Trial) -> io::Result<()> {
+    let receipt = [2, 1, 0, 0];
+    let add = [3, 2, 0, 0];
+    print!(rt; "\nkept ")?;
+    t.play(rt, &[[1, 1, 0, 41]])?;
+    t.store2[0] = 0;
+    t.play(rt, &[receipt])?;
+    t.show_last(rt)?;
+    t.store2[0] = 4001;
+    t.play(rt, &[receipt])?;
+    t.store2[0] = 4000;
+    t.play(rt, &[receipt])?;
+    t.list2[0] = 0;
+    t.play(rt, &[add])?;
+    t.list2[0] = 1;
+    t.play(rt, &[add])?;
+    println!(rt; "")
 }

@@ -1,3 +1,1 @@
-pub mod Parts
-pub mod Words
-pub mod Places
+pub mod Tables

@@ -1,224 +1,192 @@
 // The phrase list as bytes: the words of the steps, and those of the answers. phrases/specs/Phrases.antt has the same
-// list, and the proofs hold the two together. Inner layer: callers see to the room and to places in the lists.
-#![tactic(auto)]
+// list, and the contracts of `forms` and `reasons` hold the two together. Inner layer: callers see to the room and to
+// places in the lists.
+#![tactic(auto, using(text::proofs::Laws::pages))]
 
-ghost use Rattle.std.specs.Prelude.{true, ◌&&◌, ◌≡◌, ◌+◌, ◌-◌, ◌/◌, ◌%◌, ◌^◌, ◌<◌, ◌≤◌, eqb, length, take, drop, get_or};
-ghost use Rattle.text.specs.Text.{Wrote};
-ghost use Rattle.lines.specs.Lines.{word};
-ghost use Rattle.phrases.specs.Phrases.{reasons, is_listed};
+ghost use Rattle.std.specs.Prelude.{true, ◌≡◌, ◌<◌};
+ghost use Rattle.text.specs.Text.{HasRoom, Puts};
+ghost use Rattle.phrases.specs.Phrases.{is_listed};
 ghost use Rattle.phrases.specs.Line.{lead_text, trail_text, reason_text};
-ghost use Rattle.phrases.specs.Layout.{reason_at, piece_text};
+ghost use Rattle.wording.specs.Tables.{HoldsForms, HoldsReasons};
 
-// Where the words of the steps begin, for each form its lead and its trail. The last number is their end.
-#[rattlefmt::skip]
-const PIECES: [usize; 35] = [
-    0, 19, 19, 25, 40, 46, 62, 72, 72, 85, 85, 98,
-    98, 104, 115, 121, 127, 133, 151, 157, 171, 192, 192, 215,
-    215, 238, 238, 248, 248, 271, 271, 285, 285, 291, 291,
-];
+use text::Page;
 
-// The answer of each phrase,
-#[rattlefmt::skip]
-const ANSWERS: [u8; 57] = [
-    0, 1, 1, 1, 2, 3, 4, 4, 4, 5, 5, 5, 5, 5, 5, 5,
-    6, 6, 6, 6, 7, 8, 8, 8, 9, 9, 10, 10, 10, 11, 11, 11,
-    11, 11, 12, 12, 12, 12, 12, 12, 13, 13, 14, 14, 14, 14, 15, 15,
-    15, 15, 16, 16, 16, 16, 17, 18, 19,
-];
-
-// the steps that it is for, a bit each: step 0 is the lowest, bit 16 is for malformed records,
-#[rattlefmt::skip]
-const STEPS: [u32; 57] = [
-    131071, 1, 65536, 131071, 131071, 131071, 24, 32,
-    131071, 8, 16, 128, 256, 512, 53248, 131071,
-    16, 32, 4096, 131071, 131071, 6, 512, 131071,
-    384, 131071, 384, 512, 131071, 128, 256, 512,
-    4096, 131071, 4, 1088, 256, 512, 20480, 131071,
-    2, 131071, 4, 8192, 32768, 131071, 2048, 12288,
-    49152, 131071, 2048, 16384, 40960, 131071, 131071, 131071,
-    131071,
-];
-
-// and where its words begin. The last number is their end.
-#[rattlefmt::skip]
-const PHRASES: [usize; 58] = [
-    0, 8, 48, 77, 118, 166, 205, 229, 264, 303, 332, 357,
-    391, 448, 497, 547, 575, 598, 630, 678, 706, 739, 775, 827,
-    868, 893, 923, 958, 1001, 1025, 1069, 1113, 1172, 1220, 1245, 1284,
-    1314, 1354, 1406, 1453, 1467, 1482, 1495, 1553, 1622, 1687, 1714, 1751,
-    1788, 1827, 1861, 1909, 1950, 1994, 2011, 2039, 2073, 2116,
-];
-
-// Writes the bytes of list from place a on and before place e.
-fn put_part(out: &mut [u8], at: usize, list: &[u8], a: usize, e: usize) -> usize
-    requires { (a ≤ e) × (e ≤ length list.now) × (at + (e - a) ≤ length out.old) }
-    ensures { Wrote out.old at (take (e - a) (drop a list.now)) out.new result }
-{
-    text::put_bytes(&mut *out, at, &list[a..e])
+// A step in words: what stands before the number of its board, and what after it.
+struct Form {
+    lead: &'static [u8],
+    trail: &'static [u8],
 }
 
-// Writes the words at place i, two a form. Inner layer: callers see to the room, and that i is such a place.
-fn put_piece(out: &mut [u8], at: usize, i: usize) -> usize
-    requires { (i < 34) × (at + length (piece_text i) ≤ length out.old) }
-    ensures { Wrote out.old at (piece_text i) out.new result }
+// The steps by number, from 0 on, and at 16 what is no step.
+#[rattlefmt::skip]
+static FORMS: [Form; 17] = [
+    Form { lead: b"opening with board ", trail: b"" },
+    Form { lead: b"board ", trail: b" appends value " },
+    Form { lead: b"board ", trail: b" gives a receipt" },
+    Form { lead: b"add board ", trail: b"" },
+    Form { lead: b"remove board ", trail: b"" },
+    Form { lead: b"change leader", trail: b"" },
+    Form { lead: b"board ", trail: b" takes news" },
+    Form { lead: b"board ", trail: b" joins" },
+    Form { lead: b"board ", trail: b" receives an entry" },
+    Form { lead: b"board ", trail: b" counts board " },
+    Form { lead: b"controller takes news", trail: b"" },
+    Form { lead: b"controller reads leader", trail: b"" },
+    Form { lead: b"controller reads board ", trail: b"" },
+    Form { lead: b"set normal", trail: b"" },
+    Form { lead: b"controller hears board ", trail: b"" },
+    Form { lead: b"install board ", trail: b"" },
+    Form { lead: b"record", trail: b"" },
+];
+
+#[tactic(auto, unfolding(crate::specs::Tables::HoldsForms))]
+fn forms() -> &'static [Form]
+    ensures { HoldsForms result.now }
 {
-    let a = PIECES[i];
-    let e = PIECES[i + 1];
-    put_part(
-        &mut *out,
-        at,
-        b"opening with board \
-            board  appends value \
-            board  gives a receipt\
-            add board \
-            remove board \
-            change leader\
-            board  takes news\
-            board  joins\
-            board  receives an entry\
-            board  counts board \
-            controller takes news\
-            controller reads leader\
-            controller reads board \
-            set normal\
-            controller hears board \
-            install board \
-            record",
-        a,
-        e,
-    )
+    &FORMS
+}
+
+// A phrase: its answer, the steps that it is for, its words. Answers and steps stay numbers, as C and a sheet have them:
+// any may come in, and not each refusal is on the list.
+struct Reason {
+    answer: usize,
+    steps: &'static [usize],
+    words: &'static [u8],
+}
+
+impl Reason {
+    ghost use Rattle.phrases.specs.Phrases.{has};
+    ghost use Rattle.std.specs.Prelude.{◌&&◌, eqb};
+
+    // Whether it is for the answer a to the step k.
+    fn is_for(&self, k: usize, a: usize) -> bool
+        ensures { result ≡ (eqb a self.now.answer && has k self.now.steps.now) }
+    {
+        self.answer == a && self.steps.contains(&k)
+    }
+}
+
+// What is no step: a malformed record.
+pub const NO_STEP: usize = 16;
+
+const ANY: &[usize] = &[
+    0, 1, 2, 3, 4, 5, 6, 7, 8, 9, 10, 11, 12, 13, 14, 15, NO_STEP,
+];
+
+// The phrases, in the order of their answers: those of single steps stand before the one for any.
+#[rattlefmt::skip]
+static REASONS: [Reason; 57] = [
+    Reason { answer: 0, steps: ANY, words: b"accepted" },
+    Reason { answer: 1, steps: &[0], words: b"an opening stands first and nowhere else" },
+    Reason { answer: 1, steps: &[NO_STEP], words: b"these eight bytes are no step" },
+    Reason { answer: 1, steps: ANY, words: b"the row or the memory for it is not valid" },
+    Reason { answer: 2, steps: ANY, words: b"the sheet has a wrong length or no valid opening" },
+    Reason { answer: 3, steps: ANY, words: b"the text is longer than the room for it" },
+    Reason { answer: 4, steps: &[3, 4], words: b"a leader is being chosen" },
+    Reason { answer: 4, steps: &[5], words: b"the registry's status is not normal" },
+    Reason { answer: 4, steps: ANY, words: b"the registry's status does not allow it" },
+    Reason { answer: 5, steps: &[3], words: b"the board is a member already" },
+    Reason { answer: 5, steps: &[4], words: b"the board is not a member" },
+    Reason { answer: 5, steps: &[7], words: b"it is not a member in its own view" },
+    Reason { answer: 5, steps: &[8], words: b"its own view or its leader's does not have it as a member" },
+    Reason { answer: 5, steps: &[9], words: b"the counted board is not a member in its own view" },
+    Reason { answer: 5, steps: &[12, 14, 15], words: b"the board is not a member in the controller's view" },
+    Reason { answer: 5, steps: ANY, words: b"membership does not allow it" },
+    Reason { answer: 6, steps: &[4], words: b"the board is the leader" },
+    Reason { answer: 6, steps: &[5], words: b"there are fewer than two members" },
+    Reason { answer: 6, steps: &[12], words: b"the board is the leader in the controller's view" },
+    Reason { answer: 6, steps: ANY, words: b"the leader does not allow it" },
+    Reason { answer: 7, steps: ANY, words: b"the registry's epochs are used up" },
+    Reason { answer: 8, steps: &[1, 2], words: b"it is not the leader in its own view" },
+    Reason { answer: 8, steps: &[9], words: b"the counting board is not the leader in its own view" },
+    Reason { answer: 8, steps: ANY, words: b"a board is not the leader in its own view" },
+    Reason { answer: 9, steps: &[7, 8], words: b"it follows no other board" },
+    Reason { answer: 9, steps: ANY, words: b"a board follows no other board" },
+    Reason { answer: 10, steps: &[7, 8], words: b"its leader has another leader epoch" },
+    Reason { answer: 10, steps: &[9], words: b"the two boards have different leader epochs" },
+    Reason { answer: 10, steps: ANY, words: b"the leader epochs differ" },
+    Reason { answer: 11, steps: &[7], words: b"it has joined under its leader epoch already" },
+    Reason { answer: 11, steps: &[8], words: b"it has not joined under its leader epoch yet" },
+    Reason { answer: 11, steps: &[9], words: b"the counted board has not joined under its leader epoch yet" },
+    Reason { answer: 11, steps: &[12], words: b"the board last joined under another leader epoch" },
+    Reason { answer: 11, steps: ANY, words: b"joining does not allow it" },
+    Reason { answer: 12, steps: &[2], words: b"its log is not longer than the receipts" },
+    Reason { answer: 12, steps: &[6, 10], words: b"it has the newest news already" },
+    Reason { answer: 12, steps: &[8], words: b"its log is not shorter than its leader's" },
+    Reason { answer: 12, steps: &[9], words: b"the counted board's log is not longer than the count" },
+    Reason { answer: 12, steps: &[12, 14], words: b"the board's log is not longer than heard before" },
+    Reason { answer: 12, steps: ANY, words: b"nothing is due" },
+    Reason { answer: 13, steps: &[1], words: b"its log is full" },
+    Reason { answer: 13, steps: ANY, words: b"a log is full" },
+    Reason { answer: 14, steps: &[2], words: b"its counts show no majority of members with the next entry" },
+    Reason {
+        answer: 14, steps: &[13], words: b"no majority of members is heard at the leader's heard length or above",
+    },
+    Reason { answer: 14, steps: &[15], words: b"no majority that has the board is heard with none ranked above it" },
+    Reason { answer: 14, steps: ANY, words: b"there is no majority for it" },
+    Reason { answer: 15, steps: &[11], words: b"the controller is not at stage leader" },
+    Reason { answer: 15, steps: &[12, 13], words: b"the controller is not at stage boards" },
+    Reason { answer: 15, steps: &[14, 15], words: b"the controller is not at stage choosing" },
+    Reason { answer: 15, steps: ANY, words: b"the controller is at another stage" },
+    Reason { answer: 16, steps: &[11], words: b"the leader board's epoch is not the controller's" },
+    Reason { answer: 16, steps: &[14], words: b"the board's epoch is not the controller's" },
+    Reason { answer: 16, steps: &[13, 15], words: b"the controller's epoch is not the registry's" },
+    Reason { answer: 16, steps: ANY, words: b"the epochs differ" },
+    Reason { answer: 17, steps: ANY, words: b"the image has a wrong length" },
+    Reason { answer: 18, steps: ANY, words: b"a number in the image is not valid" },
+    Reason { answer: 19, steps: ANY, words: b"the records in the image are wrongly linked" },
+];
+
+#[tactic(auto, unfolding(crate::specs::Tables::HoldsReasons))]
+fn reasons() -> &'static [Reason]
+    ensures { HoldsReasons result.now }
+{
+    &REASONS
 }
 
 // Writes what stands before the board of the form k. Inner layer: callers see to the room, and that k is a form.
-pub fn put_lead(out: &mut [u8], at: usize, k: usize) -> usize
-    requires { (k < 17) × (at + length (lead_text k) ≤ length out.old) }
-    ensures { Wrote out.old at (lead_text k) out.new result }
+#[tactic(auto, using(text::proofs::Laws::pages, crate::proofs::Tables::form_words))]
+pub fn put_lead(page: &mut Page<'_>, k: usize)
+    requires form { k < 17 }
+    requires room { HasRoom page.old (lead_text k) }
+    ensures { Puts page.old (lead_text k) page.new }
 {
-    put_piece(&mut *out, at, 2 * k)
+    page.put_bytes(forms()[k].lead);
 }
 
 // Writes what stands after it. Inner layer: callers see to the room, and that k is a form.
-pub fn put_trail(out: &mut [u8], at: usize, k: usize) -> usize
-    requires { (k < 17) × (at + length (trail_text k) ≤ length out.old) }
-    ensures { Wrote out.old at (trail_text k) out.new result }
+#[tactic(auto, using(text::proofs::Laws::pages, crate::proofs::Tables::form_words))]
+pub fn put_trail(page: &mut Page<'_>, k: usize)
+    requires form { k < 17 }
+    requires room { HasRoom page.old (trail_text k) }
+    ensures { Puts page.old (trail_text k) page.new }
 {
-    put_piece(&mut *out, at, 2 * k + 1)
+    page.put_bytes(forms()[k].trail);
 }
 
-// Writes the phrase at place i.
-fn put_phrase(out: &mut [u8], at: usize, i: usize) -> usize
-    requires { (i < length reasons) × (at + length (word (reason_at i).phrase) ≤ length out.old) }
-    ensures { Wrote out.old at (word (reason_at i).phrase) out.new result }
+// The words of the first phrase that is for the answer a to the step k.
+fn words_for(k: usize, a: usize) -> &'static [u8]
+    requires step { k < 17 }
+    requires listed { is_listed a ≡ true }
+    ensures { result.now ≡ reason_text k a }
 {
-    let a = PHRASES[i];
-    let e = PHRASES[i + 1];
-    put_part(
-        &mut *out,
-        at,
-        b"accepted\
-            an opening stands first and nowhere else\
-            these eight bytes are no step\
-            the row or the memory for it is not valid\
-            the sheet has a wrong length or no valid opening\
-            the text is longer than the room for it\
-            a leader is being chosen\
-            the registry's status is not normal\
-            the registry's status does not allow it\
-            the board is a member already\
-            the board is not a member\
-            it is not a member in its own view\
-            its own view or its leader's does not have it as a member\
-            the counted board is not a member in its own view\
-            the board is not a member in the controller's view\
-            membership does not allow it\
-            the board is the leader\
-            there are fewer than two members\
-            the board is the leader in the controller's view\
-            the leader does not allow it\
-            the registry's epochs are used up\
-            it is not the leader in its own view\
-            the counting board is not the leader in its own view\
-            a board is not the leader in its own view\
-            it follows no other board\
-            a board follows no other board\
-            its leader has another leader epoch\
-            the two boards have different leader epochs\
-            the leader epochs differ\
-            it has joined under its leader epoch already\
-            it has not joined under its leader epoch yet\
-            the counted board has not joined under its leader epoch yet\
-            the board last joined under another leader epoch\
-            joining does not allow it\
-            its log is not longer than the receipts\
-            it has the newest news already\
-            its log is not shorter than its leader's\
-            the counted board's log is not longer than the count\
-            the board's log is not longer than heard before\
-            nothing is due\
-            its log is full\
-            a log is full\
-            its counts show no majority of members with the next entry\
-            no majority of members is heard at the leader's heard length or above\
-            no majority that has the board is heard with none ranked above it\
-            there is no majority for it\
-            the controller is not at stage leader\
-            the controller is not at stage boards\
-            the controller is not at stage choosing\
-            the controller is at another stage\
-            the leader board's epoch is not the controller's\
-            the board's epoch is not the controller's\
-            the controller's epoch is not the registry's\
-            the epochs differ\
-            the image has a wrong length\
-            a number in the image is not valid\
-            the records in the image are wrongly linked",
-        a,
-        e,
-    )
-}
-
-// Whether the phrase at place i of two lists, its answer and its steps, is for the answer a to the step k.
-fn is_for(answers: &[u8], steps: &[u32], i: usize, k: usize, a: usize) -> bool
-    requires { (i < length answers.now) × (i < length steps.now) × (k < 17) }
-    ensures { result ≡ (eqb a (get_or answers.now i 0) && eqb (get_or steps.now i 0 / 2 ^ k % 2) 1) }
-{
-    (a == answers[i] as usize) & ((steps[i] >> (k as u32)) % 2 == 1)
-}
-
-// The place of the first phrase that is. The two arrays are laid out once, not for each place (docs/DECISIONS.md).
-fn find(k: usize, a: usize) -> usize
-    requires { (k < 17) × (is_listed a ≡ true) }
-    ensures { (result < length reasons) × (word (reason_at result).phrase ≡ reason_text k a) }
-{
-    let answers = ANSWERS;
-    let steps = STEPS;
-    let mut i = 0;
-    while !is_for(&answers, &steps, i, k, a) {
-        i += 1;
-    }
-    i
+    reasons().iter().find(|r| r.is_for(k, a)).unwrap().words
 }
 
 // Writes the phrase of the answer a to the step k. Inner layer: callers see to the room, to the step, and that the
 // answer is on the list.
-pub fn put_reason(out: &mut [u8], at: usize, k: usize, a: usize) -> usize
-    requires { (k < 17) × (is_listed a ≡ true) × (at + length (reason_text k a) ≤ length out.old) }
-    ensures { Wrote out.old at (reason_text k a) out.new result }
+pub fn put_reason(page: &mut Page<'_>, k: usize, a: usize)
+    requires step { k < 17 }
+    requires listed { is_listed a ≡ true }
+    requires room { HasRoom page.old (reason_text k a) }
+    ensures { Puts page.old (reason_text k a) page.new }
 {
-    let i = find(k, a);
-    put_phrase(&mut *out, at, i)
+    page.put_bytes(words_for(k, a));
 }
 
 // Whether an answer is on the list.
 pub fn is_listed(a: usize) -> bool
     ensures { result ≡ is_listed a }
 {
-    let mut i = 0;
-    while i < 57 {
-        if a == ANSWERS[i] as usize {
-            return true;
-        }
-        i += 1;
-    }
-    false
+    reasons().iter().any(|r| r.answer == a)
 }

@@ -1,201 +1,241 @@
 -- `dispatch::send` meets its contract: in each arm of the match the step's number is known, and its step does what its
 -- record says. Assumes nothing.
-use Rattle.std.proofs.Common.{◌≡◌, ◌≤◌, refl, arith, nat_eq}
-use lib.Dec.{eqb→eq}
-use Rattle.model.specs.Steps.{append, commit, add, remove, change_leader, refresh, join, receive, acknowledge, refresh_controller, read_leader, read, set_normal, hear, install}
-use Rattle.model.proofs.Tests.{by-test, ne-fact}
+use Rattle.std.proofs.Common.{◌≡◌, ℕ, arith}
+use lib.ListN.{get_or}
+use Rattle.std.proofs.lemmas.Result.{err_from_is_err_and}
+use Rattle.model.specs.Steps.{append, commit, add, remove, change_leader, refresh, join, receive, acknowledge, refresh_controller, read_leader, read, set_normal, hear, install, malformed}
+use Rattle.model.specs.Records.{rules}
 use Rattle.records.specs.Record.{record_of}
-use Rattle.refinement.specs.Refinement.{lent}
-use Rattle.dispatch.proofs.Sending.{malformed-leaves, sends-kept, by-board, alone-taken, alone-refused, no_step_lem}
+use Rattle.refinement.specs.Lent.{places_in}
+use Rattle.dispatch.proofs.Sending.{malformed_turns, nobody-behind, no_step_lem, among_two, among_three}
 use Rattle.dispatch.proofs.send.Goals as goal
 
-pub returns-in-0 : goal.returns-in-0
-returns-in-0 c =
+pub returns-in-0-clause-step : goal.returns-in-0-clause-step
+returns-in-0-clause-step c =
     let a = c.args in
-    let p = c.requires in
-    let places = lent a.store.now a.store2.now a.list.now a.list2.now in
-    rw c.in-0.is (sends-kept (malformed-leaves _ p.0 places p.1))
+    let q = c.requires in
+    let places = places_in a.p.now in
+    rw c.in-0.is (malformed_turns a.row.now q.0 places q.1)
 
-pub returns-in-1 : goal.returns-in-1
-returns-in-1 c =
+pub returns-in_err-b-in-1-clause-step : goal.returns-in_err-b-in-1-clause-step
+returns-in_err-b-in-1-clause-step c =
     let a = c.args in
-    let p = c.requires in
-    let places = lent a.store.now a.store2.now a.list.now a.list2.now in
-    rw c.in-1.is (sends-kept (by-board _ places _ _ (λ b. append b a.r.value) a.r.board a.r.other a.r.spare 0 _
-    c.board-b.ensures (λ m. refl) (λ m. refl)
-    (c.append.ensures a.g a.c a.joined.now a.issued a.list.now a.list2.now p.0.issued p.1)))
+    let q = c.requires in
+    let places = places_in a.p.now in
+    let e = err_from_is_err_and c.from_residual.result c.from_residual.ensures.1 in
+    let u = c.in_err-b-in-1.ensures in
+    let m = malformed_turns a.row.now q.0 places q.1 in
+    rw (e.1, e.2, u.0, c.in-1.is, u.1 (λ x. append x.0 x.1)) m
 
-pub returns-then-bare : goal.returns-then-bare
-returns-then-bare c =
+pub returns-in_ok-b-in-1-clause-step : goal.returns-in_ok-b-in-1-clause-step
+returns-in_ok-b-in-1-clause-step c =
     let a = c.args in
-    let p = c.requires in
-    let places = lent a.store.now a.store2.now a.list.now a.list2.now in
-    rw c.in-5.is (sends-kept (alone-taken _ places _ _ change_leader a.r.board a.r.other a.r.spare a.r.value
-    c.bare.ensures c.if-bare.true
-    (c.change-s.ensures a.views a.joined.now a.len.now p.0.short a.acked.now a.issued places p.0.issued p.1)))
+    let q = c.requires in
+    let places = places_in a.p.now in
+    rw (c.in-1.is, c.in_ok-b-in-1.ensures (λ x. append x.0 x.1), c.and.ensures)
+    (nobody-behind c.append.result (c.append.ensures.step q.0.issued q.1))
 
-pub returns-else-bare : goal.returns-else-bare
-returns-else-bare c =
+pub returns-in_err-bare-in-5-clause-step : goal.returns-in_err-bare-in-5-clause-step
+returns-in_err-bare-in-5-clause-step c =
     let a = c.args in
-    let p = c.requires in
-    let places = lent a.store.now a.store2.now a.list.now a.list2.now in
-    rw c.in-5.is (sends-kept (alone-refused _ places _ _ change_leader a.r.board a.r.other a.r.spare a.r.value
-    c.bare.ensures c.if-bare.false (malformed-leaves _ p.0 places p.1)))
+    let q = c.requires in
+    let places = places_in a.p.now in
+    let e = err_from_is_err_and c.from_residual-in_err-bare-in-5.result c.from_residual-in_err-bare-in-5.ensures.1 in
+    let u = c.in_err-bare-in-5.ensures in
+    let m = malformed_turns a.row.now q.0 places q.1 in
+    rw (e.1, e.2, u.0, c.in-5.is, u.1 (λ _. change_leader)) m
 
-pub returns-in-9 : goal.returns-in-9
-returns-in-9 c =
+pub returns-in_ok-bare-in-5-clause-step : goal.returns-in_ok-bare-in-5-clause-step
+returns-in_ok-bare-in-5-clause-step c =
     let a = c.args in
-    let p = c.requires in
-    let places = lent a.store.now a.store2.now a.list.now a.list2.now in
-    rw c.in-9.is (sends-kept (by-board _ places _ _ (λ x. acknowledge x a.r.other) a.r.board 0 a.r.spare a.r.value _
-    c.board-a.ensures (λ m. refl) (λ m. refl)
-    (c.acknowledge.ensures a.g a.c a.issued places p.0.issued p.1)))
+    let q = c.requires in
+    let places = places_in a.p.now in
+    rw (c.in-5.is, c.in_ok-bare-in-5.ensures (λ _. change_leader))
+    (c.change.ensures places q.0.short q.0.issued q.1)
 
-pub returns-in-12 : goal.returns-in-12
-returns-in-12 c =
+pub returns-in_err-a-in-9-clause-step : goal.returns-in_err-a-in-9-clause-step
+returns-in_err-a-in-9-clause-step c =
     let a = c.args in
-    let p = c.requires in
-    let places = lent a.store.now a.store2.now a.list.now a.list2.now in
-    rw c.in-12.is (sends-kept (by-board _ places _ _ read a.r.board a.r.other a.r.spare a.r.value _
-    c.board-b-in-12.ensures (λ m. refl) (λ m. refl)
-    (c.read-s.ensures a.views a.acked.now a.issued places p.0.issued p.1)))
+    let q = c.requires in
+    let places = places_in a.p.now in
+    let e = err_from_is_err_and c.from_residual-in_err-a-in-9.result c.from_residual-in_err-a-in-9.ensures.1 in
+    let u = c.in_err-a-in-9.ensures in
+    let m = malformed_turns a.row.now q.0 places q.1 in
+    rw (e.1, e.2, u.0, c.in-9.is, u.1 (λ x. acknowledge x.0 x.1)) m
 
-pub returns-then-bare-2 : goal.returns-then-bare-2
-returns-then-bare-2 c =
+pub returns-in_ok-a-in-9-clause-step : goal.returns-in_ok-a-in-9-clause-step
+returns-in_ok-a-in-9-clause-step c =
     let a = c.args in
-    let p = c.requires in
-    let places = lent a.store.now a.store2.now a.list.now a.list2.now in
-    rw c.in-13.is (sends-kept (alone-taken _ places _ _ set_normal a.r.board a.r.other a.r.spare a.r.value
-    c.bare-in-13.ensures c.if-bare-2.true
-    (c.set_normal-s.ensures a.views a.joined.now a.len.now p.0.short a.acked.now a.issued places p.0.issued p.1)))
+    let q = c.requires in
+    let places = places_in a.p.now in
+    rw (c.in-9.is, c.in_ok-a-in-9.ensures (λ x. acknowledge x.0 x.1), c.and-in-9.ensures)
+    (nobody-behind c.acknowledge.result (c.acknowledge.ensures places q.0.issued q.1))
 
-pub returns-else-bare-2 : goal.returns-else-bare-2
-returns-else-bare-2 c =
+pub returns-in_err-b-in-12-clause-step : goal.returns-in_err-b-in-12-clause-step
+returns-in_err-b-in-12-clause-step c =
     let a = c.args in
-    let p = c.requires in
-    let places = lent a.store.now a.store2.now a.list.now a.list2.now in
-    rw c.in-13.is (sends-kept (alone-refused _ places _ _ set_normal a.r.board a.r.other a.r.spare a.r.value
-    c.bare-in-13.ensures c.if-bare-2.false (malformed-leaves _ p.0 places p.1)))
+    let q = c.requires in
+    let places = places_in a.p.now in
+    let e = err_from_is_err_and c.from_residual-in_err-b-in-12.result c.from_residual-in_err-b-in-12.ensures.1 in
+    let u = c.in_err-b-in-12.ensures in
+    let m = malformed_turns a.row.now q.0 places q.1 in
+    rw (e.1, e.2, u.0, c.in-12.is, u.1 read) m
 
-pub returns-then-step-eq2 : goal.returns-then-step-eq2
-returns-then-step-eq2 c =
+pub returns-in_ok-b-in-12-clause-step : goal.returns-in_ok-b-in-12-clause-step
+returns-in_ok-b-in-12-clause-step c =
     let a = c.args in
-    let places = lent a.store.now a.store2.now a.list.now a.list2.now in
-    rw c.if-step-eq2.true (sends-kept (by-board _ places _ _ commit a.r.board a.r.other a.r.spare a.r.value _
-    c.board-b-in-2-to-4.ensures (λ m. refl) (λ m. refl)
-    (c.commit-x.ensures a.g a.c a.joined.now)))
+    let q = c.requires in
+    let places = places_in a.p.now in
+    rw (c.in-12.is, c.in_ok-b-in-12.ensures read) (c.read.ensures places q.0.short q.0.issued q.1)
 
-pub returns-then-step-eq3 : goal.returns-then-step-eq3
-returns-then-step-eq3 c =
+pub returns-in_err-bare-in-13-clause-step : goal.returns-in_err-bare-in-13-clause-step
+returns-in_err-bare-in-13-clause-step c =
     let a = c.args in
-    let p = c.requires in
-    let places = lent a.store.now a.store2.now a.list.now a.list2.now in
-    rw c.if-step-eq3.true (sends-kept (by-board _ places _ _ add a.r.board a.r.other a.r.spare a.r.value _
-    c.board-b-in-2-to-4.ensures (λ m. refl) (λ m. refl)
-    (c.add-s.ensures a.views a.joined.now a.len.now p.0.short a.acked.now a.issued places p.0.issued p.1)))
+    let q = c.requires in
+    let places = places_in a.p.now in
+    let e = err_from_is_err_and c.from_residual-in_err-bare-in-13.result c.from_residual-in_err-bare-in-13.ensures.1 in
+    let u = c.in_err-bare-in-13.ensures in
+    let m = malformed_turns a.row.now q.0 places q.1 in
+    rw (e.1, e.2, u.0, c.in-13.is, u.1 (λ _. set_normal)) m
 
-pub returns-else-step-eq3 : goal.returns-else-step-eq3
-returns-else-step-eq3 c =
+pub returns-in_ok-bare-in-13-clause-step : goal.returns-in_ok-bare-in-13-clause-step
+returns-in_ok-bare-in-13-clause-step c =
     let a = c.args in
-    let p = c.requires in
-    let places = lent a.store.now a.store2.now a.list.now a.list2.now in
-    let e : a.r.step ≡ 4 = omega arith in
-    rw e (sends-kept (by-board _ places _ _ remove a.r.board a.r.other a.r.spare a.r.value _
-    c.board-b-in-2-to-4.ensures (λ m. refl) (λ m. refl)
-    (c.remove-s.ensures a.views a.joined.now a.len.now p.0.short a.acked.now a.issued places p.0.issued p.1)))
+    let q = c.requires in
+    let places = places_in a.p.now in
+    rw (c.in-13.is, c.in_ok-bare-in-13.ensures (λ _. set_normal)) (c.set_normal.ensures places q.0.short q.0.issued q.1)
 
-pub returns-then-step-eq6 : goal.returns-then-step-eq6
-returns-then-step-eq6 c =
+pub returns-in_err-b-in-2-to-4-clause-step : goal.returns-in_err-b-in-2-to-4-clause-step
+returns-in_err-b-in-2-to-4-clause-step c =
     let a = c.args in
-    let p = c.requires in
-    let places = lent a.store.now a.store2.now a.list.now a.list2.now in
-    rw c.if-step-eq6.true (record {
-      place = c.refresh-x.ensures.0;
-      leaves =
-          by-board _ places _ _ refresh a.r.board a.r.other a.r.spare a.r.value _
-          c.board-b-in-6-to-8.ensures (λ m. refl) (λ m. refl)
-          (c.refresh-x.ensures.1 a.g.status a.c a.issued places p.0.issued p.1);
-    })
+    let q = c.requires in
+    let places = places_in a.p.now in
+    let e = err_from_is_err_and c.from_residual-in_err-b-in-2-to-4.result c.from_residual-in_err-b-in-2-to-4.ensures.1 in
+    let u = c.in_err-b-in-2-to-4.ensures in
+    let m = malformed_turns a.row.now q.0 places q.1 in
+    let f = λ (n : ℕ). get_or (rules (record_of a.r)) n malformed in
+    rw (e.1, e.2, u.0, among_three f malformed 2 a.r.step (omega arith) (omega arith) (u.1 commit) (u.1 add) (u.1 remove)) m
 
-pub returns-then-step-eq7 : goal.returns-then-step-eq7
-returns-then-step-eq7 c =
+pub returns-in_err-b-in-6-to-8-clause-step : goal.returns-in_err-b-in-6-to-8-clause-step
+returns-in_err-b-in-6-to-8-clause-step c =
     let a = c.args in
-    let p = c.requires in
-    let places = lent a.store.now a.store2.now a.list.now a.list2.now in
-    rw c.if-step-eq7.true (sends-kept (by-board _ places _ _ join a.r.board a.r.other a.r.spare a.r.value _
-    c.board-b-in-6-to-8.ensures (λ m. refl) (λ m. refl)
-    (c.join.ensures a.g a.c a.acked.now a.issued a.list.now a.list2.now p.0.issued p.1)))
+    let q = c.requires in
+    let places = places_in a.p.now in
+    let e = err_from_is_err_and c.from_residual-in_err-b-in-6-to-8.result c.from_residual-in_err-b-in-6-to-8.ensures.1 in
+    let u = c.in_err-b-in-6-to-8.ensures in
+    let m = malformed_turns a.row.now q.0 places q.1 in
+    let f = λ (n : ℕ). get_or (rules (record_of a.r)) n malformed in
+    rw (e.1, e.2, u.0, among_three f malformed 6 a.r.step (omega arith) (omega arith) (u.1 refresh) (u.1 join) (u.1 receive)) m
 
-pub returns-else-step-eq7 : goal.returns-else-step-eq7
-returns-else-step-eq7 c =
+pub returns-in_err-bare-in-10-to-11-clause-step : goal.returns-in_err-bare-in-10-to-11-clause-step
+returns-in_err-bare-in-10-to-11-clause-step c =
     let a = c.args in
-    let p = c.requires in
-    let places = lent a.store.now a.store2.now a.list.now a.list2.now in
-    let e : a.r.step ≡ 8 = omega arith in
-    rw e (sends-kept (by-board _ places _ _ receive a.r.board a.r.other a.r.spare a.r.value _
-    c.board-b-in-6-to-8.ensures (λ m. refl) (λ m. refl)
-    (c.receive.ensures a.g a.c a.acked.now a.issued a.list.now a.list2.now p.0.issued p.1)))
+    let q = c.requires in
+    let places = places_in a.p.now in
+    let e = err_from_is_err_and c.from_residual-in_err-bare-in-10-to-11.result c.from_residual-in_err-bare-in-10-to-11.ensures.1 in
+    let u = c.in_err-bare-in-10-to-11.ensures in
+    let m = malformed_turns a.row.now q.0 places q.1 in
+    let f = λ (n : ℕ). get_or (rules (record_of a.r)) n malformed in
+    rw (e.1, e.2, u.0, among_two f malformed 10 a.r.step (omega arith) (omega arith) (u.1 (λ _. refresh_controller)) (u.1 (λ _. read_leader))) m
 
-pub returns-then-step-eq10 : goal.returns-then-step-eq10
-returns-then-step-eq10 c =
+pub returns-in_err-b-in-14-to-15-clause-step : goal.returns-in_err-b-in-14-to-15-clause-step
+returns-in_err-b-in-14-to-15-clause-step c =
     let a = c.args in
-    let p = c.requires in
-    let places = lent a.store.now a.store2.now a.list.now a.list2.now in
-    rw c.if-step-eq10.true (sends-kept
-    (alone-taken _ places _ _ refresh_controller a.r.board a.r.other a.r.spare a.r.value
-    c.bare-in-10-to-11.ensures c.if-bare-3.true
-    (c.refresh_controller-s.ensures a.views a.joined.now a.len.now p.0.short a.acked.now a.issued
-    places p.0.issued p.1)))
+    let q = c.requires in
+    let places = places_in a.p.now in
+    let e = err_from_is_err_and c.from_residual-in_err-b-in-14-to-15.result c.from_residual-in_err-b-in-14-to-15.ensures.1 in
+    let u = c.in_err-b-in-14-to-15.ensures in
+    let m = malformed_turns a.row.now q.0 places q.1 in
+    let f = λ (n : ℕ). get_or (rules (record_of a.r)) n malformed in
+    rw (e.1, e.2, u.0, among_two f malformed 14 a.r.step (omega arith) (omega arith) (u.1 hear) (u.1 install)) m
 
-pub returns-else-step-eq10 : goal.returns-else-step-eq10
-returns-else-step-eq10 c =
+pub returns-then-step-eq2-clause-step : goal.returns-then-step-eq2-clause-step
+returns-then-step-eq2-clause-step c =
     let a = c.args in
-    let p = c.requires in
-    let places = lent a.store.now a.store2.now a.list.now a.list2.now in
-    let e : a.r.step ≡ 11 = omega arith in
-    rw e (sends-kept (alone-taken _ places _ _ read_leader a.r.board a.r.other a.r.spare a.r.value
-    c.bare-in-10-to-11.ensures c.if-bare-3.true
-    (c.read_leader-s.ensures a.joined.now a.acked.now a.issued places p.0.issued p.1)))
+    let q = c.requires in
+    let places = places_in a.p.now in
+    rw (c.if-step-eq2.true, c.in_ok-b-in-2-to-4.ensures commit)
+    (c.commit.ensures.step)
 
--- 10 or 11.
-pub returns-else-bare-3 : goal.returns-else-bare-3
-returns-else-bare-3 c =
+pub returns-then-step-eq3-clause-step : goal.returns-then-step-eq3-clause-step
+returns-then-step-eq3-clause-step c =
     let a = c.args in
-    let p = c.requires in
-    let places = lent a.store.now a.store2.now a.list.now a.list2.now in
-    let n = a.r.step in
-    by-test (nat_eq n 10)
-    (λ t. rw (eqb→eq n 10 t) (sends-kept
-    (alone-refused _ places _ _ refresh_controller a.r.board a.r.other a.r.spare a.r.value
-    c.bare-in-10-to-11.ensures c.if-bare-3.false (malformed-leaves _ p.0 places p.1))))
-    (λ t. let ne : n ≡ 10 → ⊥ = ne-fact n 10 t in
-    let n11 : n ≡ 11 = omega arith in
-    rw n11 (sends-kept (alone-refused _ places _ _ read_leader a.r.board a.r.other a.r.spare a.r.value
-    c.bare-in-10-to-11.ensures c.if-bare-3.false (malformed-leaves _ p.0 places p.1))))
+    let q = c.requires in
+    let places = places_in a.p.now in
+    rw (c.if-step-eq3.true, c.in_ok-b-in-2-to-4.ensures add)
+    (c.add.ensures places q.0.short q.0.issued q.1)
 
-pub returns-then-step-eq14 : goal.returns-then-step-eq14
-returns-then-step-eq14 c =
+pub returns-else-step-eq3-clause-step : goal.returns-else-step-eq3-clause-step
+returns-else-step-eq3-clause-step c =
     let a = c.args in
-    let p = c.requires in
-    let places = lent a.store.now a.store2.now a.list.now a.list2.now in
-    rw c.if-step-eq14.true (sends-kept (by-board _ places _ _ hear a.r.board a.r.other a.r.spare a.r.value _
-    c.board-b-in-14-to-15.ensures (λ m. refl) (λ m. refl)
-    (c.hear-s.ensures a.acked.now a.issued places p.0.issued p.1)))
+    let q = c.requires in
+    let places = places_in a.p.now in
+    let s : a.r.step ≡ 4 = omega arith in
+    rw (s, c.in_ok-b-in-2-to-4.ensures remove)
+    (c.remove.ensures places q.0.short q.0.issued q.1)
 
-pub returns-else-step-eq14 : goal.returns-else-step-eq14
-returns-else-step-eq14 c =
+pub returns-then-step-eq6-clause-step : goal.returns-then-step-eq6-clause-step
+returns-then-step-eq6-clause-step c =
     let a = c.args in
-    let p = c.requires in
-    let places = lent a.store.now a.store2.now a.list.now a.list2.now in
-    let e : a.r.step ≡ 15 = omega arith in
-    rw e (sends-kept (by-board _ places _ _ install a.r.board a.r.other a.r.spare a.r.value _
-    c.board-b-in-14-to-15.ensures (λ m. refl) (λ m. refl)
-    (c.install-s.ensures a.views a.joined.now a.len.now p.0.short a.acked.now a.issued places p.0.issued p.1)))
+    let q = c.requires in
+    let places = places_in a.p.now in
+    rw (c.if-step-eq6.true, c.in_ok-b-in-6-to-8.ensures refresh, c.and-then-step-eq6.ensures)
+    (nobody-behind c.refresh.result (c.refresh.ensures places q.0.issued q.1))
 
-pub returns-else-step-lt16 : goal.returns-else-step-lt16
-returns-else-step-lt16 c =
+pub returns-then-step-eq7-clause-step : goal.returns-then-step-eq7-clause-step
+returns-then-step-eq7-clause-step c =
     let a = c.args in
-    let p = c.requires in
-    let places = lent a.store.now a.store2.now a.list.now a.list2.now in
-    let n16 : 16 ≤ a.r.step = omega arith in
-    rw (no_step_lem (record_of a.r) a.r.step n16) (sends-kept (malformed-leaves _ p.0 places p.1))
+    let q = c.requires in
+    let places = places_in a.p.now in
+    rw (c.if-step-eq7.true, c.in_ok-b-in-6-to-8.ensures join, c.and-then-step-eq7.ensures)
+    (let j = rw c.lent.ensures at c.join.ensures in nobody-behind c.join.result (j q.0.issued q.1))
+
+pub returns-else-step-eq7-clause-step : goal.returns-else-step-eq7-clause-step
+returns-else-step-eq7-clause-step c =
+    let a = c.args in
+    let q = c.requires in
+    let places = places_in a.p.now in
+    let s : a.r.step ≡ 8 = omega arith in
+    rw (s, c.in_ok-b-in-6-to-8.ensures receive, c.and-else-step-eq7.ensures)
+    (nobody-behind c.receive.result (c.receive.ensures.step q.0.issued q.1))
+
+pub returns-then-step-eq10-clause-step : goal.returns-then-step-eq10-clause-step
+returns-then-step-eq10-clause-step c =
+    let a = c.args in
+    let q = c.requires in
+    let places = places_in a.p.now in
+    rw (c.if-step-eq10.true, c.in_ok-bare-in-10-to-11.ensures (λ _. refresh_controller))
+    (c.refresh_controller.ensures places q.0.short q.0.issued q.1)
+
+pub returns-else-step-eq10-clause-step : goal.returns-else-step-eq10-clause-step
+returns-else-step-eq10-clause-step c =
+    let a = c.args in
+    let q = c.requires in
+    let places = places_in a.p.now in
+    let s : a.r.step ≡ 11 = omega arith in
+    rw (s, c.in_ok-bare-in-10-to-11.ensures (λ _. read_leader))
+    (c.read_leader.ensures places q.0.short q.0.issued q.1)
+
+pub returns-then-step-eq14-clause-step : goal.returns-then-step-eq14-clause-step
+returns-then-step-eq14-clause-step c =
+    let a = c.args in
+    let q = c.requires in
+    let places = places_in a.p.now in
+    rw (c.if-step-eq14.true, c.in_ok-b-in-14-to-15.ensures hear)
+    (c.hear.ensures places q.0.short q.0.issued q.1)
+
+pub returns-else-step-eq14-clause-step : goal.returns-else-step-eq14-clause-step
+returns-else-step-eq14-clause-step c =
+    let a = c.args in
+    let q = c.requires in
+    let places = places_in a.p.now in
+    let s : a.r.step ≡ 15 = omega arith in
+    rw (s, c.in_ok-b-in-14-to-15.ensures install)
+    (c.install.ensures places q.0.short q.0.issued q.1)
+
+pub returns-in-16-to-255-clause-step : goal.returns-in-16-to-255-clause-step
+returns-in-16-to-255-clause-step c =
+    let a = c.args in
+    let q = c.requires in
+    let places = places_in a.p.now in
+    rw (no_step_lem (record_of a.r) a.r.step (omega arith)) (malformed_turns a.row.now q.0 places q.1)

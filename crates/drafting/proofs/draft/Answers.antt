@@ -1,29 +1,24 @@
--- `drafting::draft` meets its contract: none, both parts, or the waiting part. Assumes nothing.
-use Rattle.std.proofs.Common.{sym, ◌∙◌, arith}
-use Rattle.refinement.specs.Refinement.{lent}
-use Rattle.drafting.proofs.Parts.{drafts-nothing, drafts-both, drafts-waiting}
+-- `drafting::draft` meets its contract: none, the waiting part, or both parts. Assumes nothing.
+use Rattle.std.proofs.Common.{ap, rules}
+use Rattle.model.specs.State.{entries}
+use Rattle.cluster.specs.Layout.{status_of}
+use Rattle.recovery.specs.Plan.{waiting_part}
+use Rattle.pieces.proofs.Standing.{moves-then, moves-stop}
+use Rattle.drafting.proofs.Parts.{draft-normal, draft-waiting, draft-choosing, sinks-waiting}
 use Rattle.drafting.proofs.draft.Goals as goal
 
-pub returns-then-normal : goal.returns-then-normal
-returns-then-normal c =
-    let a = c.args in
-    drafts-nothing a.row (lent a.store.now a.store2.now a.list.now a.list2.now) a.notes.now
-    (sym c.normal.ensures ∙ c.if-normal.true)
+pub returns-in-Normal : goal.returns-in-Normal
+returns-in-Normal c = draft-normal _ (ap status_of c.in-Normal.is)
 
-pub waiting_part-requires : goal.waiting_part-requires
-waiting_part-requires c =
-    let e = c.choosing_part-e.ensures in
-    (e.fit, omega (arith, c.requires.1, e.few, e.room))
+pub returns-in-Waiting : goal.returns-in-Waiting
+returns-in-Waiting c = draft-waiting _ (ap status_of c.in-Waiting.is) c.waiting_part.ensures
 
-pub returns-then-choosing : goal.returns-then-choosing
-returns-then-choosing c =
-    let a = c.args in
-    drafts-both a.row (lent a.store.now a.store2.now a.list.now a.list2.now) a.notes.now
-    (sym c.choosing.ensures ∙ c.if-choosing.true) c.choosing_part-e.ensures c.waiting_part.ensures
+pub returns-in_err-choosing_part-in-Choosing : goal.returns-in_err-choosing_part-in-Choosing
+returns-in_err-choosing_part-in-Choosing c =
+    draft-choosing _ (ap status_of c.in-Choosing.is)
+    (moves-stop 36 (waiting_part entries) sinks-waiting (search rules) c.in_err-choosing_part-in-Choosing.ensures)
 
-pub returns : goal.returns
-returns c =
-    let a = c.args in
-    drafts-waiting a.row (lent a.store.now a.store2.now a.list.now a.list2.now) a.notes.now
-    (sym c.normal.ensures ∙ c.if-normal.false) (sym c.choosing.ensures ∙ c.if-choosing.false)
-    c.waiting_part-2.ensures
+pub returns-in_ok-choosing_part-in-Choosing : goal.returns-in_ok-choosing_part-in-Choosing
+returns-in_ok-choosing_part-in-Choosing c =
+    draft-choosing _ (ap status_of c.in-Choosing.is)
+    (moves-then c.in_ok-choosing_part-in-Choosing.ensures c.waiting_part-in-Choosing.ensures)

@@ -1,35 +1,36 @@
 -- `guiding::plan_image` meets its contract: the image is taken up, and the list of its row is given. Assumes nothing.
-use Rattle.std.proofs.Common.{arith}
-use Rattle.guiding.proofs.Guides.{image-short, image-refused, taken-fit, image-given, few-given}
+use Rattle.std.proofs.Common.{refl, sym, ◌∙◌}
+use Rattle.refusal.specs.declared.Refusal.TheVariants.{Room}
+use Rattle.refusal.proofs.Checks.{passed, failed, left}
+use Rattle.delivery.specs.Delivery.{enough}
+use Rattle.guiding.proofs.Guides.{image-short, image-refused, taken-fit, image-given}
 use Rattle.guiding.proofs.plan_image.Goals as goal
 
-pub returns-then-out-lt16512 : goal.returns-then-out-lt16512
-returns-then-out-lt16512 c =
-    image-short c.args.image.now c.args.out.now c.args.scratch.now (omega (arith, c.if-out-lt16512.true))
+pub returns-in_err-ensure : goal.returns-in_err-ensure
+returns-in_err-ensure c =
+    let a = c.args in
+    let q = failed (enough a.out.now) Room _ c.from_residual.ensures.1 (sym c.in_err-ensure.was ∙ c.ensure.ensures) in
+    let e = image-short a.image.now a.out.now a.scratch.now q.0 q.1 in
+    record { result = e.0; list = e.1; scratch = e.2 }
 
-pub returns-then-x-ne0 : goal.returns-then-x-ne0
-returns-then-x-ne0 c =
-    image-refused c.args.image.now _ c.args.scratch.now _ _ _ c.load-x.ensures c.args.out.now
-    (omega (arith, c.if-out-lt16512.false)) c.if-x-ne0.true
+pub returns-in_err-load : goal.returns-in_err-load
+returns-in_err-load c =
+    let a = c.args in
+    let r = passed (enough a.out.now) Room (sym c.in_ok-ensure.was ∙ c.ensure.ensures) in
+    let e = image-refused a.image.now _ a.scratch.now _ _ _ c.in_err-load.ensures.loads a.out.now r _ refl
+    (left _ c.from_residual-in_err-load.ensures.1) in
+    record { result = e.0; list = e.1; scratch = e.2 }
 
--- The row's type fixes the lengths of its arrays.
-pub plan-y-requires : goal.plan-y-requires
-plan-y-requires c =
-    let g = c.load-x.type_inv.1.1.1.0.1.1.1.1 in (
-      taken-fit c.args.image.now _ c.args.scratch.now _ _ _ c.load-x.ensures c.args.out.now
-          (omega (arith, c.if-out-lt16512.false)) c.if-x-ne0.false (record {
-            views = g.0.1.0.1;
-            joined = g.1.0.1.0.1;
-            acked = g.1.1.0.1.0.1;
-            len = g.1.1.1.0.1.0.1;
-          }),
-      omega (arith, c.if-out-lt16512.false),
-    )
-
-pub returned-requires : goal.returned-requires
-returned-requires c = few-given _ c.plan-y.ensures
+pub give-requires-clause-fit : goal.give-requires-clause-fit
+give-requires-clause-fit c =
+    let a = c.args in
+    let r = passed (enough a.out.now) Room (sym c.in_ok-ensure.was ∙ c.ensure.ensures) in
+    taken-fit a.image.now _ a.scratch.now _ _ _ c.in_ok-load.ensures.loads a.out.now r refl c.typed.ensures
 
 pub returns : goal.returns
 returns c =
-    image-given c.args.image.now _ c.args.scratch.now _ _ _ c.load-x.ensures c.args.out.now
-    (omega (arith, c.if-out-lt16512.false)) c.if-x-ne0.false c.plan-y.ensures c.returned.ensures
+    let a = c.args in
+    let r = passed (enough a.out.now) Room (sym c.in_ok-ensure.was ∙ c.ensure.ensures) in
+    let e = image-given a.image.now _ a.scratch.now _ _ _ c.in_ok-load.ensures.loads a.out.now r refl
+    c.give.ensures.result c.give.ensures.list in
+    record { result = e.0; list = e.1; scratch = e.2 }

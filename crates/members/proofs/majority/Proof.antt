@@ -1,6 +1,6 @@
 -- `members::majority` meets its contract: the array is the table of the rule, so the number at a mask is the rule's
 -- there. Assumes nothing.
-use mathlib.Core.Path.{◌≡◌, sym, subst}
+use mathlib.Core.Path.{sym, subst}
 use Prim.Native.Nat.{ℕ, ◌<◌}
 use native.Mathlib.Omega.{arith}
 use borrow.Author.Rules.{rules}

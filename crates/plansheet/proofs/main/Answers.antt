@@ -1,15 +1,11 @@
--- `plansheet::main` lends only what it may: a result that is a multiple of 8 is a length within the slice.
--- Assumes nothing.
-use Rattle.std.proofs.Common.{arith, sym, length-take-le}
+-- `plansheet::main` lends only what it may: a length that is handed back is within the slice. Assumes nothing.
+use Rattle.std.proofs.Common.{sym, length-take-le}
 use Rattle.guiding.proofs.Lengths.{sheet-readable}
 use Rattle.plansheet.proofs.main.Goals as goal
 
 pub slice_bounds-list-end : goal.slice_bounds-list-end
-slice_bounds-list-end c =
-    let e = c.plan_sheet-m.ensures in
-    sheet-readable _ _ e.0 e.1 (omega arith)
+slice_bounds-list-end c = sheet-readable _ _ c.in-Ok.ensures.result c.in-Ok.ensures.list
 
 pub slice_bounds-write_all-end : goal.slice_bounds-write_all-end
 slice_bounds-write_all-end c =
-    let e = c.plan_sheet-m.ensures in
-    sym (length-take-le _ _ (sheet-readable _ _ e.0 e.1 (omega arith)))
+    sym (length-take-le _ _ (sheet-readable _ _ c.in-Ok.ensures.result c.in-Ok.ensures.list))

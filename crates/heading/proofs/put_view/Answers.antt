@@ -1,0 +1,6 @@
+-- The view's parts, one after the other. Assumes nothing.
+use Rattle.text.proofs.Laws.{puts-then}
+use Rattle.heading.proofs.put_view.Goals as goal
+
+pub returns : goal.returns
+returns c = rw (← c.mask.ensures) (puts-then c.put_epochs.ensures c.put_bytes.ensures)

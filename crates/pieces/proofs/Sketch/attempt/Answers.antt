@@ -1,0 +1,28 @@
+-- `pieces::Sketch::attempt` meets its contract: the inner step. Assumes nothing.
+use Rattle.std.proofs.Common.{◌∙◌, rules}
+use Rattle.refinement.specs.Lent.{places_in}
+use Rattle.pieces.specs.Pieces.{record_of}
+use Rattle.pieces.proofs.Keeping.{keeps}
+use Rattle.pieces.proofs.Trying.{fit-ready, turned, fits-still, answered}
+use Rattle.pieces.proofs.Sketch.attempt.Goals as goal
+
+-- The type of a row fixes the lengths of its arrays.
+pub send-requires : goal.send-requires
+send-requires c =
+    let s = c.args.self.now in (fit-ready s.row (places_in s.places) (search rules) s.fit, s.fit.full)
+
+pub invariant_of-self : goal.invariant_of-self
+invariant_of-self c =
+    let s = c.args.self.now in
+    let t = turned (c.record.ensures ∙ c.times.ensures.order) c.send.ensures.step in
+    record { fit = fits-still (record_of c.args.step) s.row (places_in s.places) s.fit (keeps c.args.step) t }
+
+pub returns : goal.returns
+returns c =
+    let s = c.args.self.now in
+    let t = turned (c.record.ensures ∙ c.times.ensures.order) c.send.ensures.step in
+    record {
+      answer = answered (record_of c.args.step) s.row (places_in s.places) s.fit t;
+      state = t.state;
+      orders = search rules;
+    }

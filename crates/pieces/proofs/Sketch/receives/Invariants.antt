@@ -1,0 +1,12 @@
+-- The loop's invariant: `counter` receives were tried, none of them noted.
+use Rattle.std.proofs.Common.{◌≡◌}
+use Rattle.model.specs.State.{Entry, entries}
+use Rattle.model.specs.Records.{of}
+use Rattle.recovery.specs.Plan.{Draft, times, put}
+use Rattle.pieces.specs.Pieces.{Plays}
+use Rattle.pieces.proofs.Sketch.receives.Given as goal
+
+abbrev pub invariant-loop : goal.invariant-loop
+invariant-loop l =
+    (l.self.orders ≡ l.fn.self.orders)
+    × ((m : Draft Entry) → Plays m l.fn.self → Plays (times l.counter (put entries (of 8 l.b.number)) m) l.self)

@@ -1,0 +1,9 @@
+-- The line's parts, one after the other. Assumes nothing.
+use borrow.Author.Rules.{rules}
+use Rattle.text.proofs.Laws.{puts-then, puts-both}
+use Rattle.lines.specs.Lines.{control_line}
+use Rattle.state_lines.proofs.put_control.Goals as goal
+
+pub returns : goal.returns
+unfolding control_line
+returns c = search (rules, puts-both, puts-then)

@@ -1,0 +1,10 @@
+-- `steps_central::add` meets its contract. Assumes nothing.
+use Rattle.std.proofs.Common.{refl}
+use Rattle.model.specs.Steps.{add}
+use Rattle.steps_central.proofs.Governing.{rules_govern}
+use Rattle.steps_central.proofs.add.Goals as goal
+
+pub returns : goal.returns
+returns c =
+    rules_govern (add c.args.b) c.args.row.now (record { state = λ _. refl; places = refl }) (λ _. refl)
+    c.add.result c.nobody.result c.nobody.ensures.answer c.nobody.ensures.set _ c.add.ensures

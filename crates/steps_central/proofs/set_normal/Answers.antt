@@ -1,0 +1,9 @@
+-- `steps_central::set_normal` meets its contract. Assumes nothing.
+use Rattle.std.proofs.Common.{refl}
+use Rattle.model.specs.Steps.{set_normal}
+use Rattle.steps_central.proofs.Governing.{settles_govern}
+use Rattle.steps_central.proofs.set_normal.Goals as goal
+
+pub returns : goal.returns
+returns c =
+    settles_govern (set_normal) c.args.row.now (record { state = λ _. refl; places = refl }) c.set_normal.result _ _ c.set_normal.ensures

@@ -1,0 +1,121 @@
+-- What the tables tell is what the phrase list tells. Assumes nothing.
+use Rattle.std.proofs.Common.{◌≡◌, ℕ, ◌<◌, Bool, true, false, ◌&&◌, ◌||◌, cond, T, eqb, List, [], ◌∷◌, map, length, get_or, refl, sym, ap, ap₂, ◌∙◌, Option, Some, None, IsSome, Bor, arith}
+use Rattle.std.proofs.lemmas.Bool.Decides.{nat_tests}
+use Rattle.std.proofs.lemmas.List.{get_or_default}
+use Rattle.std.specs.Option.{option_map}
+use Rattle.std.specs.List.{list_any, find}
+use lib.ListN.{get_or-map, length-map}
+use Rattle.text.specs.Text.{Text}
+use Rattle.lines.specs.Lines.{word}
+use Rattle.phrases.specs.Phrases as P
+use Rattle.phrases.specs.Phrases.{forms, malformed, reasons, has, is_for, phrase_in, is_listed_in, is_listed}
+use Rattle.phrases.specs.Line.{lead_text, trail_text, reason_text}
+use Rattle.phrases.proofs.Listed.{is_there, there}
+use Rattle.wording.specs.declared.Form.{Form}
+use Rattle.wording.specs.declared.Reason.{Reason}
+use Rattle.wording.specs.Tables.{form_row, form_line, reason_row, reason_line, HoldsForms, HoldsReasons}
+
+-- The forms
+
+form_at : (fs : List Form) (k : ℕ) (d : Form) → HoldsForms fs → k < 17
+    → ((get_or fs k d).lead.now ≡ lead_text k) × ((get_or fs k d).trail.now ≡ trail_text k)
+unfolding HoldsForms
+form_at fs k d h l = (ap (λ p. p.0) e, ap (λ p. p.1) e)
+  where
+    e : form_row (get_or fs k d) ≡ form_line (get_or forms k malformed)
+    e =
+        sym (get_or-map form_row fs k d) ∙ ap (λ xs. get_or xs k (form_row d)) h
+        ∙ get_or_default (map form_line forms) k (form_row d) (form_line malformed) l
+        ∙ get_or-map form_line forms k malformed
+
+pub forms-length : (fs : List Form) → HoldsForms fs → length fs ≡ 17
+unfolding HoldsForms
+forms-length fs h = sym (length-map fs form_row) ∙ ap length h
+
+pub lead-at : (fs : List Form) (k : ℕ) (d : Form) → HoldsForms fs → k < 17 → (get_or fs k d).lead.now ≡ lead_text k
+lead-at fs k d h l = (form_at fs k d h l).0
+
+pub trail-at : (fs : List Form) (k : ℕ) (d : Form) → HoldsForms fs → k < 17 → (get_or fs k d).trail.now ≡ trail_text k
+trail-at fs k d h l = (form_at fs k d h l).1
+
+pub ruleset form_words = (forms-length, lead-at, trail-at)
+
+-- Whether a phrase is for a step
+
+eqb_comm : (m n : ℕ) → eqb m n ≡ eqb n m
+eqb_comm m n = grind (arith, nat_tests)
+
+pub has_any : (k : ℕ) (ks : List ℕ) → list_any (λ y. eqb y k) ks ≡ has k ks
+has_any k [] = refl
+has_any k (n ∷ ns) = ap₂ (λ (x y : Bool). x || y) (eqb_comm n k) (has_any k ns)
+
+-- The first phrase that is
+
+abbrev pub test : ℕ → ℕ → Reason → Bool
+test k a r = eqb a r.answer && has k r.steps.now
+
+-- The words that a list of rows tells.
+tell : List (ℕ × List ℕ × Text) → ℕ → ℕ → Option Text
+tell [] k a = None
+tell (x ∷ xs) k a = cond (eqb a x.0 && has k x.1) (Some x.2) (tell xs k a)
+
+words_of : Option Reason → Option Text
+words_of o = option_map (λ r. r.words.now) o
+
+pick : (b : Bool) (r : Reason) (o : Option Reason) → words_of (cond b (Some r) o) ≡ cond b (Some r.words.now) (words_of o)
+unfolding words_of
+pick true r o = refl
+pick false r o = refl
+
+found : (rs : List Reason) (k a : ℕ) → words_of (find (test k a) rs) ≡ tell (map reason_row rs) k a
+unfolding tell words_of
+found [] k a = refl
+found (r ∷ rs) k a =
+    pick (test k a r) r (find (test k a) rs) ∙ ap (λ o. cond (test k a r) (Some r.words.now) o) (found rs k a)
+
+told : (qs : List P.Reason) (k a : ℕ) → T (is_there qs k a)
+    → tell (map reason_line qs) k a ≡ Some (word (phrase_in qs k a))
+unfolding tell phrase_in
+told [] k a t = absurd t
+told (q ∷ qs) k a t = go (is_for k a q) t (told qs k a)
+  where
+    go : (b : Bool) → T (b || is_there qs k a)
+        → (T (is_there qs k a) → tell (map reason_line qs) k a ≡ Some (word (phrase_in qs k a)))
+        → cond b (Some (word q.phrase)) (tell (map reason_line qs) k a) ≡ Some (word (cond b q.phrase (phrase_in qs k a)))
+    go true u f = refl
+    go false u f = f u
+
+-- What a search of the table comes to.
+pub record Found (o : Option (Bor Reason)) (t : Text) : Type 0 where
+  pub some : IsSome o
+  pub words : (x : Bor Reason) → o ≡ Some x → x.now.words.now ≡ t
+
+pub finds : (rs : List Reason) (o : Option (Bor Reason)) (k a : ℕ) → HoldsReasons rs
+    → option_map (λ x. x.now) o ≡ find (test k a) rs → k < 17 → is_listed a ≡ true → Found o (reason_text k a)
+unfolding HoldsReasons words_of
+finds rs o k a h f l e = go o (ap words_of f ∙ found rs k a ∙ ap (λ xs. tell xs k a) h ∙ told reasons k a (there k a l e))
+  where
+    go : (o : Option (Bor Reason)) → words_of (option_map (λ x. x.now) o) ≡ Some (reason_text k a)
+        → Found o (reason_text k a)
+    go None z = absurd (cc)
+    go (Some r) z = record { some = refl; words = λ x q. cc }
+
+-- The answers
+
+answers : List (ℕ × List ℕ × Text) → ℕ → Bool
+answers [] a = false
+answers (x ∷ xs) a = eqb a x.0 || answers xs a
+
+any_answers : (rs : List Reason) (a : ℕ) → list_any (λ r. eqb r.answer a) rs ≡ answers (map reason_row rs) a
+unfolding answers
+any_answers [] a = refl
+any_answers (r ∷ rs) a = ap₂ (λ (x y : Bool). x || y) (eqb_comm r.answer a) (any_answers rs a)
+
+listed_answers : (qs : List P.Reason) (a : ℕ) → answers (map reason_line qs) a ≡ is_listed_in qs a
+unfolding answers is_listed_in
+listed_answers [] a = refl
+listed_answers (q ∷ qs) a = ap (λ y. eqb a q.answer || y) (listed_answers qs a)
+
+pub lists : (rs : List Reason) (a : ℕ) → HoldsReasons rs → list_any (λ r. eqb r.answer a) rs ≡ is_listed a
+unfolding HoldsReasons
+lists rs a h = any_answers rs a ∙ ap (λ xs. answers xs a) h ∙ listed_answers reasons a
