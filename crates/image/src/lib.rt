@@ -11,8 +11,6 @@ ghost use Rattle.shown.specs.Shown.{valid};
 ghost use Rattle.image.specs.Image.{records_in, length_fits, numbers_fit};
 ghost use Rattle.image.specs.Keeping.{saved, Saves, loaded, Loads, ReadsBack, Resumes, ImagesTell, TakenFits, PastLeft};
 
-pub mod parts;
-
 use chains::Image;
 use cluster::Cluster;
 use head::Head;

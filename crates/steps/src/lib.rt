@@ -121,7 +121,14 @@ pub fn acknowledge(row: &mut Cluster, p: &mut LentMut<'_>, a: u8, b: u8) -> Resu
     ensures same { SameLent p.old p.new }
     ensures did { Did (S.Step.acknowledge a b) row.old (places_in p.old) (outcome result row.new) (places_in p.new) }
 {
-    step(row, p, Record { other: b, ..of!(9, a) })
+    step(
+        row,
+        p,
+        Record {
+            other: b,
+            ..of!(9, a)
+        },
+    )
 }
 
 // Step 10, the controller takes news.

@@ -114,12 +114,7 @@ pub fn read(row: &mut Cluster, b: u8) -> Result<u8, Refusal>
     ensures { Governs (S.Step.read b) row.old (outcome result row.new) }
 {
     let b = Board::new(b)?;
-    let c = steps_controller::read(
-        row.controller,
-        b.number,
-        row.joined(b),
-        row.len(b),
-    );
+    let c = steps_controller::read(row.controller, b.number, row.joined(b), row.len(b));
     take(row, c)
 }
 

@@ -1,33 +1,11 @@
-// Writers of bytes and numbers. Each stores a text in out from place at on and answers the place after it. Inner layer:
-// callers see to it that out has room for the text.
+// Writers of bytes and numbers: a page is a lent slice with the place of the next byte. Inner layer: callers see to it
+// that a page has room for the text.
 #![tactic(auto)]
 
 ghost use Rattle.std.specs.Prelude.{◌∷◌, [], ◌++◌, ◌≡◌, ◌<◌, ◌≤◌, ◌+◌, length};
 ghost use Rattle.text.specs.Text.{Wrote, Puts, HasRoom, Delivers, digits};
 
 use refusal::{Refusal, ensure};
-
-// Writes one byte. Inner layer: callers see to the room.
-pub fn put_byte(out: &mut [u8], at: usize, b: u8) -> usize
-    requires { at < length out.old }
-    ensures { Wrote out.old at (b ∷ []) out.new result }
-{
-    out[at] = b;
-    at + 1
-}
-
-// Writes the bytes of src. Inner layer: callers see to the room.
-pub fn put_bytes(out: &mut [u8], at: usize, src: &[u8]) -> usize
-    requires { at + length src.now ≤ length out.old }
-    ensures { Wrote out.old at src.now out.new result }
-{
-    let mut i = 0;
-    while i < src.len() {
-        out[at + i] = src[i];
-        i += 1;
-    }
-    at + i
-}
 
 // How many digits put_number writes: a listing's length is known before any of it is written. By comparisons: with a
 // division for each digit, as in `while left >= 10`, a line's numbers took a third longer to write.
@@ -47,33 +25,6 @@ pub fn number_length(n: u32) -> usize
         100000000..=999999999 => 9,
         _ => 10,
     }
-}
-
-// Writes a number. The digits are stored from the last to the first, each from what is left of n. Inner layer: callers
-// see to the room.
-pub fn put_number(out: &mut [u8], at: usize, n: u32) -> usize
-    requires { at + length (digits n) ≤ length out.old }
-    ensures { Wrote out.old at (digits n) out.new result }
-{
-    let end = at + number_length(n);
-    let mut i = end;
-    let mut left = n;
-    while left >= 10 {
-        i -= 1;
-        out[i] = 48 + (left % 10) as u8;
-        left /= 10;
-    }
-    out[at] = 48 + left as u8;
-    end
-}
-
-// Writes a number and a space after it. Inner layer: callers see to the room.
-pub fn put_field(out: &mut [u8], at: usize, n: u32) -> usize
-    requires { at + length (digits n ++ (32 ∷ [])) ≤ length out.old }
-    ensures { Wrote out.old at (digits n ++ (32 ∷ [])) out.new result }
-{
-    let p = put_number(&mut *out, at, n);
-    put_byte(&mut *out, p, 32)
 }
 
 // A lent slice that is being written: the next byte goes to place `at`.
