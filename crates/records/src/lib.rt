@@ -47,6 +47,17 @@ impl From<Record> for [u8; 8] {
 }
 
 impl Record {
+    // The record of a step and a board; a record of no board has 0 there.
+    pub fn of(step: u8, board: u8) -> Record
+        ensures { record_of result ≡ R.of step board }
+    {
+        Record {
+            step,
+            board,
+            ..Record::default()
+        }
+    }
+
     // The record at place at of a sheet. Inner layer: callers see to it that it is whole.
     pub fn at(sheet: &[u8], at: usize) -> Record
         requires { at + 8 ≤ length sheet.now }

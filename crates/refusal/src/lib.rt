@@ -2,7 +2,7 @@
 #![tactic(auto)]
 
 ghost use Rattle.std.specs.Prelude.{◌≡◌, cond};
-ghost use Rattle.refusal.specs.Refusal.{number, returned};
+ghost use Rattle.refusal.specs.Refusal.{number, answer, returned};
 
 use std::fmt;
 
@@ -54,6 +54,16 @@ pub fn ensure(ok: bool, e: Refusal) -> Result<(), Refusal>
     ensures { result ≡ cond ok (Ok tt) (Err e) }
 {
     if ok { Ok(()) } else { Err(e) }
+}
+
+// The answer to a step: 0 where it is accepted, else the refusal's number.
+pub fn answer<T>(r: &Result<T, Refusal>) -> u8
+    ensures { result ≡ answer r.now }
+{
+    match r {
+        Ok(_) => 0,
+        Err(e) => e.number(),
+    }
 }
 
 // What an entry for C returns: a length, or the refusal's number.
