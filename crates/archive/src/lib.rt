@@ -36,6 +36,8 @@ pub fn save_sheet(sheet: &[u8], out: &mut [u8]) -> Result<usize, Refusal>
     ensures image { out.new ≡ save_left sheet.now out.old }
 {
     ensure(records::is_sheet(sheet), Refusal::Sheet)?;
+    // The places are of this frame: no function can hand out places of its own, and handing them out by value would
+    // copy 27,648 bytes.
     let mut p = LentMut {
         store: &mut [0; 4096],
         store2: &mut [0; 4096],
@@ -53,6 +55,8 @@ pub fn show_image(image: &[u8], out: &mut [u8], scratch: &mut [u8]) -> Result<us
     ensures text { out.new ≡ show_left image.now out.old scratch.old }
     ensures scratch { scratch.new ≡ scratch_left scratch.old }
 {
+    // The places are of this frame: no function can hand out places of its own, and handing them out by value would
+    // copy 27,648 bytes.
     let mut p = LentMut {
         store: &mut [0; 4096],
         store2: &mut [0; 4096],

@@ -46,7 +46,8 @@ impl Draws {
         }
     }
 
-    // Draws a record after the opening. A field that the step does not use is 0 and takes no draw.
+    // Draws a record after the opening. A field that the step does not use is 0 and takes no draw. (Steps are numbers,
+    // as in `Record`.)
     #[tactic(auto, unfolding(crate::specs::Draws::draw_record))]
     pub fn next_record(&mut self) -> Record
         ensures { drawn (record_of result) self.new.state ≡ draw_record self.old.state }

@@ -20,7 +20,14 @@ fn put_replica(page: &mut Page<'_>, row: &Cluster, b: Board)
 {
     let i = b.index();
     let late = mark::is_late(row.views[i], row.joined[i], row.registry.view);
-    state_lines::put_board(page, b, &row.views[i], row.joined[i], row.len[i], late);
+    state_lines::put_board(
+        page,
+        b.number,
+        &row.views[i],
+        row.joined[i],
+        row.len[i],
+        late,
+    );
 }
 
 // Writes the lines of the eight replicas.
@@ -63,7 +70,8 @@ fn put_receipts(page: &mut Page<'_>, values: &[u32], terms: &[u16])
 
 // Writes the ending: the registry, the controller, the replicas, the receipts. Inner layer: callers see to it that the
 // row and the kept epochs of its receipts are in range, the two lists as long as it says, and the page with room for
-// any ending.
+// any ending. (It is lent the two slices and no `Lent`: of a slice behind a field a proof does not know that its
+// numbers are words of 32 bits, by which an ending is short.)
 pub fn put_ending(page: &mut Page<'_>, row: &Cluster, list: &[u32], list2: &[u16])
     requires row { in_range (outline_of row.now) ≡ true }
     requires terms { terms_in_range (take row.now.issued (pairs list.now list2.now)) ≡ true }

@@ -19,7 +19,7 @@ fn board_fits(step: u8, b: u8) -> bool
     if boardless(step) { b == 0 } else { replica(b) }
 }
 
-// Whether b is what a step of the board a asks of its second board.
+// Whether b is what a step of the board a asks of its second board. (Here and below steps are numbers, as in `Record`.)
 fn other_fits(step: u8, a: u8, b: u8) -> bool
     ensures { result ≡ cond (eqb step 9) (is_replica b && not (eqb a b)) (eqb b 0) }
 {

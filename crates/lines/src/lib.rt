@@ -32,7 +32,7 @@ pub fn put_members(page: &mut Page<'_>, m: u8)
 }
 
 // The line of a record: its number, from 1 on, its step, its answer and, on acceptance of 2, 13 and 15, the set behind
-// it, as a mask.
+// it, as a mask. Step and answer stay numbers: the line prints them, and a sheet may hold any step.
 #[derive(Clone, Copy)]
 pub struct Line {
     pub record: u32,
@@ -49,9 +49,9 @@ impl Line {
         self.answer == 0 && matches!(self.step, 2 | 13 | 15)
     }
 
-    // How many bytes that field has, with the space before it.
+    // How many bytes the fourth field has, with the space before it; 0 where there is none.
     #[tactic(auto, using(crate::proofs::Lengths::fourth))]
-    fn fourth_length(self) -> usize
+    pub fn fourth_length(self) -> usize
         ensures { (result ≡ length (fourth_field self.step self.answer (bits self.set))) × (result ≤ 9) }
     {
         if self.has_fourth() {
@@ -61,7 +61,7 @@ impl Line {
         }
     }
 
-    // How long the line is: at most three numbers of ten digits, that field and three bytes more, so that no sum
+    // How long the line is: at most three numbers of ten digits, the fourth field and three bytes more, so that no sum
     // overflows.
     #[tactic(auto, using(crate::proofs::Lengths::one_line))]
     pub fn length(self) -> usize
@@ -75,7 +75,7 @@ impl Line {
             + 3
     }
 
-    // Writes that field: a space, then the set.
+    // Writes the fourth field: a space, then the set.
     #[tactic(auto, using(text::proofs::Laws::pages, crate::proofs::Lengths::fourth))]
     fn put_fourth(self, page: &mut Page<'_>)
         requires { HasRoom page.old (fourth_field self.step self.answer (bits self.set)) }

@@ -11,7 +11,8 @@ use refusal::{Refusal, ensure};
 use text::Page;
 
 // A sheet that was run: an answer and a set, as a mask, for each record, 4,095 of them at most, and no answer of more
-// than two digits.
+// than two digits. (Three lists side by side, and answers as numbers, as `running` keeps them: a sheet is bytes, and
+// `explain` asks `running` for the answers alone.)
 #[derive(Clone, Copy)]
 pub struct Listed<'a> {
     pub sheet: &'a [u8],

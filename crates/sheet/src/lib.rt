@@ -31,6 +31,8 @@ pub fn run_sheet(sheet: &[u8], listing: &mut [u8]) -> Result<usize, Refusal>
     ensure(records::is_sheet(sheet), Refusal::Sheet)?;
     let mut answers = [0; 4096];
     let mut sets = [0; 4096];
+    // The places are of this frame: no function can hand out places of its own, and handing them out by value would
+    // copy 27,648 bytes.
     let mut p = LentMut {
         store: &mut [0; 4096],
         store2: &mut [0; 4096],

@@ -9,7 +9,6 @@ ghost use Rattle.text.specs.Text.{Puts, HasRoom};
 ghost use Rattle.lines.specs.Lines.{space, newline, view_text, status_word, stage_word, late_word, registry_line, control_line, board_text, receipt_text};
 
 use cluster::{Controller, Registry, Stage, Status, View};
-use members::Board;
 use text::Page;
 
 // Writes a view and a space after it: epoch, leader epoch, leader, members.
@@ -25,7 +24,8 @@ fn put_view(page: &mut Page<'_>, v: &View)
     page.put_byte(b' ');
 }
 
-// Writes the registry's status, which ends its line.
+// Writes the registry's status, which ends its line. (`put_stage` differs in its enum and its words, and has nothing
+// else: a function of both would be these two tables.)
 fn put_status(page: &mut Page<'_>, g: Status)
     requires { HasRoom page.old (status_word (status_of g) ++ newline) }
     ensures { Puts page.old (status_word (status_of g) ++ newline) page.new }
@@ -87,12 +87,12 @@ fn put_late(page: &mut Page<'_>, late: bool)
 // Writes the line of a replica: its number, its view, its joined epoch, its log's length, whether it is late.
 // Inner layer: callers see to the room.
 #[tactic(auto, using(text::proofs::Laws::pages), unfolding(lines::specs::Lines::board_text))]
-pub fn put_board(page: &mut Page<'_>, b: Board, v: &View, joined: u16, len: u16, late: bool)
-    requires { HasRoom page.old (board_text b.number (view_of v.now) joined len late) }
-    ensures { Puts page.old (board_text b.number (view_of v.now) joined len late) page.new }
+pub fn put_board(page: &mut Page<'_>, b: u8, v: &View, joined: u16, len: u16, late: bool)
+    requires { HasRoom page.old (board_text b (view_of v.now) joined len late) }
+    ensures { Puts page.old (board_text b (view_of v.now) joined len late) page.new }
 {
     page.put_bytes(b"board ");
-    page.put_field(b.number as u32);
+    page.put_field(b as u32);
     put_view(page, v);
     page.put_field(joined as u32);
     page.put_field(len as u32);

@@ -108,7 +108,8 @@ impl Told {
     }
 
     pub fn text(&self) -> &[u8]
-        ensures { result.now ≡ told_text self.now }
+        ensures text { result.now ≡ told_text self.now }
+        ensures short { length result.now ≤ 96 }
     {
         &self.bytes[..self.length]
     }

@@ -1,15 +1,18 @@
 -- What the tables tell is what the phrase list tells. Assumes nothing.
-use Rattle.std.proofs.Common.{◌≡◌, ℕ, ◌<◌, Bool, true, false, ◌&&◌, ◌||◌, cond, T, eqb, List, [], ◌∷◌, map, length, get_or, refl, sym, ap, ap₂, ◌∙◌, Option, Some, None, IsSome, Bor, arith}
+use Rattle.std.proofs.Common.{◌≡◌, ℕ, ◌<◌, ◌≤◌, Bool, true, false, ◌&&◌, ◌||◌, cond, T, eqb, List, [], ◌∷◌, map, length, get_or, refl, sym, ap, ap₂, ◌∙◌, Option, Some, None, IsSome, Bor, arith}
 use Rattle.std.proofs.lemmas.Bool.Decides.{nat_tests}
 use Rattle.std.proofs.lemmas.List.{get_or_default}
 use Rattle.std.specs.Option.{option_map}
 use Rattle.std.specs.List.{list_any, find}
+use lib.Dec.{leb, leb→le}
 use lib.ListN.{get_or-map, length-map}
 use Rattle.text.specs.Text.{Text}
 use Rattle.lines.specs.Lines.{word}
 use Rattle.phrases.specs.Phrases as P
-use Rattle.phrases.specs.Phrases.{forms, malformed, reasons, has, is_for, phrase_in, is_listed_in, is_listed}
+use Rattle.phrases.specs.Phrases.{forms, malformed, of, reasons, has, is_for, phrase_in, is_listed_in, is_listed}
+use Rattle.phrases.specs.Layout.{reason_at}
 use Rattle.phrases.specs.Line.{lead_text, trail_text, reason_text}
+use Rattle.phrases.proofs.Testing.{passes}
 use Rattle.phrases.proofs.Listed.{is_there, there}
 use Rattle.wording.specs.declared.Form.{Form}
 use Rattle.wording.specs.declared.Reason.{Reason}
@@ -119,3 +122,33 @@ listed_answers (q ∷ qs) a = ap (λ y. eqb a q.answer || y) (listed_answers qs 
 pub lists : (rs : List Reason) (a : ℕ) → HoldsReasons rs → list_any (λ r. eqb r.answer a) rs ≡ is_listed a
 unfolding HoldsReasons
 lists rs a h = any_answers rs a ∙ ap (λ xs. answers xs a) h ∙ listed_answers reasons a
+
+-- The answers and the steps of the table, place by place
+
+answers_of : (rs : List Reason) → map (λ r. r.answer) rs ≡ map (λ (x : ℕ × List ℕ × Text). x.0) (map reason_row rs)
+answers_of [] = refl
+answers_of (r ∷ rs) = ap (λ xs. r.answer ∷ xs) (answers_of rs)
+
+steps_of : (rs : List Reason) → map (λ r. r.steps.now) rs ≡ map (λ (x : ℕ × List ℕ × Text). x.1) (map reason_row rs)
+steps_of [] = refl
+steps_of (r ∷ rs) = ap (λ xs. r.steps.now ∷ xs) (steps_of rs)
+
+-- They are those of the list.
+pub answer_at : (rs : List Reason) (i : ℕ) → HoldsReasons rs → get_or (map (λ r. r.answer) rs) i 0 ≡ (reason_at i).answer
+unfolding HoldsReasons
+answer_at rs i h =
+    ap (λ ns. get_or ns i 0) (answers_of rs ∙ ap (map (λ (x : ℕ × List ℕ × Text). x.0)) h)
+    ∙ get_or-map (λ (q : P.Reason). q.answer) reasons i (of 0 [] "")
+
+pub answer-small : (rs : List Reason) (i : ℕ) → HoldsReasons rs → i < length reasons
+    → get_or (map (λ r. r.answer) rs) i 0 ≤ 19
+answer-small rs i h l =
+    let t = passes (length reasons) (λ i. leb (reason_at i).answer 19) refl i l in
+    omega (arith, answer_at rs i h, leb→le (reason_at i).answer 19 t)
+
+pub step-at : (rs : List Reason) (i k : ℕ) → HoldsReasons rs
+    → has k (get_or (map (λ r. r.steps.now) rs) i []) ≡ has k (reason_at i).steps
+unfolding HoldsReasons
+step-at rs i k h =
+    ap (has k) (ap (λ ks. get_or ks i []) (steps_of rs ∙ ap (map (λ (x : ℕ × List ℕ × Text). x.1)) h)
+    ∙ get_or-map (λ (q : P.Reason). q.steps) reasons i (of 0 [] ""))

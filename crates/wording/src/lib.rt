@@ -46,8 +46,8 @@ fn forms() -> &'static [Form]
     &FORMS
 }
 
-// A phrase: its answer, the steps that it is for, its words. Answers and steps stay numbers, as C and a sheet have them:
-// any may come in, and not each refusal is on the list.
+// A phrase: its answer, the steps that it is for, its words. Answers and steps stay numbers, as C and a sheet have
+// them: any may come in, and not each refusal is on the list.
 struct Reason {
     answer: usize,
     steps: &'static [usize],
@@ -154,7 +154,8 @@ pub fn put_lead(page: &mut Page<'_>, k: usize)
     page.put_bytes(forms()[k].lead);
 }
 
-// Writes what stands after it. Inner layer: callers see to the room, and that k is a form.
+// Writes what stands after it: the same, of the other field. Inner layer: callers see to the room, and that k is a
+// form.
 #[tactic(auto, using(text::proofs::Laws::pages, crate::proofs::Tables::form_words))]
 pub fn put_trail(page: &mut Page<'_>, k: usize)
     requires form { k < 17 }
