@@ -25,13 +25,7 @@ impl Order {
     pub fn record(self) -> Record
         ensures { record_of result ≡ of self.step self.board }
     {
-        Record {
-            step: self.step,
-            board: self.board,
-            other: 0,
-            spare: 0,
-            value: 0,
-        }
+        Record::of(self.step, self.board)
     }
 
     // Writes its records.
@@ -47,7 +41,7 @@ impl Order {
 }
 
 // The orders of a list: the first `count` of 54, as no list has more (18 for the choosing part, 36 for the waiting
-// part).
+// part). An array with its count, as no heap is used.
 #[derive(Clone, Copy)]
 pub struct Orders {
     list: [Order; 54],

@@ -1,9 +1,9 @@
 // The steps of registry and controller: set normal (13), install (15). A refused step leaves both as they were.
 #![tactic(auto, using(cluster::proofs::Steps::settles_refused))]
 
-ghost use Rattle.std.specs.Prelude.{◌≡◌, ◌<◌, IfOk};
+ghost use Rattle.std.specs.Prelude.{◌≡◌, ◌&&◌, ◌<◌, IfOk, leb};
 ghost use Rattle.model.specs.Prelude.{first_failed};
-ghost use Rattle.model.specs.Members.{◌∩◌};
+ghost use Rattle.model.specs.Members.{◌∩◌, is_quorum};
 ghost use Rattle.model.specs.Steps as S;
 ghost use Rattle.refusal.specs.Refusal.{answer};
 ghost use Rattle.members.specs.Mask.{bits};
@@ -76,6 +76,13 @@ fn ranked_not_above(c: &Controller, b: Board) -> u8
     )
 }
 
+// Step 15: whether b is heard, and enough are behind it: the members of fit.
+fn are_enough(c: &Controller, b: Board, fit: u8) -> bool
+    ensures { result ≡ (leb 1 (at 0 c.now.heard b.number) && is_quorum (bits c.now.view.members) (bits fit)) }
+{
+    1 <= heard_at(c, b.number) && members::is_quorum(c.view.members, fit)
+}
+
 // Step 15: what is answered about b, where b and the members not ranked above b are heard and enough or not.
 fn may_install(r: &Registry, c: &Controller, b: Board, enough: bool) -> Result<(), Refusal>
     ensures checks { answer result ≡ first_failed (install_checks r.now c.now b.number enough) }
@@ -94,8 +101,7 @@ pub fn install(r: &mut Registry, c: &mut Controller, b: u8) -> Result<u8, Refusa
 {
     let b = Board::new(b)?;
     let fit = ranked_not_above(c, b);
-    let enough = (1 <= c.heard[b.index()]) & members::is_quorum(c.view.members, fit);
-    may_install(r, c, b, enough)?;
+    may_install(r, c, b, are_enough(c, b, fit))?;
     r.view.epoch += 1;
     r.view.term = r.view.epoch;
     r.view.leader = b.number;

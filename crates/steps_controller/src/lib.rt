@@ -24,11 +24,10 @@ pub fn refresh_controller(c: Controller, r: Registry) -> Result<Controller, Refu
 }
 
 // The controller c at stage g, once the length n and the joined epoch j are heard of the board b.
-fn heard(c: Controller, g: Stage, b: Board, n: u16, j: u16) -> Controller
+fn heard(mut c: Controller, g: Stage, b: Board, n: u16, j: u16) -> Controller
     requires { n ≤ 512 }
     ensures { controller_of result ≡ S.heard_of (controller_of c) (stage_of g) b.number n j }
 {
-    let mut c = c;
     c.stage = g;
     c.heard[b.index()] = n + 1;
     c.joined[b.index()] = j;

@@ -1,6 +1,7 @@
 // The steps of a leader but its receipt: append (1), acknowledge (9), on a row and the lent places. Its `may_` function
 // makes a step's checks, in the paper's order. Inner layer: callers see to it that the lent places have their lengths
 // and that no log is longer than 512.
+// No invariant of row or places says so: `shown::fits` looks at those of any lengths, for refusal 1.
 #![tactic(auto)]
 
 ghost use Rattle.std.specs.Prelude.{◌≡◌, ℕ, ◌<◌, ◌≤◌, IfOk, length};

@@ -1,5 +1,6 @@
 // The receipt of a leader: commit (2), on a row and the lent places. Inner layer: callers see to it that there are at
 // most 512 receipts, that the lent places have their lengths and that no log is longer than 512.
+// No invariant of row or places says so: `shown::fits` looks at those of any lengths, for refusal 1.
 #![tactic(auto)]
 
 ghost use Rattle.std.specs.Prelude.{◌≡◌, ◌<◌, ◌≤◌, IfOk};
