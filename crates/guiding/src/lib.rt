@@ -40,14 +40,16 @@ fn give(row: &Cluster, p: LentMut<'_>, out: &mut [u8]) -> Result<usize, Refusal>
 }
 
 // Runs a sheet and writes the records that lead its row to normal. It returns their length in bytes; refusal 2 for a
-// sheet of wrong length or without a valid opening, then 3 for a slice shorter than 16,512 bytes, then 20 where there is
-// no list: these leave the slice untouched.
+// sheet of wrong length or without a valid opening, then 3 for a slice shorter than 16,512 bytes, then 20 where there
+// is no list: these leave the slice untouched.
 pub fn plan_sheet(sheet: &[u8], out: &mut [u8]) -> Result<usize, Refusal>
     ensures result { result ≡ sheet_outcome sheet.now out.old }
     ensures list { out.new ≡ sheet_left sheet.now out.old }
 {
     ensure(records::is_sheet(sheet), Refusal::Sheet)?;
     ensure(16512 <= out.len(), Refusal::Room)?;
+    // The places are of this frame: no function can hand out places of its own, and handing them out by value would
+    // copy 27,648 bytes.
     let mut p = LentMut {
         store: &mut [0; 4096],
         store2: &mut [0; 4096],
@@ -60,14 +62,16 @@ pub fn plan_sheet(sheet: &[u8], out: &mut [u8]) -> Result<usize, Refusal>
 }
 
 // Takes up an image and writes the records that lead its row to normal. It returns their length in bytes; refusal 3 for
-// a slice shorter than 16,512 bytes or a scratch that is too short, then 17, 18 or 19 for the image, then 20 where there
-// is no list: the slice is untouched then. Past 3 the scratch ends as zeros.
+// a slice shorter than 16,512 bytes or a scratch that is too short, then 17, 18 or 19 for the image, then 20 where
+// there is no list: the slice is untouched then. Past 3 the scratch ends as zeros.
 pub fn plan_image(image: &[u8], out: &mut [u8], scratch: &mut [u8]) -> Result<usize, Refusal>
     ensures result { result ≡ image_outcome image.now out.old scratch.old }
     ensures list { out.new ≡ image_left image.now out.old scratch.old }
     ensures scratch { scratch.new ≡ scratch_left out.old scratch.old }
 {
     ensure(16512 <= out.len(), Refusal::Room)?;
+    // The places are of this frame: no function can hand out places of its own, and handing them out by value would
+    // copy 27,648 bytes.
     let mut p = LentMut {
         store: &mut [0; 4096],
         store2: &mut [0; 4096],
