@@ -89,6 +89,7 @@ pub extern "C" fn show_image(image: &[u8], text: &mut [u8], scratch: &mut [u8]) 
 // Sheet in, the records that lead its row to normal out (document 02, Paper 10): their length in bytes, a multiple of 8,
 // 2 for a sheet of wrong length or without a valid opening, then 3 for a slice shorter than 16,512 bytes, then 20 where
 // there is no such list; each refusal leaves the slice untouched.
+#[tactic(auto, unfolding(guiding::specs::Guiding::sheet_result))]
 #[unsafe(no_mangle)]
 pub extern "C" fn plan_sheet(sheet: &[u8], list: &mut [u8]) -> usize
     ensures { (result ≡ Guiding.sheet_result sheet.now list.old)
@@ -100,6 +101,7 @@ pub extern "C" fn plan_sheet(sheet: &[u8], list: &mut [u8]) -> usize
 // Image in, the records that lead its row to normal out: their length in bytes, a multiple of 8, 3 for a slice shorter
 // than 16,512 bytes or a scratch that is too short, 17, 18 or 19 for the image, then 20 where there is no such list; each
 // refusal leaves the slice untouched. Past 3 the whole scratch ends as zeros.
+#[tactic(auto, unfolding(guiding::specs::Guiding::image_result))]
 #[unsafe(no_mangle)]
 pub extern "C" fn plan_image(image: &[u8], list: &mut [u8], scratch: &mut [u8]) -> usize
     ensures { (result ≡ Guiding.image_result image.now list.old scratch.old)
