@@ -17,7 +17,7 @@ use members::{Board, filter, lowest, size};
 fn below(m: u8, b: Board) -> u8
     ensures { bits result ≡ (λ x. ltb x b.number) ∩ bits m }
 {
-    filter(m, |x| x.number < b.number)
+    m & !(255 << b.index())
 }
 
 // "The lowest-numbered" n of the set, all of them where there are fewer.
