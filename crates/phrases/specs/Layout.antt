@@ -1,4 +1,4 @@
--- Places in the phrase list. Assumes nothing.
+-- Places in the phrase list. Cited by the proofs of phrases and of wording. Assumes nothing.
 use Rattle.std.specs.Prelude.{[], ℕ, get_or}
 use Rattle.phrases.specs.Phrases.{Reason, of, reasons}
 
