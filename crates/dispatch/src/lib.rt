@@ -22,6 +22,7 @@ pub fn send(row: &mut Cluster, p: &mut LentMut<'_>, r: Record) -> Result<u8, Ref
         (outcome result row.new) (places_in p.new) }
 {
     let step = r.step;
+    // A match on numbers: document 01 has it, over all that a byte may hold (docs/DECISIONS.md, "Forms by place").
     match step {
         0 => Err(Refusal::Invalid),
         1 => {

@@ -23,7 +23,7 @@ use Rattle.delivery.specs.Delivery.{delivered, Gives}
 use Rattle.pieces.specs.declared.Sketch.{Sketch}
 use Rattle.pieces.specs.Pieces.{Stands, Moves}
 use Rattle.pieces.proofs.Sinking.{Sinks, sinks-put, sinks-unless, sinks-need, sinks-turns, sinks-informs, sinks-follows, sinks-reads-leader}
-use Rattle.pieces.proofs.Standing.{moves-as, moves-none, moves-then, moves-stop, moves-error}
+use Rattle.pieces.proofs.Standing.{same-lent, moves-as, moves-none, moves-then, moves-stop, moves-error}
 use Rattle.drafting.proofs.Turning.{moves-within}
 
 -- The choosing part, of the boards q: up to the last hearing, and whole.
@@ -73,7 +73,7 @@ module _ (s : Sketch) (q : ℕ) where
       pub choosing-no-one : is_replica (highest (controller_of t.row.controller) (bits q)) ≡ false
           → {y : Result (Unit {0}) Refusal} → y ≡ Err NoPlan → Moves 18 (choosing_part entries) s y t
       unfolding chosen
-      choosing-no-one e i = moves-error i (omega (arith, h.few)) (λ m j.
+      choosing-no-one e i = moves-error i (omega (arith, h.few)) h.same (λ m j.
           ap (λ (d : Draft Entry). d.sound) (sym (chosen-is m j))
           ∙ unnamed (heard (bits q) m) _ (ap is_replica (sym (named _ refl m j)) ∙ e))
 
@@ -134,6 +134,7 @@ need-moves t s e = record {
     plays = record { state = j.plays.state; sound = ap₂ ◌&&◌ j.plays.sound e };
     records = j.records;
   };
+  same = same-lent s.places;
 }
 
 need-error : (m : Draft Entry) → (need entries false m).sound ≡ false
@@ -145,7 +146,7 @@ module _ (s : Sketch) (l : ℕ) (el : l ≡ s.row.registry.view.leader) where
   pub waiting-unled : bits s.row.registry.view.members l ≡ false → {y : Result (Unit {0}) Refusal} → y ≡ Err NoPlan
       → Moves 36 (waiting_part entries) s y s
   unfolding waiting_part informs_controller
-  waiting-unled e i = moves-error i (omega arith) (λ m j.
+  waiting-unled e i = moves-error i (omega arith) (same-lent s.places) (λ m j.
       let r = m.state.registry.view in
       let q = first_of (quorum (size r.members) - 1) (upd r.members r.leader false) in
       let no : r.members r.leader ≡ false =

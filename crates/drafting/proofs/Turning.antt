@@ -19,7 +19,7 @@ use Rattle.pieces.proofs.Standing.{moves-as, moves-none, moves-then}
 -- Fewer orders are as many at most.
 pub moves-within : {k : ℕ} {f : Draft Entry → Draft Entry} {s t : Sketch} {y : Result (Unit {0}) Refusal} (n : ℕ)
     → k ≤ n → Moves k f s y t → Moves n f s y t
-moves-within n h j = record { few = omega (arith, h, j.few); stands = j.stands }
+moves-within n h j = record { few = omega (arith, h, j.few); stands = j.stands; same = j.same }
 
 module _ (q : Members) (f : ℕ → Draft Entry → Draft Entry) where
   turns-next : (n b : ℕ) → b ≡ n + 1 → (d : Draft Entry) {t : Bool} → q b ≡ t
@@ -74,6 +74,7 @@ module _ (q : Members) (f : ℕ → Draft Entry → Draft Entry) where
                 (here.stands m w).0,
                 subst (λ c. (turns c q f m).sound ≡ false) rest (turns-sink sinks (n + 1) (8 - (n + 1)) m met),
               );
+          same = here.same;
         }
 
   -- All of them had their turn.

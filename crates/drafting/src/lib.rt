@@ -20,6 +20,9 @@ use pieces::{Sketch, Step};
 use refinement::LentMut;
 use refusal::{Refusal, ensure};
 
+// The loops of the two parts stay two: as one, over a closure, they would need its clauses beside theirs, and they have
+// five lines each.
+
 // If choosing: from controller news to install.
 fn choosing_part(s: &mut Sketch<'_>) -> Result<(), Refusal>
     requires { s.old.orders.count + 18 ≤ 54 }

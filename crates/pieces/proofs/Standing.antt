@@ -27,7 +27,8 @@ use Rattle.cluster.specs.Layout.{at, no_view, stage_of}
 use Rattle.cluster.proofs.Laws.{at-index}
 use Rattle.refinement.specs.Refinement.{logged, abs}
 use Rattle.refinement.proofs.Turning.{log-len, logged-full}
-use Rattle.refinement.specs.Lent.{places_in}
+use Rattle.refinement.specs.declared.LentMut.{LentMut}
+use Rattle.refinement.specs.Lent.{places_in, SameLent}
 use Rattle.recovery.specs.Plan.{in_boards, times, put, put_unless, need, receives, informs, reads_leader}
 use Rattle.recovery.specs.Plan as P
 use Rattle.orders.specs.Orders.{noted}
@@ -108,14 +109,27 @@ module _ {r : Record} {s t : Sketch} {x : Result ℕ Refusal} (a : Tried r s x t
         sound = k.sound;
       }
 
+-- The places that were lent
+
+pub same-lent : (p : LentMut) → SameLent p p
+same-lent p = record { store = refl; store2 = refl; list = refl; list2 = refl }
+
+pub same-still : {p q r : LentMut} → SameLent p q → SameLent q r → SameLent p r
+same-still h k = record {
+  store = k.store ∙ h.store;
+  store2 = k.store2 ∙ h.store2;
+  list = k.list ∙ h.list;
+  list2 = k.list2 ∙ h.list2;
+}
+
 -- Pieces
 
 -- Error 20 was met.
 pub moves-error : {k : ℕ} {f : P.Draft Entry → P.Draft Entry} {s t : Sketch} {y : Result (Unit {0}) Refusal}
-    → y ≡ Err NoPlan → t.orders.count ≤ s.orders.count + k
+    → y ≡ Err NoPlan → t.orders.count ≤ s.orders.count + k → SameLent s.places t.places
     → ((m : P.Draft Entry) → Stands m s → (f m).sound ≡ false) → Moves k f s y t
-moves-error {k} {f} {s} {t} e few h =
-    subst (λ z. Moves k f s z t) (sym e) (record { few = few; stands = λ m j. (refl, h m j) })
+moves-error {k} {f} {s} {t} e few same h =
+    subst (λ z. Moves k f s z t) (sym e) (record { few = few; stands = λ m j. (refl, h m j); same = same })
 
 -- A piece by another name.
 pub moves-as : {k : ℕ} {f g : P.Draft Entry → P.Draft Entry} {s t : Sketch} {y : Result (Unit {0}) Refusal}
@@ -123,11 +137,12 @@ pub moves-as : {k : ℕ} {f g : P.Draft Entry → P.Draft Entry} {s t : Sketch} 
 moves-as {t = t} {y = y} e h = record {
   few = h.few;
   stands = λ m j. subst (λ n. Ends n y t) (e m j) (h.stands m j);
+  same = h.same;
 }
 
 -- A piece that adds nothing.
 pub moves-none : (k : ℕ) (s : Sketch) → Moves k (λ m. m) s (Ok tt) s
-moves-none k s = record { few = omega arith; stands = λ m j. j }
+moves-none k s = record { few = omega arith; stands = λ m j. j; same = same-lent s.places }
 
 -- One piece after the other; or error 20 in the first, which stays.
 pub moves-then : {a b : ℕ} {f g : P.Draft Entry → P.Draft Entry} {s t u : Sketch} {v : Unit {0}}
@@ -135,6 +150,7 @@ pub moves-then : {a b : ℕ} {f g : P.Draft Entry → P.Draft Entry} {s t u : Sk
 moves-then {f = f} h k = record {
   few = omega (arith, h.few, k.few);
   stands = λ m j. k.stands (f m) (h.stands m j);
+  same = same-still h.same k.same;
 }
 
 pub moves-stop : {a : ℕ} (b : ℕ) {f : P.Draft Entry → P.Draft Entry} (g : P.Draft Entry → P.Draft Entry) → Sinks g
@@ -144,6 +160,7 @@ moves-stop {a} b {f} g sinks {s} {t} {e} q h =
     subst (λ z. Moves (a + b) (λ m. g (f m)) s z t) (sym q) record {
       few = omega (arith, h.few);
       stands = λ m j. ((h.stands m j).0, sinks (f m) (h.stands m j).1);
+      same = h.same;
     }
 
 -- A step more
@@ -151,10 +168,10 @@ moves-stop {a} b {f} g sinks {s} {t} {e} q h =
 module _ {r : Record} {s t : Sketch} {x : Result ℕ Refusal} (a : Tried r s x t) where
   -- It was taken, and noted.
   pub put-moves : is_ok x ≡ true → (u : Sketch) → abs u.row (places_in u.places) ≡ abs t.row (places_in t.places)
-      → noted u.orders ≡ noted t.orders ++ (r ∷ []) → u.orders.count ≡ suc t.orders.count
+      → SameLent t.places u.places → noted u.orders ≡ noted t.orders ++ (r ∷ []) → u.orders.count ≡ suc t.orders.count
       → Moves 1 (put entries r) s (Ok tt) u
   unfolding put
-  put-moves e u same n c = record {
+  put-moves e u same places n c = record {
     few = omega (arith, c, ap (λ o. o.count) a.orders);
     stands = λ m j.
         let k = plays-put a m j.plays e in
@@ -162,11 +179,12 @@ module _ {r : Record} {s t : Sketch} {x : Result ℕ Refusal} (a : Tried r s x t
           plays = record { state = same ∙ k.state; sound = k.sound };
           records = n ∙ ap (λ rs. rs ++ (r ∷ [])) (ap noted a.orders ∙ j.records);
         };
+    same = same-still a.same places;
   }
 
   -- It was refused.
   pub put-stops : is_ok x ≡ false → {y : Result (Unit {0}) Refusal} → y ≡ Err NoPlan → Moves 1 (put entries r) s y t
-  put-stops e q = moves-error q (omega (arith, ap (λ o. o.count) a.orders)) (λ m j. put-error a m j.plays e)
+  put-stops e q = moves-error q (omega (arith, ap (λ o. o.count) a.orders)) a.same (λ m j. put-error a m j.plays e)
 
   -- With another answer than n it is not left out,
   pub kept-moves : (n : ℕ) → eqb (answer x) n ≡ false → {y : Result (Unit {0}) Refusal} {u : Sketch}
@@ -185,6 +203,7 @@ module _ {r : Record} {s t : Sketch} {x : Result ℕ Refusal} (a : Tried r s x t
           plays = plays-refused a m j.plays f;
           records = ap noted a.orders ∙ j.records;
         };
+        same = a.same;
       })
 
 module _ {r : Record} {s t : Sketch} {x : Result ℕ Refusal} (a : Tried r s x t) (d : Refusal) where
@@ -214,6 +233,7 @@ module _ (l b : ℕ) {s t : Sketch} where
       subst (λ z. Moves 1 (informs entries l b) s z t) (sym q) record {
         few = h.few;
         stands = λ m j. ((h.stands m j).0, sinks-need _ _ (h.stands m j).1);
+        same = h.same;
       }
 
   pub informs-moves : {u : Unit {0}} → Moves 1 (put_unless entries 12 (of 6 b)) s (Ok u) t
@@ -235,8 +255,9 @@ module _ (l b : ℕ) {s t : Sketch} where
           };
           records = (h.stands m j).records;
         };
+        same = h.same;
       }
-      go false z i = moves-error i h.few (λ m j.
+      go false z i = moves-error i h.few h.same (λ m j.
           ap₂ ◌&&◌ (h.stands m j).plays.sound (ap (λ n. eqb n l) (sym (led m j)) ∙ z))
 
 -- The leader's reading, left out in stage boards.
@@ -312,14 +333,14 @@ module _ (l b n : ℕ) (s : Sketch) (e : n ≡ at 0 s.row.len l - at 0 s.row.len
       e ∙ ap₂ ◌-◌ (sym (len l)) (sym (len b))
       ∙ ap (λ (t : RowState). length (t.log l) - length (t.log b)) j.plays.state
 
-  module _ {t : Sketch} (i : ℕ)
+  module _ {t : Sketch} (i : ℕ) (same : SameLent s.places t.places)
       (played : (m : P.Draft Entry) → Plays m s → Plays (times i (put entries (of 8 b)) m) t) where
     -- One of them was refused.
     pub receives-stop : i < n → {x : Result ℕ Refusal} {u : Sketch} → Tried (of 8 b) t x u → is_ok x ≡ false
         → {y : Result (Unit {0}) Refusal} → y ≡ Err NoPlan → u.orders.count ≤ s.orders.count + 1
         → Moves 1 (receives entries l b) s y u
     unfolding receives
-    receives-stop h {u = u} a ne q few = moves-error q few (λ m j.
+    receives-stop h {u = u} a ne q few = moves-error q few (same-still same a.same) (λ m j.
         let f = put entries (of 8 b) in
         let k : i + 1 + (n - (i + 1)) ≡ n = omega (arith, h) in
         let stopped : (times (i + 1) f m).sound ≡ false =
@@ -330,20 +351,21 @@ module _ (l b n : ℕ) (s : Sketch) (e : n ≡ at 0 s.row.len l - at 0 s.row.len
 
     -- All were taken, and noted.
     pub receives-moves : i ≡ n → (u : Sketch) → abs u.row (places_in u.places) ≡ abs t.row (places_in t.places)
-        → noted u.orders ≡ noted s.orders ++ replicate n (of 8 b) → u.orders.count ≡ suc s.orders.count
+        → SameLent t.places u.places → noted u.orders ≡ noted s.orders ++ replicate n (of 8 b) → u.orders.count ≡ suc s.orders.count
         → Moves 1 (receives entries l b) s (Ok tt) u
     unfolding receives
-    receives-moves h u same w c = record {
+    receives-moves h u left places w c = record {
       few = omega (arith, c);
       stands = λ m j.
           let f = put entries (of 8 b) in
           let k = played m j.plays in
           let z : Stands (times n f m) u = record {
             plays = record {
-              state = same ∙ k.state ∙ ap (λ v. (times v f m).state) h;
+              state = left ∙ k.state ∙ ap (λ v. (times v f m).state) h;
               sound = sym (ap (λ v. (times v f m).sound) h) ∙ k.sound;
             };
             records = w ∙ ap (λ rs. rs ++ replicate n (of 8 b)) j.records ∙ sym (times-records n (of 8 b) m);
           } in
           subst (λ v. Stands (times v f m) u) (lacks m j) z;
+      same = same-still same places;
     }

@@ -1,14 +1,17 @@
 -- From the inner step to a step that was tried. Assumes nothing.
+use mathlib.Core.Bool.{cond}
+use mathlib.Core.Logic.{◌≢◌}
 use mathlib.Core.Path.{◌≡◌, sym, subst, ap, ◌∙◌}
 use lib.ListN.{length-set}
 use Rattle.model.specs.State.{outline}
 use Rattle.model.specs.Steps.{Step, Writes, appends, commits, receives, nothing, writes, accepted, answer_of}
 use Rattle.model.specs.Records.{Record, step_of}
 use Rattle.model.proofs.Tests.{by_cond}
+use Rattle.model.proofs.Answer.{nonzero-refused}
 use Rattle.cluster.specs.declared.Cluster.{Cluster}
 use Rattle.cluster.specs.Ended.{Outcome}
 use Rattle.cluster.specs.Layout.{outline_of}
-use Rattle.refinement.specs.Refinement.{Places, Full, abs, Shape, Ready, written, Turns}
+use Rattle.refinement.specs.Refinement.{Places, Full, abs, Shape, Ready, written, places_after, Turns}
 use Rattle.refinement.proofs.Turning.{outline-abs}
 use Rattle.pieces.specs.Fitting.{Leaders, Fit}
 use Rattle.pieces.proofs.Keeping.{Keeps}
@@ -68,3 +71,12 @@ module _ (r : Record) (row : Cluster) (p : Places) (f : Fit row p) where
   -- whose answer is the model's.
   pub answered : {x : Outcome} {p' : Places} → Turns (step_of r) row p x p' → x.answer ≡ answer_of (outline (abs row p)) (step_of r)
   answered t = t.answer ∙ ap (λ m. answer_of m (step_of r)) (sym (outline-abs row f.short f.issued p f.full))
+
+-- Refused, it leaves row and places.
+pub unchanged : {st : Step} {row : Cluster} {p : Places} {x : Outcome} {p' : Places} → Turns st row p x p'
+    → x.answer ≢ 0 → (x.row ≡ row) × (p' ≡ p)
+unchanged {st} {row} {p} t z = (
+  t.refused z,
+  t.places ∙ ap (λ b. cond b (places_after st row p) p)
+      (nonzero-refused (outline_of row) st (λ y. z (t.answer ∙ y))),
+)

@@ -120,6 +120,7 @@ abbrev pub Leaves : Step → Cluster → Places → ℕ → ℕ → Cluster → 
 Leaves st row p n q row' p' = Turns st row p (record { answer = n; behind = q; row = row' }) p'
 
 -- A step of the registry, of the controller or of both, which writes no lent place: what it answers, who is behind it
--- and the row that it leaves, whatever the lent places are.
+-- and the row that it leaves, whatever the lent places are; accepted or refused, the rest of the row stays as it was.
 abbrev pub Governs : Step → Cluster → Outcome → Type 0
-Governs st row x = (p : Places) → Short row.len → row.issued ≤ 512 → Full p → Turns st row p x p
+Governs st row x = ((p : Places) → Short row.len → row.issued ≤ 512 → Full p → Turns st row p x p)
+    × (row_of x.row.registry x.row.controller row.views row.joined row.acked row.len row.issued ≡ x.row)

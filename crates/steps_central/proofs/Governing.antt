@@ -67,18 +67,21 @@ module _ (st : Step) (row : Cluster) where
       × (abs (with_both g c) p ≡ put (abs row p) (step entries (abs row p) st)))
       → (answer y ≢ 0 → (g ≡ row.registry) × (c ≡ row.controller))
       → Governs st row (outcome y (with_both g c))
-  governs put idle o y g c f r p short few full =
-      let m = outline-abs row short few p full in
-      let h = f p short full in
-      record {
-        answer = h.0 ∙ ap (λ m. answer_of m st) m;
-        behind = h.1 ∙ ap (λ m. behind m st) m;
-        state = h.2 ∙ whole put st o idle (abs row p);
-        short = short;
-        issued = few;
-        places = same-choice (accepted (outline_of row) st) (ap (λ w. written w row p) o.places);
-        refused = λ z. let q = r z in λ i. with_both (q.0 i) (q.1 i);
-      }
+  governs put idle o y g c f r = (
+    λ p short few full.
+        let m = outline-abs row short few p full in
+        let h = f p short full in
+        record {
+          answer = h.0 ∙ ap (λ m. answer_of m st) m;
+          behind = h.1 ∙ ap (λ m. behind m st) m;
+          state = h.2 ∙ whole put st o idle (abs row p);
+          short = short;
+          issued = few;
+          places = same-choice (accepted (outline_of row) st) (ap (λ w. written w row p) o.places);
+          refused = λ z. let q = r z in λ i. with_both (q.0 i) (q.1 i);
+        },
+    refl,
+  )
 
   -- A step of the registry alone.
   pub rules_govern : Only take_registry st → ((m : Outline) → qualified m st ≡ none)
@@ -113,8 +116,8 @@ module _ (st : Step) (row : Cluster) where
 
   -- One that is refused.
   pub refused_governs : (e : Refusal) → number e ≡ answer_of (outline_of row) st → Governs st row (outcome (Err e) row)
-  refused_governs e same p short few full =
-      turns-refused row short few p full st (number e) same (number-positive e)
+  refused_governs e same =
+      (λ p short few full. turns-refused row short few p full st (number e) same (number-positive e), refl)
 
 -- What a row has of a replica, so has its state.
 pub found : (row : Cluster) (b : ℕ) (p : Places) → Short row.len → Full p

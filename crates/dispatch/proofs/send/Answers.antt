@@ -51,7 +51,7 @@ returns-in_ok-bare-in-5-clause-step c =
     let q = c.requires in
     let places = places_in a.p.now in
     rw (c.in-5.is, c.in_ok-bare-in-5.ensures (λ _. change_leader))
-    (c.change.ensures places q.0.short q.0.issued q.1)
+    (c.change.ensures.0 places q.0.short q.0.issued q.1)
 
 pub returns-in_err-a-in-9-clause-step : goal.returns-in_err-a-in-9-clause-step
 returns-in_err-a-in-9-clause-step c =
@@ -86,7 +86,7 @@ returns-in_ok-b-in-12-clause-step c =
     let a = c.args in
     let q = c.requires in
     let places = places_in a.p.now in
-    rw (c.in-12.is, c.in_ok-b-in-12.ensures read) (c.read.ensures places q.0.short q.0.issued q.1)
+    rw (c.in-12.is, c.in_ok-b-in-12.ensures read) (c.read.ensures.0 places q.0.short q.0.issued q.1)
 
 pub returns-in_err-bare-in-13-clause-step : goal.returns-in_err-bare-in-13-clause-step
 returns-in_err-bare-in-13-clause-step c =
@@ -103,7 +103,7 @@ returns-in_ok-bare-in-13-clause-step c =
     let a = c.args in
     let q = c.requires in
     let places = places_in a.p.now in
-    rw (c.in-13.is, c.in_ok-bare-in-13.ensures (λ _. set_normal)) (c.set_normal.ensures places q.0.short q.0.issued q.1)
+    rw (c.in-13.is, c.in_ok-bare-in-13.ensures (λ _. set_normal)) (c.set_normal.ensures.0 places q.0.short q.0.issued q.1)
 
 pub returns-in_err-b-in-2-to-4-clause-step : goal.returns-in_err-b-in-2-to-4-clause-step
 returns-in_err-b-in-2-to-4-clause-step c =
@@ -163,7 +163,7 @@ returns-then-step-eq3-clause-step c =
     let q = c.requires in
     let places = places_in a.p.now in
     rw (c.if-step-eq3.true, c.in_ok-b-in-2-to-4.ensures add)
-    (c.add.ensures places q.0.short q.0.issued q.1)
+    (c.add.ensures.0 places q.0.short q.0.issued q.1)
 
 pub returns-else-step-eq3-clause-step : goal.returns-else-step-eq3-clause-step
 returns-else-step-eq3-clause-step c =
@@ -172,7 +172,7 @@ returns-else-step-eq3-clause-step c =
     let places = places_in a.p.now in
     let s : a.r.step ≡ 4 = omega arith in
     rw (s, c.in_ok-b-in-2-to-4.ensures remove)
-    (c.remove.ensures places q.0.short q.0.issued q.1)
+    (c.remove.ensures.0 places q.0.short q.0.issued q.1)
 
 pub returns-then-step-eq6-clause-step : goal.returns-then-step-eq6-clause-step
 returns-then-step-eq6-clause-step c =
@@ -205,7 +205,7 @@ returns-then-step-eq10-clause-step c =
     let q = c.requires in
     let places = places_in a.p.now in
     rw (c.if-step-eq10.true, c.in_ok-bare-in-10-to-11.ensures (λ _. refresh_controller))
-    (c.refresh_controller.ensures places q.0.short q.0.issued q.1)
+    (c.refresh_controller.ensures.0 places q.0.short q.0.issued q.1)
 
 pub returns-else-step-eq10-clause-step : goal.returns-else-step-eq10-clause-step
 returns-else-step-eq10-clause-step c =
@@ -214,7 +214,7 @@ returns-else-step-eq10-clause-step c =
     let places = places_in a.p.now in
     let s : a.r.step ≡ 11 = omega arith in
     rw (s, c.in_ok-bare-in-10-to-11.ensures (λ _. read_leader))
-    (c.read_leader.ensures places q.0.short q.0.issued q.1)
+    (c.read_leader.ensures.0 places q.0.short q.0.issued q.1)
 
 pub returns-then-step-eq14-clause-step : goal.returns-then-step-eq14-clause-step
 returns-then-step-eq14-clause-step c =
@@ -222,7 +222,7 @@ returns-then-step-eq14-clause-step c =
     let q = c.requires in
     let places = places_in a.p.now in
     rw (c.if-step-eq14.true, c.in_ok-b-in-14-to-15.ensures hear)
-    (c.hear.ensures places q.0.short q.0.issued q.1)
+    (c.hear.ensures.0 places q.0.short q.0.issued q.1)
 
 pub returns-else-step-eq14-clause-step : goal.returns-else-step-eq14-clause-step
 returns-else-step-eq14-clause-step c =
@@ -231,7 +231,7 @@ returns-else-step-eq14-clause-step c =
     let places = places_in a.p.now in
     let s : a.r.step ≡ 15 = omega arith in
     rw (s, c.in_ok-b-in-14-to-15.ensures install)
-    (c.install.ensures places q.0.short q.0.issued q.1)
+    (c.install.ensures.0 places q.0.short q.0.issued q.1)
 
 pub returns-in-16-to-255-clause-step : goal.returns-in-16-to-255-clause-step
 returns-in-16-to-255-clause-step c =

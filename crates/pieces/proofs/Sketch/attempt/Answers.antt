@@ -3,7 +3,7 @@ use Rattle.std.proofs.Common.{◌∙◌, rules}
 use Rattle.refinement.specs.Lent.{places_in}
 use Rattle.pieces.specs.Pieces.{record_of}
 use Rattle.pieces.proofs.Keeping.{keeps}
-use Rattle.pieces.proofs.Trying.{fit-ready, turned, fits-still, answered}
+use Rattle.pieces.proofs.Trying.{fit-ready, turned, fits-still, answered, unchanged}
 use Rattle.pieces.proofs.Sketch.attempt.Goals as goal
 
 -- The type of a row fixes the lengths of its arrays.
@@ -25,4 +25,6 @@ returns c =
       answer = answered (record_of c.args.step) s.row (places_in s.places) s.fit t;
       state = t.state;
       orders = search rules;
+      refused = unchanged t;
+      same = c.send.ensures.same;
     }
