@@ -12,4 +12,4 @@ returns c =
     let a = c.args.answer in
     let told : is_told s a ≡ true = grind (arith, common_steps) in
     described s a c.text-text.result.now told
-    (c.text-text.ensures ∙ c.new-told.ensures ∙ ap (λ r. line r a) c.at.ensures) c.deliver.ensures
+    (c.text-text.ensures.text ∙ c.new-told.ensures ∙ ap (λ r. line r a) c.at.ensures) c.deliver.ensures

@@ -10,7 +10,7 @@ pub loop-i-preserved : goal.loop-i-preserved
 loop-i-preserved c =
     let self = c.args.self.now in
     let text = line_at self.sheet.now self.answers.now in
-    let t = c.text.ensures ∙ c.new-told.ensures ∙ line-next self.sheet.now self.answers.now _ self.each c.loop-i.i c.at.ensures in
+    let t = c.text.ensures.text ∙ c.new-told.ensures ∙ line-next self.sheet.now self.answers.now _ self.each c.loop-i.i c.at.ensures in
     let told = c.new-told.result in (
       omega (
         arith,
@@ -19,5 +19,5 @@ loop-i-preserved c =
         length-append (each_of text c.loop-i.i) (text c.loop-i.i),
         c.loop-i.invariant.0,
       ),
-      omega (arith, ap length c.text.ensures, length-take told.length told.bytes, told.short, c.loop-i.invariant.1),
+      omega (arith, ap length c.text.ensures.text, length-take told.length told.bytes, told.short, c.loop-i.invariant.1),
     )
