@@ -9,13 +9,13 @@ ghost use Rattle.chains.specs.Chain.{chain_of, Walked, linking};
 
 use refusal::{Refusal, ensure};
 
-// An image that error 17 lets through: 258 bytes of head, and 8 bytes for each of its records, at most 4,608.
+// Bytes with the head of an image, 258 bytes, and at least 8 for each of its records. That there are no more, and how
+// many records there may be, is error 17.
 #[derive(Clone, Copy)]
 pub struct Image<'a> {
     pub bytes: &'a [u8],
     pub records: usize,
-    ghost whole: { length bytes.now ≡ 8 * records + 258 },
-    ghost few: { records ≤ most },
+    ghost within: { 8 * records + 258 ≤ length bytes.now },
 }
 
 impl<'a> Image<'a> {
@@ -43,7 +43,8 @@ impl<'a> Image<'a> {
         fields::four_at(self.bytes, 8 * k + 250)
     }
 
-    // The first record of the list b, 0 to 7 for the boards, 8 for the receipts. Inner layer: callers see to b.
+    // The first record of the list b, 0 to 7 for the boards, 8 for the receipts. Inner layer: callers see to b. A list is
+    // named by number, as in `first_of` and `list_of`.
     pub fn first(self, b: usize) -> usize
         requires { b < 9 }
         ensures { result ≡ first_of self.entry.bytes.now b }
@@ -53,9 +54,9 @@ impl<'a> Image<'a> {
     }
 
     // Walks the chain that starts at first and marks its records: its length, or error 19 where it points past the
-    // last record, passes 512 entries, or meets a record again. Callers see to the scratch.
+    // last record, passes 512 entries, or meets a record again. Callers see to the records and to the scratch.
     fn walk(self, first: usize, scratch: &mut [u8]) -> Result<usize, Refusal>
-        requires { room ≤ length scratch.old }
+        requires { (self.records ≤ most) × (room ≤ length scratch.old) }
         ensures { let image = self.entry in Walked image.records (chain_of (next_of image.bytes.now) first)
             (marked scratch.old) (marked scratch.new) result }
     {
@@ -72,10 +73,10 @@ impl<'a> Image<'a> {
         Err(Refusal::ImageLinks)
     }
 
-    // Walks all nine chains: error 19 where they are not well linked. Callers see to the scratch, and that nothing is
-    // marked.
+    // Walks all nine chains: error 19 where they are not well linked. Callers see to the records and to the
+    // scratch, and that nothing is marked.
     fn walk_all(self, scratch: &mut [u8]) -> Result<(), Refusal>
-        requires { (room ≤ length scratch.old) × (marked scratch.old ≡ none) }
+        requires { (self.records ≤ most) × (room ≤ length scratch.old) × (marked scratch.old ≡ none) }
         ensures { result ≡ linking (holds self.entry.records self.entry.bytes.now) }
     {
         let mut total = 0;
@@ -86,9 +87,9 @@ impl<'a> Image<'a> {
     }
 
     // Error 19 of an image that is not well linked. "The whole scratch ends as zeros." Inner layer: callers see to the
-    // scratch.
+    // records and to the scratch.
     pub fn well_linked(self, scratch: &mut [u8]) -> Result<(), Refusal>
-        requires { room ≤ length scratch.old }
+        requires { (self.records ≤ most) × (room ≤ length scratch.old) }
         ensures answer { result ≡ linking (holds self.entry.records self.entry.bytes.now) }
         ensures scratch { scratch.new ≡ replicate (length scratch.old) 0 }
     {

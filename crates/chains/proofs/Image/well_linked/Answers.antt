@@ -7,4 +7,4 @@ use Rattle.chains.proofs.Image.well_linked.Goals as goal
 pub walk_all-linked-requires : goal.walk_all-linked-requires
 walk_all-linked-requires c =
     let clean = ap marked c.clear.ensures ∙ marked-none (length c.args.scratch.now) in
-    (omega arith, clean)
+    (c.requires.0, omega arith, clean)
