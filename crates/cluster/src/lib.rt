@@ -14,7 +14,7 @@ use refusal::Refusal;
 pub mod ranges;
 
 // Epoch, leader epoch (term), leader (0: none) and members as a mask: the registry's, or as a replica or the controller
-// last took them.
+// last took them. The leader is a number: `view_of` has it so, and 0 of the model's view is none.
 #[derive(Clone, Copy)]
 pub struct View {
     pub epoch: u16,
@@ -90,7 +90,8 @@ pub struct Registry {
     pub status: Status,
 }
 
-// By replica, 1 first: the heard length, 0 for none and n + 1 for n, and the heard joined epoch.
+// By replica, 1 first: the heard length, 0 for none and n + 1 for n, and the heard joined epoch. Two lists of numbers, as
+// `controller_of` reads them, by which the model's controller is the two in turn.
 #[derive(Clone, Copy)]
 pub struct Controller {
     pub view: View,
@@ -122,7 +123,8 @@ impl Controller {
 }
 
 // A row of document 01. By replica, 1 first: its view, its joined epoch, the length of its log; acked has a's count for
-// b at 8 (a - 1) + b - 1. Then the number of receipts. The entries stand in the lent places.
+// b at 8 (a - 1) + b - 1. Then the number of receipts. The entries stand in the lent places. A list
+// for each of these, as `outline_of` and `Shape` (crate refinement) name them.
 #[derive(Clone, Copy)]
 pub struct Cluster {
     pub registry: Registry,
@@ -168,7 +170,8 @@ pub fn replica(b: u8) -> bool
     Board::new(b).is_ok()
 }
 
-// A stage by its place in document 01's list.
+// A stage by its place in document 01's list. A status has its own, in heading: a trait for both would be longer than the
+// two.
 pub fn number(g: Stage) -> u8
     ensures { result ≡ M.stage_number (stage_of g) }
 {

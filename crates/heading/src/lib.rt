@@ -12,7 +12,8 @@ use cluster::{Cluster, Controller, Status, View};
 use members::Board;
 use text::Page;
 
-// A status by its place in document 01's list.
+// A status by its place in document 01's list. A stage has its own, in cluster: a trait for both would be longer than
+// the two.
 fn status_number(g: Status) -> u8
     ensures { result ≡ status_number (status_of g) }
 {

@@ -4,7 +4,7 @@
 #![tactic(auto)]
 
 ghost use Rattle.std.specs.Prelude.{true, ◌≡◌, ◌*◌, ◌<◌, ◌≤◌, length};
-ghost use Rattle.marks.specs.Marks.{room};
+ghost use Rattle.marks.specs.Marks.{most, room};
 ghost use Rattle.chains.specs.Image.{next_of, list_of, holds};
 ghost use Rattle.chains.specs.Chain.{chain_of};
 ghost use Rattle.refinement.specs.Refinement.{Full};
@@ -76,13 +76,13 @@ fn copy_boards(image: Image<'_>, store: &mut [u32], store2: &mut [u16]) -> [u16;
 }
 
 // Reads the nine chains of an image into the lent places: their lengths, or error 19 where it is not well linked, and
-// then nothing but the scratch changes. Inner layer: callers see to the lengths.
+// then nothing but the scratch changes. Inner layer: callers see to the records and to the lengths.
 pub fn take_chains(
     image: Image<'_>,
     p: &mut LentMut<'_>,
     scratch: &mut [u8],
 ) -> Result<Lengths, Refusal>
-    requires { Full (places_in p.old) × (room ≤ length scratch.old) }
+    requires { (image.records ≤ most) × Full (places_in p.old) × (room ≤ length scratch.old) }
     ensures same { SameLent p.old p.new }
     ensures taken { let i = image.entry in
         Taken (holds i.records i.bytes.now) i.bytes.now (places_in p.old) (places_in p.new)

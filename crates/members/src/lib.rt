@@ -170,7 +170,7 @@ pub fn is_quorum(m: u8, q: u8) -> bool
     majority(m) <= size(q)
 }
 
-// The lowest replica of the set, 0 for the empty set.
+// The lowest replica of the set, 0 for the empty set: a number, as the model's `lowest` is, of which it promises.
 pub fn lowest(m: u8) -> u8
     ensures { result ≡ Q.lowest (bits m) }
 {

@@ -63,7 +63,8 @@ impl<'a> Page<'a> {
         self.at = end;
     }
 
-    // Writes a number. The digits are stored from the last to the first, each from what is left of n.
+    // Writes a number. The digits are stored from the last to the first, each from what is left of n. By an index: a
+    // loop over the places from the last one on would divide once more, for the first digit.
     pub fn put_number(&mut self, n: u32)
         requires { HasRoom self.old (digits n) }
         ensures { Puts self.old (digits n) self.new }

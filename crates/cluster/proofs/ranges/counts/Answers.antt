@@ -1,9 +1,10 @@
--- The test of b is that of the count of b.
-use Rattle.std.proofs.Common.{rules, leb}
-use Rattle.cluster.specs.Layout.{at_pair}
+-- The eight numbers of a's row are its counts. Assumes nothing.
+use Rattle.std.proofs.Common.{◌∙◌, arith}
+use Rattle.cluster.proofs.Ranging.{counted-all}
 use Rattle.cluster.proofs.ranges.counts.Goals as goal
 
 pub returns : goal.returns
 returns c =
-    let a = c.args in
-    c.every_board.ensures (λ b. leb (at_pair a.row.now.acked a.a.number b) 512) (λ b r h. search rules)
+    let i = c.index-from.ensures.place in
+    c.few.ensures
+    ∙ counted-all c.args.row.now.acked c.args.a.number c.index-from.result _ (omega arith) (omega arith) (omega arith) i (omega arith)
