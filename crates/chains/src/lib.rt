@@ -43,8 +43,8 @@ impl<'a> Image<'a> {
         fields::four_at(self.bytes, 8 * k + 250)
     }
 
-    // The first record of the list b, 0 to 7 for the boards, 8 for the receipts. Inner layer: callers see to b. A list is
-    // named by number, as in `first_of` and `list_of`.
+    // The first record of the list b, 0 to 7 for the boards, 8 for the receipts. Inner layer: callers see to b.
+    // A list is named by number, as in `first_of`.
     pub fn first(self, b: usize) -> usize
         requires { b < 9 }
         ensures { result ≡ first_of self.entry.bytes.now b }

@@ -90,8 +90,8 @@ pub struct Registry {
     pub status: Status,
 }
 
-// By replica, 1 first: the heard length, 0 for none and n + 1 for n, and the heard joined epoch. Two lists of numbers, as
-// `controller_of` reads them, by which the model's controller is the two in turn.
+// By replica, 1 first: the heard length, 0 for none and n + 1 for n, and the heard joined epoch. Two lists of numbers,
+// since `controller_of` names each.
 #[derive(Clone, Copy)]
 pub struct Controller {
     pub view: View,
@@ -170,8 +170,8 @@ pub fn replica(b: u8) -> bool
     Board::new(b).is_ok()
 }
 
-// A stage by its place in document 01's list. A status has its own, in heading: a trait for both would be longer than the
-// two.
+// A stage by its place in document 01's list. A status has its own, in heading: a trait for both would be longer than
+// the two.
 pub fn number(g: Stage) -> u8
     ensures { result ≡ M.stage_number (stage_of g) }
 {

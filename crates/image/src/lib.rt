@@ -7,6 +7,7 @@ ghost use Rattle.refusal.specs.Refusal.{answer, returned};
 ghost use Rattle.refusal.specs.declared.Refusal.TheVariants.{ImageLength, ImageNumber};
 ghost use Rattle.refinement.specs.Refinement.{Shape};
 ghost use Rattle.refinement.specs.Lent.{places_of, places_in, SameLent};
+ghost use Rattle.marks.specs.Marks.{most};
 ghost use Rattle.shown.specs.Shown.{valid};
 ghost use Rattle.image.specs.Image.{records_in, length_fits, numbers_fit};
 ghost use Rattle.image.specs.Keeping.{saved, Saves, loaded, Loads, ReadsBack, Resumes, ImagesTell, TakenFits, PastLeft};
@@ -45,6 +46,8 @@ pub fn save(row: &Cluster, p: Lent<'_>, out: &mut [u8]) -> Result<usize, Refusal
 fn sized(bytes: &[u8]) -> Result<Image<'_>, Refusal>
     ensures answer { answer result ≡ cond (length_fits bytes.now) 0 17 }
     ensures image { IfOk result (λ x. (x.bytes.now ≡ bytes.now) × (x.records ≡ records_in bytes.now)) }
+    ensures whole { IfOk result (λ x. length x.bytes.now ≡ 8 * x.records + 258) }
+    ensures few { IfOk result (λ x. x.records ≤ most) }
 {
     let n = bytes.len();
     ensure(n >= 258, Refusal::ImageLength)?;
@@ -56,8 +59,9 @@ fn sized(bytes: &[u8]) -> Result<Image<'_>, Refusal>
     Ok(Image { bytes, records })
 }
 
-// Whether error 18 lets an image through.
+// Whether error 18 lets an image through. Callers see to the length.
 fn numbers_fit(image: Image<'_>) -> bool
+    requires { length image.bytes.now ≡ 8 * image.records + 258 }
     ensures { result ≡ numbers_fit image.entry.bytes.now }
 {
     let head = Head { bytes: image.bytes };
@@ -68,6 +72,7 @@ fn numbers_fit(image: Image<'_>) -> bool
 fn judge(bytes: &[u8]) -> Result<Image<'_>, Refusal>
     ensures answer { answer result ≡ cond (length_fits bytes.now) (cond (numbers_fit bytes.now) 0 18) 17 }
     ensures image { IfOk result (λ x. (x.bytes.now ≡ bytes.now) × (x.records ≡ records_in bytes.now)) }
+    ensures few { IfOk result (λ x. x.records ≤ most) }
 {
     let image = sized(bytes)?;
     ensure(numbers_fit(image), Refusal::ImageNumber)?;

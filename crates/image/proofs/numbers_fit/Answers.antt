@@ -11,7 +11,7 @@ use Rattle.image.proofs.numbers_fit.Goals.{then-codes_fit, else-codes_fit}
 pub returns-then-in_range : goal.returns-then-in_range
 returns-then-in_range c =
     let i = c.args.image.bytes.now in
-    let n : c.args.image.records ≡ records_in i = omega (arith, c.args.image.whole) in
+    let n : c.args.image.records ≡ records_in i = omega (arith, c.requires) in
     let e = sym (c.epochs_fit.ensures ∙ ap (λ n. epochs_fit n i) n) in
     elim c.if-codes_fit.branch [
       | then-codes_fit w ↦
