@@ -5,7 +5,7 @@ use mathlib.Core.Path.{◌≡◌, refl, sym, ap, subst, ◌∙◌}
 use Prim.Native.Nat.{ℕ, ◌≤◌}
 use native.Mathlib.Omega.{arith}
 use lib.Dec.{leb, eqb}
-use lib.ListN.{length, replicate, length-replicate}
+use lib.ListN.{length, replicate}
 use borrow.Author.Tests.{ne_eqb, eq-eqb, leb-true}
 use Rattle.text.specs.Text.{Text, over}
 use Rattle.marks.specs.Marks.{room}
@@ -112,22 +112,19 @@ judged-both image e = go (length_fits image) (numbers_fit image) refl refl
 -- What the chains' reader leaves and answers, of an image whose bytes and records are these: the cases of the whole.
 module _ (image : Text) (given : Cluster) (p : Places) (s : Text) (t : lent_enough p s ≡ true)
     (f : length_fits image ≡ true) (g : numbers_fit image ≡ true) (bytes : Text) (n : ℕ) (b : bytes ≡ image)
-    (k : n ≡ records_in image) (s₁ : Text) (z : s₁ ≡ replicate (length s) 0) where
+    (k : n ≡ records_in image) where
   links : verdict image ≡ cond (holds (records_in image) image) 0 19
   unfolding links_fit
   links = rw (f, g)
 
   -- The chains, and what is answered of them.
-  seen : {p' : Places} {s' : Text} {r : Result Lengths Refusal} → Taken (holds n bytes) bytes p p' s₁ s' r → (h : Bool)
-      → holds (records_in image) image ≡ h → Taken h image p p' s₁ s' r
+  seen : {p' : Places} {s' : Text} {r : Result Lengths Refusal} → Taken (holds n bytes) bytes p p' s s' r → (h : Bool)
+      → holds (records_in image) image ≡ h → Taken h image p p' s s' r
   seen {p'} {s'} {r} x h q =
-      let y : Taken (holds (records_in image) image) image p p' s₁ s' r = rw (b, k) at x in
-      subst (λ h. Taken h image p p' s₁ s' r) q y
+      let y : Taken (holds (records_in image) image) image p p' s s' r = rw (b, k) at x in
+      subst (λ h. Taken h image p p' s s' r) q y
 
-  clean : {p' : Places} {s' : Text} {h : Bool} {r : Result Lengths Refusal} → Taken h image p p' s₁ s' r → s' ≡ replicate (length s) 0
-  clean y = y.scratch ∙ ap (λ n. replicate n 0) (ap length z ∙ length-replicate (length s) 0)
-
-  pub not-linked : {p' : Places} {s' : Text} {e : Refusal} → Taken (holds n bytes) bytes p p' s₁ s' (Err e)
+  pub not-linked : {p' : Places} {s' : Text} {e : Refusal} → Taken (holds n bytes) bytes p p' s s' (Err e)
       → Loads image given p s (told (number e) given) p' s'
   not-linked {p'} {s'} {e} x = go (holds (records_in image) image) refl
     where
@@ -139,9 +136,9 @@ module _ (image : Text) (given : Cluster) (p : Places) (s : Text) (t : lent_enou
           let l : e ≡ ImageLinks = cc in
           let same : p' ≡ p = λ i. lent (y.values i) (y.epochs i) (y.list i) (y.dates i) in
           rw (same, l)
-          (bad-image image given p s t s' (clean y) 19 (links ∙ ap (λ b. cond b 0 19) q) (λ z. omega (arith, z)))
+          (bad-image image given p s t s' y.scratch 19 (links ∙ ap (λ b. cond b 0 19) q) (λ z. omega (arith, z)))
 
-  pub took : {p' : Places} {s' : Text} {l : Lengths} → Taken (holds n bytes) bytes p p' s₁ s' (Ok l) → (row : Cluster)
+  pub took : {p' : Places} {s' : Text} {l : Lengths} → Taken (holds n bytes) bytes p p' s s' (Ok l) → (row : Cluster)
       → row ≡ row_at bytes l.boards l.receipts → Loads image given p s (told 0 row) p' s'
   unfolding row_in places_in over
   took {p'} {s'} {l} x row e = go (holds (records_in image) image) refl
@@ -151,6 +148,6 @@ module _ (image : Text) (given : Cluster) (p : Places) (s : Text) (t : lent_enou
           let y = seen x true q in
           let a = y.answer in
           let m : l ≡ lengths_in image = cc in
-          good-image image given p s t s' (clean y) row p' (links ∙ ap (λ b. cond b 0 19) q)
+          good-image image given p s t s' y.scratch row p' (links ∙ ap (λ b. cond b 0 19) q)
           (e ∙ rw (b, m)) (λ i. lent (y.values i) (y.epochs i) (y.list i) (y.dates i))
       go false q = absurd (let a = (seen x false q).answer in cc)

@@ -93,8 +93,14 @@ pub fn load(
 {
     ensure(shown::lengths(p.lent()), Refusal::Invalid)?;
     ensure(marks::enough(scratch.len()), Refusal::Room)?;
-    marks::clear(&mut *scratch);
-    let image = judge(image)?;
+    let image = match judge(image) {
+        Ok(image) => image,
+        Err(e) => {
+            // Walking the chains clears it too: no byte is cleared for nothing.
+            marks::clear(&mut *scratch);
+            return Err(e);
+        }
+    };
     let lengths = loading::take_chains(image, &mut *p, &mut *scratch)?;
     *row = Head { bytes: image.bytes }.row(lengths.boards, lengths.receipts);
     Ok(())
