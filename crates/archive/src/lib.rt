@@ -63,9 +63,7 @@ pub fn show_image(image: &[u8], out: &mut [u8], scratch: &mut [u8]) -> Result<us
         list: &mut [0; 512],
         list2: &mut [0; 512],
     };
-    let Ok(mut row) = steps::opening(1) else {
-        unreachable!()
-    };
+    let (mut row, _) = steps::opening(1);
     image::load(&mut row, image, &mut p, scratch)?;
     let list = p.list;
     let list2 = p.list2;

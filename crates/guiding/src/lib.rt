@@ -78,9 +78,7 @@ pub fn plan_image(image: &[u8], out: &mut [u8], scratch: &mut [u8]) -> Result<us
         list: &mut [0; 512],
         list2: &mut [0; 512],
     };
-    let Ok(opened) = steps::opening(1) else {
-        unreachable!()
-    };
+    let (opened, _) = steps::opening(1);
     let mut taken = opened;
     image::load(&mut taken, image, &mut p, &mut *scratch)?;
     refinement::typed(taken);

@@ -10,7 +10,7 @@ use refusal::Refusal;
 use std::io;
 
 // A row, and the places that are lent with it.
-#[derive(Clone, Copy)]
+#[derive(Drop)]
 struct Trial {
     row: Cluster,
     store: [u32; 4096],
@@ -33,14 +33,15 @@ fn record(n: u32) -> Record {
 
 impl Trial {
     // The row opened with board 1.
-    fn new() -> Result<Trial, Refusal> {
-        Ok(Trial {
-            row: steps::opening(1)?,
+    fn new() -> Trial {
+        let (row, _) = steps::opening(1);
+        Trial {
+            row,
             store: [7; 4096],
             store2: [65535; 4096],
             list: [7; 512],
             list2: [65535; 512],
-        })
+        }
     }
 
     // One record: the controller's own steps over its record, all others over the row. For well-formed records alone:
@@ -67,10 +68,7 @@ impl Trial {
     // The records of a trial, each answer shown.
     fn play(&mut self, rt: &impl Print, sheet: &[u32]) -> io::Result<()> {
         for n in sheet {
-            let answer = match self.turn(record(*n)) {
-                Ok(_) => 0,
-                Err(e) => e.number(),
-            };
+            let answer = refusal::answer(&self.turn(record(*n)));
             print!(rt; "{answer} ")?;
         }
         Ok(())
@@ -78,15 +76,13 @@ impl Trial {
 }
 
 fn main(rt: HostRuntime) -> io::Result<()> {
-    let Ok(opened) = Trial::new() else {
-        return Ok(());
-    };
-    longer(&rt, opened)?;
-    four(&rt, opened)
+    longer(&rt)?;
+    four(&rt)
 }
 
 // P7, and P8 that goes on from it.
-fn longer(rt: &impl Print, mut t: Trial) -> io::Result<()> {
+fn longer(rt: &impl Print) -> io::Result<()> {
+    let mut t = Trial::new();
     print!(rt; "P7 ")?;
     t.play(
         rt,
@@ -100,7 +96,8 @@ fn longer(rt: &impl Print, mut t: Trial) -> io::Result<()> {
 }
 
 // The last case: four boards.
-fn four(rt: &impl Print, mut t: Trial) -> io::Result<()> {
+fn four(rt: &impl Print) -> io::Result<()> {
+    let mut t = Trial::new();
     print!(rt; "\nfour ")?;
     t.play(
         rt,

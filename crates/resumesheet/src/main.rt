@@ -66,7 +66,7 @@ fn go_on(rt: &impl Print, image: &[u8], records: &[u8]) -> io::Result<()> {
         list2: &mut list2,
     };
     let mut scratch = [255u8; 576];
-    let mut row = steps::opening(1).unwrap();
+    let (mut row, _) = steps::opening(1);
     if let Err(e) = image::load(&mut row, image, &mut p, &mut scratch) {
         return begin(rt, e.number());
     }

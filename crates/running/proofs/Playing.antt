@@ -9,6 +9,10 @@ use native.Mathlib.Omega.{arith}
 use lib.Dec.{T, eqb, leb, leb→le, eqb→eq}
 use lib.ListN.{length, take, drop, get_or, set, length-set}
 use lib.Seq.{take-suc-set, drop-drop, get_or-take}
+use Rattle.std.specs.Prelude.{Result, Ok, Err}
+use Rattle.std.specs.Result.{result_unwrap_or}
+use Rattle.refusal.specs.declared.Refusal.{Refusal}
+use Rattle.refusal.specs.Refusal.{handed}
 use Rattle.model.specs.Members.{is_replica, none}
 use Rattle.model.specs.State.{RowState, entries, outline, Opening, opening_with, can_open, opened}
 use Rattle.model.specs.Steps.{Step, answer_of, behind, step}
@@ -226,3 +230,8 @@ pub answers-are : (s : Text) → is_sheet s ≡ true → (row : Cluster) (p : Pl
     → Ran s (length s / 8 - 1) row p ns ms → take (length s / 8) ns ≡ answers_of s
 unfolding answers_of
 answers-are s e row p ns ms h = ap (λ n. take n ns) (sym (sheet-some s e)) ∙ h.answered
+
+-- The set behind a step, none behind one that was refused.
+pub unwrapped : (x : Result ℕ Refusal) → result_unwrap_or x 0 ≡ handed 0 x
+unwrapped (Ok q) = refl
+unwrapped (Err e) = refl

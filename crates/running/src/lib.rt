@@ -4,7 +4,6 @@
 
 ghost use Rattle.std.specs.Prelude.{◌≡◌, true, ◌-◌, ◌/◌, length, take};
 ghost use Rattle.model.specs.Records.{opening_of};
-ghost use Rattle.refusal.specs.Refusal.{answer, handed};
 ghost use Rattle.refinement.specs.Refinement.{Full};
 ghost use Rattle.refinement.specs.Lent.{SameLent, places_in};
 ghost use Rattle.steps_central.specs.Opening.{OpenedWith};
@@ -14,28 +13,13 @@ ghost use Rattle.running.specs.Running.{Ran, answers_of};
 use cluster::Cluster;
 use records::Record;
 use refinement::LentMut;
-use refusal::Refusal;
 
 // The opening. Callers see to it that refusal 2 lets the sheet through.
 fn begin(sheet: &[u8]) -> Cluster
     requires { is_sheet sheet.now ≡ true }
     ensures { OpenedWith (opening_of (record_at sheet.now)) result }
 {
-    let Ok(row) = steps_central::opening(Record::at(sheet, 0).board) else {
-        unreachable!()
-    };
-    row
-}
-
-// What a step answers, and the set behind it.
-fn told(x: Result<u8, Refusal>) -> (u8, u8)
-    ensures answer { result.0 ≡ answer x }
-    ensures behind { result.1 ≡ handed 0 x }
-{
-    match x {
-        Ok(behind) => (0, behind),
-        Err(e) => (e.number(), 0),
-    }
+    steps_central::opening(Record::at(sheet, 0).board).0
 }
 
 // The whole sheet: its answers, and the sets behind them as masks. Inner layer: callers see to it that refusal 2 lets
@@ -50,10 +34,10 @@ pub fn play(sheet: &[u8], p: &mut LentMut<'_>, answers: &mut [u8], sets: &mut [u
     answers[0] = 0;
     sets[0] = 0;
     for k in 1..sheet.len() / 8 {
-        refinement::typed(row);
-        let (answer, behind) = told(dispatch::send(&mut row, p, Record::at(sheet, 8 * k)));
-        answers[k] = answer;
-        sets[k] = behind;
+        let _view = row.views[0]; // So the proof knows how long the row's arrays are.
+        let x = dispatch::send(&mut row, p, Record::at(sheet, 8 * k));
+        answers[k] = refusal::answer(&x);
+        sets[k] = x.unwrap_or(0);
     }
     row
 }

@@ -11,16 +11,15 @@ use Rattle.model.specs.State as M
 use Rattle.model.specs.Steps.{deaf}
 use Rattle.model.proofs.Tests.{le-or-lt}
 use Rattle.members.specs.Mask.{bits}
-use Rattle.members.proofs.Laws.{replica, bits_none, bits-single}
+use Rattle.members.proofs.Laws.{replica, bits_none}
 use Rattle.logstore.specs.Log.{log_of}
 use Rattle.cluster.specs.declared.View.{View}
-use Rattle.cluster.specs.declared.Stage.TheVariants.{Idle}
+use Rattle.cluster.specs.declared.Status.TheVariants.{Normal}
 use Rattle.cluster.specs.declared.Controller.{Controller}
 use Rattle.cluster.specs.declared.Cluster.{Cluster}
 use Rattle.cluster.specs.Layout.{at, at_pair, no_view, view_of, controller_of, outline_of}
-use Rattle.cluster.proofs.Laws.{deaf-of}
 use Rattle.refinement.specs.Refinement.{logged, listed}
-use Rattle.steps_central.specs.Opening.{OpenedWith, first_row}
+use Rattle.steps_central.specs.Opening.{OpenedWith}
 
 -- Eight of a kind, by a number: 0, 1 to 8, or above.
 at_all : {A : Type 0} (d v : A) (x : ℕ) → at d (replicate 8 v) x ≡ cond (is_replica x) v d
@@ -55,7 +54,15 @@ module _ (b m : ℕ) (e : bits m ≡ only b) (c : Controller) where
   first = record { epoch = 1; term = 1; leader = b; members = m }
 
   abbrev open_row : Cluster
-  open_row = record (first_row b m) { controller = c }
+  open_row = record {
+    registry = record { view = first; status = Normal };
+    controller = c;
+    views = replicate 8 first;
+    joined = replicate 8 1;
+    acked = replicate 64 0;
+    len = replicate 8 0;
+    issued = 0;
+  }
 
   first-view : view_of first ≡ M.first_view (M.opening_with b)
   first-view i = record { epoch = 1; term = 1; leader = b; members = e i }
@@ -95,9 +102,3 @@ module _ (b m : ℕ) (e : bits m ≡ only b) (c : Controller) where
       };
       outline = outlined;
     }
-
--- The row opened with board 1.
-pub opened_first : OpenedWith (M.opening_with 1) (first_row 1 1)
-opened_first =
-    let v : View = record { epoch = 1; term = 1; leader = 1; members = 1 } in
-    opened_with 1 1 (bits-single 1 (omega arith) (omega arith)) _ (deaf-of v Idle)

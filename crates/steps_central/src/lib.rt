@@ -10,7 +10,7 @@ ghost use Rattle.model.specs.Steps as S;
 ghost use Rattle.refusal.specs.Refusal.{answer, handed};
 ghost use Rattle.cluster.specs.Ended.{outcome};
 ghost use Rattle.refinement.specs.Refinement.{Short, HasLeader, Governs};
-ghost use Rattle.steps_central.specs.Opening.{Opens, OpenedWith, opened_as};
+ghost use Rattle.steps_central.specs.Opening.{Opens, OpenedWith};
 
 use cluster::{Cluster, Controller, Registry, Stage, Status, View};
 use members::Board;
@@ -40,11 +40,15 @@ fn opened(b: Board) -> Cluster
     }
 }
 
-// The opening call; refused for a number that is no replica.
-pub fn opening(b: u8) -> Result<Cluster, Refusal>
-    ensures { Opens (M.opening_with b) (opened_as result) }
+// The opening call; refused for a number that is no replica. The row stands beside the result, as that of a refused
+// opening is promised too: it is the one opened with board 1.
+pub fn opening(b: u8) -> (Cluster, Result<u8, Refusal>)
+    ensures { Opens (M.opening_with b) (outcome result.1 result.0) }
 {
-    Ok(opened(Board::new(b)?))
+    match Board::new(b) {
+        Ok(b) => (opened(b), Ok(0)),
+        Err(e) => (opened(Board::at(0)), Err(e)),
+    }
 }
 
 // A step that asks no majority has no one behind it.

@@ -6,11 +6,10 @@
 use cluster::Cluster;
 use records::Record;
 use refinement::{Lent, LentMut};
-use refusal::Refusal;
 use std::io;
 
 // A row, and the places that are lent with it.
-#[derive(Clone, Copy)]
+#[derive(Drop)]
 struct Trial {
     row: Cluster,
     store: [u32; 4096],
@@ -48,15 +47,19 @@ fn record(short: [u8; 4]) -> Record {
     }
 }
 
-// The answer to a step: 0, or the refusal's number.
-fn number(x: Result<u8, Refusal>) -> u8 {
-    match x {
-        Ok(_) => 0,
-        Err(e) => e.number(),
-    }
-}
-
 impl Trial {
+    // The row opened with board 1.
+    fn new() -> Trial {
+        let (row, _) = steps::opening(1);
+        Trial {
+            row,
+            store: [7; 4096],
+            store2: [65535; 4096],
+            list: [7; 512],
+            list2: [65535; 512],
+        }
+    }
+
     // A record's step: its answer.
     fn step(&mut self, short: [u8; 4]) -> u8 {
         let mut p = LentMut {
@@ -65,7 +68,7 @@ impl Trial {
             list: &mut self.list,
             list2: &mut self.list2,
         };
-        number(steps::step(&mut self.row, &mut p, record(short)))
+        refusal::answer(&steps::step(&mut self.row, &mut p, record(short)))
     }
 
     // Records one after the other, each answer shown.
@@ -108,53 +111,33 @@ impl Trial {
 fn main(rt: HostRuntime) -> io::Result<()> {
     print!(rt; "P2 ")?;
     for b in [0, 9, 8] {
-        let answer = match steps::opening(b) {
-            Ok(_) => 0,
-            Err(e) => e.number(),
-        };
+        let (_, x) = steps::opening(b);
+        let answer = refusal::answer(&x);
         print!(rt; "{answer} ")?;
     }
-    let Ok(row) = steps::opening(1) else {
-        return Ok(());
-    };
-    let opened = Trial {
-        row,
-        store: [7; 4096],
-        store2: [65535; 4096],
-        list: [7; 512],
-        list2: [65535; 512],
-    };
-    by_itself(
-        &rt,
-        opened,
-        "P3",
-        &[[2, 1, 0, 0], [1, 1, 0, 41], [2, 1, 0, 0]],
-    )?;
-    by_itself(&rt, opened, "P4", &[[1, 2, 0, 41]])?;
-    by_itself(
-        &rt,
-        opened,
-        "P5",
-        &[[5, 0, 0, 0], [4, 1, 0, 0], [4, 2, 0, 0]],
-    )?;
-    by_itself(&rt, opened, "P6", &[[3, 2, 0, 0], [3, 2, 0, 0]])?;
-    longer(&rt, opened)?;
-    full(&rt, opened)?;
-    worn(&rt, opened)?;
-    four(&rt, opened)?;
-    sales(&rt, opened)?;
-    vacant(&rt, opened)?;
-    kept(&rt, opened)
+    by_itself(&rt, "P3", &[[2, 1, 0, 0], [1, 1, 0, 41], [2, 1, 0, 0]])?;
+    by_itself(&rt, "P4", &[[1, 2, 0, 41]])?;
+    by_itself(&rt, "P5", &[[5, 0, 0, 0], [4, 1, 0, 0], [4, 2, 0, 0]])?;
+    by_itself(&rt, "P6", &[[3, 2, 0, 0], [3, 2, 0, 0]])?;
+    longer(&rt)?;
+    full(&rt)?;
+    worn(&rt)?;
+    four(&rt)?;
+    sales(&rt)?;
+    vacant(&rt)?;
+    kept(&rt)
 }
 
 // A trial by itself: its name, and its records after an opening with board 1.
-fn by_itself(rt: &impl Print, mut t: Trial, name: &str, sheet: &[[u8; 4]]) -> io::Result<()> {
+fn by_itself(rt: &impl Print, name: &str, sheet: &[[u8; 4]]) -> io::Result<()> {
+    let mut t = Trial::new();
     print!(rt; "\n{name} ")?;
     t.play(rt, sheet)
 }
 
 // The trials that go on from each other.
-fn longer(rt: &impl Print, mut t: Trial) -> io::Result<()> {
+fn longer(rt: &impl Print) -> io::Result<()> {
+    let mut t = Trial::new();
     print!(rt; "\nP7 ")?;
     t.play(
         rt,
@@ -178,21 +161,24 @@ fn longer(rt: &impl Print, mut t: Trial) -> io::Result<()> {
 }
 
 // A log that gets full.
-fn full(rt: &impl Print, mut t: Trial) -> io::Result<()> {
+fn full(rt: &impl Print) -> io::Result<()> {
+    let mut t = Trial::new();
     print!(rt; "\nfull ")?;
     t.alternate([1, 1, 0, 5], [1, 1, 0, 5], 255);
     t.play(rt, &[[1, 1, 0, 9], [1, 1, 0, 9], [1, 1, 0, 9]])
 }
 
 // Epochs that are used up.
-fn worn(rt: &impl Print, mut t: Trial) -> io::Result<()> {
+fn worn(rt: &impl Print) -> io::Result<()> {
+    let mut t = Trial::new();
     print!(rt; "\nworn ")?;
     t.alternate([3, 2, 0, 0], [4, 2, 0, 0], 1999);
     t.play(rt, &[[3, 2, 0, 0], [4, 2, 0, 0]])
 }
 
 // The last case: four boards.
-fn four(rt: &impl Print, mut t: Trial) -> io::Result<()> {
+fn four(rt: &impl Print) -> io::Result<()> {
+    let mut t = Trial::new();
     print!(rt; "\nfour ")?;
     t.play(rt, &FOUR_READY)?;
     t.play(
@@ -220,7 +206,8 @@ fn four(rt: &impl Print, mut t: Trial) -> io::Result<()> {
 // Document 02, Paper 4: 1 appends 40, which 2 and 4 receive, then 41, which 4 alone receives. 2 leads, under leader
 // epoch 7, and appends 41 too. Board 4's own 41 is another sale: it joins, and its log is cut to 40. Then it receives
 // the sale of 2, is counted, and two receipts are given.
-fn sales(rt: &impl Print, mut t: Trial) -> io::Result<()> {
+fn sales(rt: &impl Print) -> io::Result<()> {
+    let mut t = Trial::new();
     print!(rt; "\nsales ")?;
     t.play(rt, &FOUR_READY)?;
     t.play(
@@ -254,7 +241,8 @@ fn sales(rt: &impl Print, mut t: Trial) -> io::Result<()> {
 
 // While no leader is named the receipts are shown: 1 appends 41, 2 and 3 receive it and are counted, a receipt is
 // given, and the leader is changed.
-fn vacant(rt: &impl Print, mut t: Trial) -> io::Result<()> {
+fn vacant(rt: &impl Print) -> io::Result<()> {
+    let mut t = Trial::new();
     print!(rt; "\nvacant ")?;
     t.play(rt, &FOUR_READY)?;
     t.play(
@@ -274,7 +262,8 @@ fn vacant(rt: &impl Print, mut t: Trial) -> io::Result<()> {
 
 // Kept epochs: 1 appends 41; a receipt with that entry's epoch made 0, 4,001 and 4,000; adding 2 with the receipt's
 // made 0 and 1. A refused row shows nothing.
-fn kept(rt: &impl Print, mut t: Trial) -> io::Result<()> {
+fn kept(rt: &impl Print) -> io::Result<()> {
+    let mut t = Trial::new();
     let receipt = [2, 1, 0, 0];
     let add = [3, 2, 0, 0];
     print!(rt; "\nkept ")?;

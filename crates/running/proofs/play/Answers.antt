@@ -2,7 +2,7 @@
 use Rattle.std.proofs.Common.{rules, ◌-◌}
 use Rattle.cluster.specs.Ended.{outcome}
 use Rattle.refinement.specs.Lent.{places_in}
-use Rattle.running.proofs.Playing.{ran-ready, ran-next, ran-none}
+use Rattle.running.proofs.Playing.{ran-ready, ran-next, ran-none, unwrapped}
 use Rattle.running.proofs.play.Goals as goal
 
 pub loop-k-init : goal.loop-k-init
@@ -15,13 +15,13 @@ pub send-requires : goal.send-requires
 send-requires c =
     let l = c.loop-k in
     let h = l.invariant.run in
-    (ran-ready c.args.sheet.now c.requires.0 (l.k - 1) l.row (places_in l.p) l.answers l.sets h c.typed.ensures, h.full)
+    (ran-ready c.args.sheet.now c.requires.0 (l.k - 1) l.row (places_in l.p) l.answers l.sets h (search rules), h.full)
 
 pub loop-k-preserved : goal.loop-k-preserved
 loop-k-preserved c = record {
   same = search rules;
   run = let l = c.loop-k in
-      rw (c.told-answer.ensures.answer, c.told-answer.ensures.behind)
+      rw (c.answer.ensures, c.unwrap_or.ensures, unwrapped c.send.result)
       (ran-next c.args.sheet.now c.requires.0 l.k l.row (places_in l.p) l.answers l.sets l.auto.k l.invariant.run
       _ c.at.ensures (outcome c.send.result c.send.new.row) _ c.send.ensures.step c.loop-k-test.true);
 }
