@@ -29,7 +29,7 @@ pub fn refresh_controller(row: &mut Cluster) -> Result<u8, Refusal>
     ensures link { IsLink S.refresh_controller row.old (outcome result row.new) }
     ensures left { outcome result row.new ≡ put_to row.old (taken result row.new.controller) }
 {
-    let _view = row.views[0]; // So the proof knows how long the row's arrays are.
+    refinement::typed(*row);
     let g = row.registry;
     hub::refresh_controller(&mut row.controller, g)
 }
@@ -39,7 +39,7 @@ pub fn read_leader(row: &mut Cluster) -> Result<u8, Refusal>
     ensures link { IsLink S.read_leader row.old (outcome result row.new) }
     ensures left { outcome result row.new ≡ put_to row.old (taken result row.new.controller) }
 {
-    let _view = row.views[0]; // So the proof knows how long the row's arrays are.
+    refinement::typed(*row);
     let b = Board::new(row.controller.view.leader).unwrap_or(Board::at(0));
     let x = report(row, b);
     hub::read_leader(&mut row.controller, x)
@@ -50,7 +50,7 @@ pub fn read(row: &mut Cluster, b: Board) -> Result<u8, Refusal>
     ensures link { IsLink (S.read b.number) row.old (outcome result row.new) }
     ensures left { outcome result row.new ≡ put_to row.old (taken result row.new.controller) }
 {
-    let _view = row.views[0]; // So the proof knows how long the row's arrays are.
+    refinement::typed(*row);
     let x = report(row, b);
     hub::read(&mut row.controller, x)
 }
@@ -60,7 +60,7 @@ pub fn hear(row: &mut Cluster, b: Board) -> Result<u8, Refusal>
     ensures link { IsLink (S.hear b.number) row.old (outcome result row.new) }
     ensures left { outcome result row.new ≡ put_to row.old (taken result row.new.controller) }
 {
-    let _view = row.views[0]; // So the proof knows how long the row's arrays are.
+    refinement::typed(*row);
     let x = report(row, b);
     hub::hear(&mut row.controller, x)
 }

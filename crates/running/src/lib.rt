@@ -34,7 +34,7 @@ pub fn play(sheet: &[u8], p: &mut LentMut<'_>, answers: &mut [u8], sets: &mut [u
     answers[0] = 0;
     sets[0] = 0;
     for k in 1..sheet.len() / 8 {
-        let _view = row.views[0]; // So the proof knows how long the row's arrays are.
+        refinement::typed(row);
         let x = dispatch::send(&mut row, p, Record::at(sheet, 8 * k));
         answers[k] = refusal::answer(&x);
         sets[k] = x.unwrap_or(0);

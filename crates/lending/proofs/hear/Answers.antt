@@ -1,5 +1,5 @@
 -- What is put back is what the call left.
-use Rattle.std.proofs.Common.{rules, subst}
+use Rattle.std.proofs.Common.{subst}
 use Rattle.hub.specs.Replies.{reply}
 use Rattle.hub.specs.Lent.{Hears}
 use Rattle.hub.specs.Whole.{Link}
@@ -11,4 +11,4 @@ returns-clause-link c p v =
     let row = c.args.row.now in
     let f = c.hear in
     let l = subst (λ x. Hears row.controller x (reply f.result) f.new.c) c.report-x.ensures f.ensures in
-    Link.hear {h = held row p} {r = reply f.result} {c' = f.new.c} (search rules) l
+    Link.hear {h = held row p} {r = reply f.result} {c' = f.new.c} c.typed.ensures l

@@ -1,5 +1,5 @@
 -- What is put back is what the call left.
-use Rattle.std.proofs.Common.{rules, subst}
+use Rattle.std.proofs.Common.{subst}
 use Rattle.hub.specs.Replies.{reply}
 use Rattle.hub.specs.Lent.{Reads}
 use Rattle.hub.specs.Whole.{Link}
@@ -11,4 +11,4 @@ returns-clause-link c p v =
     let row = c.args.row.now in
     let f = c.read in
     let l = subst (λ x. Reads row.controller x (reply f.result) f.new.c) c.report-x.ensures f.ensures in
-    Link.read {h = held row p} {r = reply f.result} {c' = f.new.c} (search rules) l
+    Link.read {h = held row p} {r = reply f.result} {c' = f.new.c} c.typed.ensures l

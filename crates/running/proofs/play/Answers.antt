@@ -11,8 +11,8 @@ loop-k-init c = record {
   run = ran-none c.args.sheet.now c.begin-row.result c.begin-row.ensures _ c.requires.1 _ _ c.requires.2 c.requires.3;
 }
 
-pub send-requires : goal.send-requires
-send-requires c =
+pub send-x-requires : goal.send-x-requires
+send-x-requires c =
     let l = c.loop-k in
     let h = l.invariant.run in
     (ran-ready c.args.sheet.now c.requires.0 (l.k - 1) l.row (places_in l.p) l.answers l.sets h (search rules), h.full)
@@ -21,7 +21,7 @@ pub loop-k-preserved : goal.loop-k-preserved
 loop-k-preserved c = record {
   same = search rules;
   run = let l = c.loop-k in
-      rw (c.answer.ensures, c.unwrap_or.ensures, unwrapped c.send.result)
+      rw (c.answer.ensures, c.unwrap_or.ensures, unwrapped c.send-x.result)
       (ran-next c.args.sheet.now c.requires.0 l.k l.row (places_in l.p) l.answers l.sets l.auto.k l.invariant.run
-      _ c.at.ensures (outcome c.send.result c.send.new.row) _ c.send.ensures.step c.loop-k-test.true);
+      _ c.at.ensures (outcome c.send-x.result c.send-x.new.row) _ c.send-x.ensures.step c.loop-k-test.true);
 }
