@@ -1,6 +1,4 @@
 -- `model::ranges` meets its contract. Assumes nothing.
-use Rattle.model.proofs.ranges.Statement.{statement}
-use Rattle.model.proofs.ranges.Tie as tie
 use Rattle.model.specs.State.{entries, outline}
 use Rattle.model.specs.Ranges.{in_range, kept_in_range, RunsInRange}
 use Rattle.model.specs.Claim.{after}
@@ -8,12 +6,10 @@ use Rattle.model.proofs.Tests.{join-and}
 use Rattle.model.proofs.Entries.{same-entry}
 use Rattle.model.proofs.Bounds.{in-range}
 use Rattle.model.proofs.Made.{kept_in, terms-run}
+use Rattle.model.proofs.ranges.Goals as goal
 
-returns : tie.Need-returns
+pub returns : goal.returns
 unfolding RunsInRange
 returns c = λ o real sts.
     join-and (in_range (outline (after entries o sts))) (kept_in_range (after entries o sts))
     (in-range entries same-entry o real sts) (kept_in (terms-run o real sts))
-
-pub ranges_spec : {M : Type 1} → statement M
-ranges_spec = tie.close (tie.spec returns)
