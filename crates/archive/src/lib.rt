@@ -18,7 +18,7 @@ pub fn sample()
     ensures { SampleHolds × EmptyRefused × LengthsTell }
 {}
 
-// Runs a sheet in lent places and writes the image of its row.
+// Runs a sheet in lent places and writes the image of its row. (That it is a sheet stays a clause, as in `running`.)
 fn save_run(sheet: &[u8], p: &mut LentMut<'_>, out: &mut [u8]) -> Result<usize, Refusal>
     requires sheet { is_sheet sheet.now ≡ true }
     requires places { Full (places_in p.old) }

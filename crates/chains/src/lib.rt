@@ -1,5 +1,6 @@
-// The chains of an image (document 02, Paper 7): the first record of a list, a record's next, epoch and value; error 19,
-// found by walking all nine chains over a scratch of marks; and the records' part of error 18.
+// The chains of an image (document 02, Paper 7): the first record of a list, a record's next, epoch and value; error
+// 19, found by walking all nine chains over a scratch of marks; and the records' part of error 18. A scratch's length
+// stays in the clauses: one of any length is lent, by C too, and `image::load` looks at it first, for refusal 3.
 #![tactic(auto)]
 
 ghost use Rattle.std.specs.Prelude.{◌≡◌, ◌+◌, ◌*◌, ◌<◌, ◌≤◌, length, replicate};
@@ -19,7 +20,8 @@ pub struct Image<'a> {
 }
 
 impl<'a> Image<'a> {
-    // The record after the record k. Inner layer: callers see to k.
+    // The record after the record k, by number, and 0 after the last: an image has it so (`next_of`). Inner layer:
+    // callers see to k.
     pub fn next(self, k: usize) -> usize
         requires { k ≤ self.records }
         ensures { result ≡ next_of self.entry.bytes.now k }

@@ -11,7 +11,7 @@ use refusal::{Refusal, ensure};
 use text::Page;
 
 // Gives out the list that was noted as orders, and how many records it has; refusal 20 of one that is too long. Inner
-// layer: callers see to the room.
+// layer: callers see to the room: a clause, since C lends a slice of any length, and refusal 3 comes before the list.
 pub fn deliver(orders: &Orders, out: &mut [u8]) -> Result<usize, Refusal>
     requires { 16512 ≤ length out.old }
     ensures { Gives (delivered true (noted orders.now)) out.old (planned result) out.new }

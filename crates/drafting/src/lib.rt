@@ -82,7 +82,7 @@ fn draft(s: &mut Sketch<'_>) -> Result<(), Refusal>
 
 // The list of a row, given out in a slice of at least 16,512 bytes, and how many records it has; refusal 20 where there
 // is none. Inner layer: callers see to the row, the places and that room; the places are left as the steps of the list
-// leave them.
+// leave them. (The room stays a clause: a slice of any length is lent, by C too, and refusal 3 comes before the list.)
 pub fn plan(row: &Cluster, places: LentMut<'_>, out: &mut [u8]) -> Result<usize, Refusal>
     requires fit { Fit row.now (places_in places) }
     requires room { 16512 ≤ length out.old }

@@ -8,7 +8,9 @@ use refusal::{Refusal, ensure};
 use telling::{Told, put_line};
 use text::Page;
 
-// A sheet of at most 4,095 records, and an answer on the list for each.
+// A sheet of at most 4,095 records, and an answer on the list for each: numbers, as `running::answers` hands them over
+// and as `is_listed` and `lines_of` have them. (`Listed` of crate listing has the like four calls: a trait for both,
+// with a line's writer, its bound, and the laws of the two, would be as long as they are.)
 #[derive(Clone, Copy)]
 pub struct Answered<'a> {
     pub sheet: &'a [u8],

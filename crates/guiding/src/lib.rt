@@ -28,7 +28,8 @@ pub fn sample()
     ensures { SampleHolds }
 {}
 
-// Writes the list of a row, and hands back its length in bytes. Callers see to the row, the places and the room.
+// Writes the list of a row, and hands back its length in bytes. Callers see to the row, the places and the room: a
+// clause, since C lends a slice of any length, and both calls look at it first, for refusal 3.
 fn give(row: &Cluster, p: LentMut<'_>, out: &mut [u8]) -> Result<usize, Refusal>
     requires fit { Fit row.now (places_in p) }
     requires room { 16512 ≤ length out.old }

@@ -23,7 +23,8 @@ fn heard(n: u16) -> u16
 }
 
 impl<'a> Head<'a> {
-    // A status by its number; codes_fit is for those past the last.
+    // A status by its number; codes_fit is for those past the last. (`stage` has another enum, place and default: one
+    // of both would get all three, for one line.)
     fn status(self) -> Status
         ensures { result ≡ status_from (get_or self.entry.bytes.now 6 0) }
     {

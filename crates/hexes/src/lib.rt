@@ -8,7 +8,8 @@ ghost use Rattle.hexes.specs.Hex.{hex_digit, hex, hexes};
 
 use text::Page;
 
-// The digit of a number below 16.
+// The digit of a number below 16. By hand: `Puts` promises a page's bytes, and a page is no `fmt::Write` to format
+// into.
 fn hex_digit(x: u8) -> u8
     requires { x < 16 }
     ensures { result ≡ hex_digit x }

@@ -1,5 +1,6 @@
 // The same steps of a copy of the controller's record. Refusal 1 is one check more, before the step's own. A refused
-// step hands no record back: the caller has the old one.
+// step hands no record back: the caller has the old one. These are the core by value under the thin functions of lib.rt
+// (docs/DECISIONS.md, "Forms by place"), four as those are: each has its own step in its promise.
 
 ghost use Rattle.hub.specs.Replies.{returned};
 ghost use Rattle.hub.specs.Lent.{TakesNews, ReadsLeader, Reads, Hears};

@@ -1,6 +1,7 @@
 // The controller's steps over its record as the hub lends it: news (10), read leader (11), read (12), hear (14). Bad
 // input is refused with 1. Each copies the record out, calls the function of `copied` with it and stores what that
-// leaves.
+// leaves: document 01 has a core by value, and thin functions over the lent record (docs/DECISIONS.md, "Forms by
+// place"). They stay four, of two lines: docs/ name each as a call, with its own step in its promise.
 #![tactic(auto)]
 
 ghost use Rattle.hub.specs.Replies.{reply};

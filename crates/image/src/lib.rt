@@ -1,5 +1,5 @@
 // The image of a row (document 02, Paper 7): written into a lent slice, and taken up again. None of the public calls
-// asks anything of its caller.
+// asks anything of its caller. Row and places stay two parameters, as in `steps`.
 #![tactic(auto)]
 
 ghost use Rattle.std.specs.Prelude.{true, cond, ◌≡◌, ◌+◌, ◌*◌, ◌≤◌, Ok, Err, IfOk, length};

@@ -1,6 +1,7 @@
 // Refusal 1 of a row for its kept epochs (document 02, Paper 4): the term of each entry inside a log or the receipts is
 // 1 to 4,000. Places past a length are not looked at. Inner layer: callers see to it that the second store and the
-// second list have their lengths, and that no log and no list of receipts is longer than 512.
+// second list have their lengths, and that no log and no list of receipts is longer than 512: clauses, since it is
+// `shown::fits` that looks at these lengths, for refusal 1, and asks here last.
 #![tactic(auto)]
 
 ghost use Rattle.std.specs.Prelude.{◌≡◌, List, map, ℕ, ◌≤◌, length};

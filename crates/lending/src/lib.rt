@@ -1,4 +1,5 @@
-// Steps 10, 11, 12 and 14 of a whole row: its controller is lent to the call of `hub`.
+// Steps 10, 11, 12 and 14 of a whole row: its controller is lent to the call of `hub`. They stay four, as that has four
+// calls: one over a closure would need its clauses beside theirs, and they have two to four lines each.
 #![tactic(auto)]
 
 ghost use Rattle.std.specs.Prelude.{◌≡◌};

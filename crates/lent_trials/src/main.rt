@@ -9,7 +9,8 @@ use refinement::LentMut;
 use refusal::Refusal;
 use std::io;
 
-// A row, and the places that are lent with it.
+// A row, and the places that are lent with it. (`trials` has it too: for two programs alone it would be a crate of its
+// own, with a contract and a must-fail edit of `new`, which would be longer.)
 #[derive(Drop)]
 struct Trial {
     row: Cluster,
@@ -19,8 +20,8 @@ struct Trial {
     list2: [u16; 512],
 }
 
-// A record in short: its step, a digit for its board, one for the second board, two for the value. So 3_2_0_00 is
-// add 2, and 1_1_0_41 is append 1, 41.
+// A record in short: its step, a digit for its board, one for the second board, two for the value. So 3_2_0_00 is add
+// 2, and 1_1_0_41 is append 1, 41. One number: as an array each record of a longer list has a line of its own.
 fn record(n: u32) -> Record {
     Record {
         step: (n / 10000 % 16) as u8,
@@ -45,7 +46,7 @@ impl Trial {
     }
 
     // One record: the controller's own steps over its record, all others over the row. For well-formed records alone:
-    // no field of the controller's is looked at here.
+    // no field of the controller's is looked at here. A match on numbers: steps are numbers, as in `Record`.
     fn turn(&mut self, r: Record) -> Result<u8, Refusal> {
         let row = &mut self.row;
         match r.step {

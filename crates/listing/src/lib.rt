@@ -11,8 +11,10 @@ use refusal::{Refusal, ensure};
 use text::Page;
 
 // A sheet that was run: an answer and a set, as a mask, for each record, 4,095 of them at most, and no answer of more
-// than two digits. (Three lists side by side, and answers as numbers, as `running` keeps them: a sheet is bytes, and
-// `explain` asks `running` for the answers alone.)
+// than two digits. (Three lists side by side, and answers as numbers: `Ran` of crate running has the two lists of
+// numbers and `all_lines` the three, a sheet is bytes, and `explain` asks for the answers alone. `Answered` there has
+// the like four calls: a trait for both, with a line's writer, its bound, and the laws of the two, would be as long as
+// they are.)
 #[derive(Clone, Copy)]
 pub struct Listed<'a> {
     pub sheet: &'a [u8],

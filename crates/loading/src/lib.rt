@@ -1,6 +1,7 @@
 // The chains of an image (document 02, Paper 7), read into the lent places: the logs' values and epochs into the store
 // and the second store, and the receipts into the list and the second list. Error 19 changes nothing but the scratch.
-// Inner layer: callers see to it that the lent places and the scratch have their lengths.
+// Inner layer: callers see to it that the lent places and the scratch have their lengths: clauses, since slices of any
+// length are lent, and `image::load` looks at them first, for refusals 1 and 3.
 #![tactic(auto)]
 
 ghost use Rattle.std.specs.Prelude.{true, ◌≡◌, ◌*◌, ◌<◌, ◌≤◌, length};
@@ -23,7 +24,7 @@ pub struct Lengths {
 }
 
 // Copies the chain that starts at first into a part for its values and one for its epochs: its length. Callers see to
-// it that the chain can be copied, and to the lengths.
+// it that the chain can be copied, and to the lengths. Record 0 ends a chain, as an image has it (`next_of`).
 #[tactic(auto, using(crate::proofs::Copying::inside))]
 fn copy(image: Image<'_>, first: usize, part: &mut [u32], part2: &mut [u16]) -> usize
     requires { Sound image.records (chain_of (next_of image.bytes.now) first)

@@ -1,6 +1,7 @@
 // A replica's own parts of the lent log stores: the 512 places from 512 * (b - 1) of the values and of the terms, lent
 // on to append and receive (document 01: "each board writes only its own 512 places of the log store"). Inner layer:
-// callers see to it that the log has room.
+// callers see to it that the log has room. The stores' lengths stay in the clauses, as in `logstore`; a value and its
+// term stay two numbers, as they go to two stores.
 #![tactic(auto)]
 
 ghost use Rattle.std.specs.Prelude.{◌≡◌, ◌<◌, length, set, get_or};

@@ -1,7 +1,8 @@
 // The log store and the committed list: an entry read, what two logs share, a commit, the shown list. The store is a
 // lent slice of 4,096 numbers, the values: replica b owns the 512 places from 512 * (b - 1), and crate logparts writes
 // there. A second store and a second list have the terms (leader epochs) at the same places. Inner layer: callers see
-// to it that a place is inside its log.
+// to it that a place is inside its log. The lengths stay in the clauses: slices of any length are lent, and rows may
+// hold any numbers, until refusal 1 has looked at them (`shown::fits`); a type would be made anew of both in each step.
 #![tactic(auto)]
 
 ghost use Rattle.std.specs.Prelude.{◌≡◌, ◌<◌, ◌≤◌, length, set, get_or};
@@ -46,7 +47,8 @@ pub fn shared(store: &[u32], terms: &[u16], a: Board, m: u16, b: Board, n: u16) 
     most
 }
 
-// The committed list of n entries gets the value v under the term t. Inner layer: callers see to the room.
+// The committed list of n entries gets the value v under the term t, two numbers as they go to two lists. Inner layer:
+// callers see to the room.
 pub fn commit(list: &mut [u32], terms: &mut [u16], n: u16, v: u32, t: u16)
     requires { (n < length list.old) × (n < length terms.old) }
     ensures { (list.new ≡ set list.old n v)
@@ -57,7 +59,8 @@ pub fn commit(list: &mut [u32], terms: &mut [u16], n: u16, v: u32, t: u16)
 }
 
 // The shown list, a part of what is lent and no copy: the leader's log, or the committed list while no leader is named;
-// of the values, or of the terms. Inner layer: callers see to the numbers.
+// of the values, or of the terms. Inner layer: callers see to the numbers. The leader is a number too, as `visible_of`
+// and `visible_at` have it: 0 is none.
 pub fn visible<'a, T: Copy>(
     store: &'a [T],
     committed: &'a [T],

@@ -1,6 +1,6 @@
 // Marks of record numbers in a lent scratch, one bit for each (document 02, Paper 8: "with 576 bytes of scratch or
 // more"). What a mark is in bytes is known here alone. Inner layer: callers see to it that a scratch is long enough for
-// a mark.
+// a mark: a clause, since a scratch of any length is lent, by C too, and refusal 3 comes of `enough`.
 #![tactic(auto)]
 
 ghost use Rattle.std.specs.Prelude.{◌≡◌, ◌≤◌, leb, length, replicate};

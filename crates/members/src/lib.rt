@@ -1,4 +1,5 @@
-// Replicas, and a set of them as a mask, replica 1 the lowest bit.
+// Replicas, and a set of them as a mask, replica 1 the lowest bit. A set stays a `u8`: C gives it so to
+// `look_up_majority`, an image and a mark have it as a byte, each byte is a set, and `bits` reads it.
 #![tactic(auto)]
 
 ghost use Rattle.std.specs.Prelude.{◌≡◌, Bool, true, false, cond, ◌+◌, ◌-◌, ◌<◌, ◌≤◌, IfOk, MatchResult};
@@ -128,7 +129,8 @@ pub fn size(m: u8) -> u8
 
 // The majority size of each set, by its mask: 16 rows of 16, behind each row the mask of its first set. Document 02,
 // Paper 3: "a table of 256 numbers, one for each set of boards, board 1 as the lowest bit"; docs/MAJORITY.md prints it.
-// The array is laid out anew for each lookup, and numbers of two bytes are laid out faster (docs/DECISIONS.md).
+// An array of numbers, and a constant, as document 01 names it for this place. It is laid out anew for each lookup, and
+// numbers of two bytes are laid out faster (docs/DECISIONS.md).
 #[rattlefmt::skip]
 const MAJORITY: [u16; 256] = [
     1, 1, 1, 2, 1, 2, 2, 2, 1, 2, 2, 2, 2, 2, 2, 3, // 00

@@ -6,7 +6,8 @@ ghost use Rattle.std.specs.Prelude.{◌≤◌};
 use records::Record;
 use text::Page;
 
-// A record of a step and a board, and how often it stands in a row.
+// A record of a step and a board, and how often it stands in a row. Both are numbers, board 0 for none, as `of` has
+// them and as they are written; `pieces::Step`, of which orders are made, has no case for the place not yet taken.
 #[derive(Clone, Copy)]
 pub struct Order {
     pub step: u8,

@@ -4,8 +4,10 @@
 
 use std::io;
 
-// The longest sheet has 32,760 bytes: of a longer one so much is read that it is seen to be too long. The slice has room
-// for every list, so refusal 3 does not happen here.
+// The longest sheet has 32,760 bytes: of a longer one so much is read that it is seen to be too long. The slice has
+// room for every list, so refusal 3 does not happen here. Of its own in each of the six programs: one function of the
+// lengths and the call would need a clause that what a call hands back lies in its slice, and with that be longer than
+// these lines.
 fn main(rt: HostRuntime) -> io::Result<()> {
     let mut sheet = [0u8; 32768];
     let mut list = [0u8; 16512];

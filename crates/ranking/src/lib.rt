@@ -35,7 +35,7 @@ fn above(c: &Controller, q: u8, b: Board) -> u8
 }
 
 // "The highest ranked of them as heard, lowest number on a tie": of q, as the controller has heard them; 0 for the
-// empty set.
+// empty set: a number, as `P.highest` is, of which it promises.
 pub fn highest(c: &Controller, q: u8) -> u8
     ensures { result ≡ P.highest (controller_of c.now) (bits q) }
 {

@@ -11,8 +11,9 @@ pub struct Number {
     pub end: usize,
 }
 
-// The number whose digits stand from place `at` on; 0 where there are none. Inner layer: callers see to it that the
-// text is so short that its numbers fit.
+// The number whose digits stand from place `at` on; 0 where there are none, as `reads 0` has it. By hand: `parse` takes
+// a whole text and a `+` before it, and here the place after the digits is asked for. Inner layer: callers see to it
+// that the text is so short that its numbers fit.
 pub fn number_at(s: &[u8], at: usize) -> Number
     requires { (at ≤ length s.now) × (length s.now ≤ 16) }
     ensures { (result.value ≡ reads 0 (digits_at s.now at))

@@ -53,7 +53,7 @@ fn keep(rt: &impl Print, row: &Cluster, p: Lent<'_>) -> io::Result<()> {
 }
 
 // Takes the image up and goes on. After a power cut memory may hold anything: here every lent place holds what no entry
-// may, and the scratch is all ones.
+// may, and the scratch is all ones. The places are of this frame: no function can hand out places of its own.
 fn go_on(rt: &impl Print, image: &[u8], records: &[u8]) -> io::Result<()> {
     let mut store = [4294967295u32; 4096];
     let mut store2 = [65535u16; 4096];

@@ -1,5 +1,6 @@
 // The run of a sheet, record by record: the row that it ends with, its answers and the sets behind them. For `sheet`,
-// `explain` and `archive`.
+// `explain` and `archive`. That a sheet passes refusal 2 stays a clause: a type would have to hold too that its numbers
+// are bytes, as behind a field a proof does not know that, and the promises are of the bytes alone.
 #![tactic(auto)]
 
 ghost use Rattle.std.specs.Prelude.{◌≡◌, true, ◌-◌, ◌/◌, length, take};
@@ -22,8 +23,9 @@ fn begin(sheet: &[u8]) -> Cluster
     steps_central::opening(Record::at(sheet, 0).board).0
 }
 
-// The whole sheet: its answers, and the sets behind them as masks. Inner layer: callers see to it that refusal 2 lets
-// the sheet through, and that the lent places have their lengths.
+// The whole sheet: its answers, and the sets behind them as masks. They stay two lists of numbers: `Ran` has them so,
+// and `answers_of` has the answers alone. Inner layer: callers see to it that refusal 2 lets the sheet through, and
+// that the lent places have their lengths.
 pub fn play(sheet: &[u8], p: &mut LentMut<'_>, answers: &mut [u8], sets: &mut [u8]) -> Cluster
     requires { (is_sheet sheet.now ≡ true) × Full (places_in p.old)
         × (length answers.old ≡ 4096) × (length sets.old ≡ 4096) }
@@ -43,7 +45,8 @@ pub fn play(sheet: &[u8], p: &mut LentMut<'_>, answers: &mut [u8], sets: &mut [u
 }
 
 // The answers of a sheet's records, in an array whose further bytes are free. Inner layer: callers see to it that
-// refusal 2 lets the sheet through. The sheet is run in places of this call's own.
+// refusal 2 lets the sheet through. The sheet is run in places of this frame: no function can hand out places of its
+// own, and handing them out by value would copy 27,648 bytes.
 pub fn answers(sheet: &[u8]) -> [u8; 4096]
     requires { is_sheet sheet.now ≡ true }
     ensures { take (length sheet.now / 8) result ≡ answers_of sheet.now }

@@ -1,5 +1,6 @@
 // The lists of a row written as chains of records (document 02, Paper 7): the records, and where each chain begins.
-// Inner layer: callers see to it that a page has room for the text.
+// Inner layer: callers see to it that a page has room for the text, and to the lengths: clauses, since lent places of
+// any length come in, and a row with any numbers, and `shown::fits` looks at them first, for refusal 1.
 #![tactic(auto, using(text::proofs::Laws::pages))]
 
 ghost use Rattle.std.specs.Prelude.{cond, [], ◌∷◌, ◌++◌, ◌≡◌, ℕ, ◌+◌, ◌<◌, ◌≤◌, eqb, ltb, length};
@@ -62,7 +63,8 @@ fn following(k: usize, i: usize, n: usize) -> u16
     if i + 1 < n { (k + 1) as u16 } else { 0 }
 }
 
-// Writes a list, its values and its terms, as records from the number k on. Inner layer: callers see to the lengths.
+// Writes a list, its values and its terms, as records from the number k on. By the index, which says too what follows a
+// record. Inner layer: callers see to the lengths, which two slices of `Lent` do not share by their type.
 fn put_chain(page: &mut Page<'_>, k: usize, values: &[u32], terms: &[u16])
     requires { (length values.now ≤ 512) × (length values.now ≡ length terms.now) × (k + length values.now ≤ 4609)
         × HasRoom page.old (bytes_of (records_for k (pairs values.now terms.now))) }

@@ -47,8 +47,9 @@ pub fn read(input: &[u8]) -> Option<(u32, u32)>
     if same { Some((seed, count)) } else { None }
 }
 
-// Writes what the program prints for an input: the sheet that it asks for, or `refused 2`. Inner layer: callers see to
-// it that out has room for the longest sheet.
+// Writes what the program prints for an input: the sheet that it asks for, or `refused 2`. (As bytes: `Prints` has them
+// in the lent slice, and `Display` of a refusal has no contract that tells them.) Inner layer: callers see to it that
+// out has room for the longest sheet.
 pub fn answer(input: &[u8], out: &mut [u8]) -> usize
     requires { 8 * 4095 ≤ length out.old }
     ensures { Prints input.now out.old out.new result }

@@ -33,7 +33,7 @@ pub fn fits(row: &Cluster, p: Lent<'_>) -> bool
     cluster::ranges::in_range(row) && kept::in_range(row, p.store2, p.list2)
 }
 
-// How many entries the log of the registry's leader has; 0 where none is named.
+// How many entries the log of the registry's leader has; 0 where none is named, as `at` has it of the leader's number.
 fn leader_len(row: &Cluster) -> u16
     ensures { result ≡ at 0 row.now.len row.now.registry.view.leader }
 {
@@ -68,7 +68,8 @@ pub fn visible<'a>(row: &Cluster, p: Lent<'a>) -> &'a [u32]
     part(row, p, p.store, p.list)
 }
 
-// The like part of the terms, in the same way: of the second store or of the second list.
+// The like part of the terms, in the same way: of the second store or of the second list. Two names of `part`: README
+// and docs/ name both as calls.
 pub fn visible_terms<'a>(row: &Cluster, p: Lent<'a>) -> &'a [u16]
     ensures terms { result.now ≡ shown_terms row.now (places_of p.entry) }
     ensures place { result.ref_ptr ≡ shown_at 2 row.now (places_of p.entry)

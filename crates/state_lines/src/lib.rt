@@ -61,7 +61,8 @@ pub fn put_registry(page: &mut Page<'_>, r: &Registry)
     put_status(page, r.status);
 }
 
-// Writes the controller's line. Inner layer: callers see to the room.
+// Writes the controller's line. (`put_registry` has another word and a status: one function of both would get the word,
+// the view and the ending as parameters, for three lines.) Inner layer: callers see to the room.
 #[tactic(auto, using(text::proofs::Laws::pages), unfolding(lines::specs::Lines::control_line))]
 pub fn put_control(page: &mut Page<'_>, k: &Controller)
     requires { HasRoom page.old (control_line (controller_of k.now)) }

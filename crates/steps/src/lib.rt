@@ -1,6 +1,7 @@
 // The public calls: the opening, the fifteen steps, any record. None asks anything of its caller: refusal 1 is tested
-// first. A call answers with the set behind its step, as a mask, or with its refusal, and then it leaves the row and the
-// lent places as they were.
+// first. A call answers with the set behind its step, as a mask, or with its refusal, and then it leaves the row and
+// the lent places as they were. Row and places stay two parameters: memory has them apart, a row is lent alone too
+// (`lending`), and its places are lent to be read (`Lent`) or written (`LentMut`).
 #![tactic(auto)]
 
 ghost use Rattle.model.specs.State as M;

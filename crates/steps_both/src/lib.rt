@@ -16,7 +16,7 @@ use cluster::{Controller, Registry, Stage, Status, View};
 use members::Board;
 use refusal::{Refusal, ensure};
 
-// What is heard of b, 0 for what is no replica.
+// What is heard of b, 0 for what is no replica: of a number, as a view names its leader by one, and as `at` has it.
 fn heard_at(c: &Controller, b: u8) -> u16
     ensures { result ≡ at 0 c.now.heard b }
 {

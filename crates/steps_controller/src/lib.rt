@@ -1,6 +1,7 @@
 // The steps of the controller alone: news (10), read leader (11), read (12), hear (14). A refused step hands no
-// controller back: the caller has the old one. Inner layer: callers see to it that a log's length is at most 512, and to
-// a leader at stage leader; `steps` and `hub` refuse others with 1.
+// controller back: the caller has the old one. Inner layer: callers see to it that a log's length is at most 512, and
+// to a leader at stage leader; `steps` and `hub` refuse others with 1. A length stays a number with a clause: a row and
+// the hub's `Report` may hold any, and specs/Known.antt and `heard_of` speak of numbers.
 #![tactic(auto, using(cluster::proofs::Steps::tells_refused))]
 
 ghost use Rattle.std.specs.Prelude.{◌≡◌, ◌≤◌};

@@ -1,5 +1,6 @@
 // A record and its answer in words: the writer of one English line (document 02, Paper 5). Inner layer: callers see to
-// the room, and that the answer is on the list.
+// the room, and that the answer is on the list. An answer is a number, as C gives it to `describe_record` and as
+// `verdict_text` has it: not each number is a refusal, so any may come in.
 #![tactic(auto, using(text::proofs::Laws::pages))]
 
 ghost use Rattle.std.specs.Prelude.{true, ◌≡◌, ◌<◌, ◌≤◌, length};
@@ -39,7 +40,8 @@ fn put_raw(page: &mut Page<'_>, r: Record)
     hexes::put_hexes(page, &bytes);
 }
 
-// Writes the step of a record, or its bytes, and answers the step by whose phrases its answer is told.
+// Writes the step of a record, or its bytes, and answers the step by whose phrases its answer is told: a number, as
+// `Line.place` is, of which it promises.
 #[tactic(auto, using(text::proofs::Laws::pages, crate::proofs::Telling::last_step), unfolding(phrases::specs::Line::head_text))]
 fn put_head(page: &mut Page<'_>, r: Record) -> usize
     requires { HasRoom page.old (head_text (record_of r)) }
@@ -83,7 +85,7 @@ pub fn put_line(page: &mut Page<'_>, r: Record, a: usize)
     page.put_byte(b'\n');
 }
 
-// A line, written aside: the first `length` of these bytes. No line is longer.
+// A line, written aside: the first `length` of these bytes, as no heap is used. No line is longer.
 #[derive(Clone, Copy)]
 pub struct Told {
     bytes: [u8; 96],

@@ -8,7 +8,8 @@ use records::Record;
 use refinement::{Lent, LentMut};
 use std::io;
 
-// A row, and the places that are lent with it.
+// A row, and the places that are lent with it. (`lent_trials` has it too: for two programs alone it would be a crate of
+// its own, with a contract and a must-fail edit of `new`, which would be longer.)
 #[derive(Drop)]
 struct Trial {
     row: Cluster,

@@ -66,7 +66,8 @@ impl Reason {
     }
 }
 
-// What is no step: a malformed record.
+// What is no step: a malformed record. A number among the steps, as `no_step` and `place` of phrases/specs/Line.antt
+// have it.
 pub const NO_STEP: usize = 16;
 
 const ANY: &[usize] = &[
@@ -154,8 +155,8 @@ pub fn put_lead(page: &mut Page<'_>, k: usize)
     page.put_bytes(forms()[k].lead);
 }
 
-// Writes what stands after it: the same, of the other field. Inner layer: callers see to the room, and that k is a
-// form.
+// Writes what stands after it: the same, of the other field, as they have one line each. Inner layer: callers see
+// to the room, and that k is a form.
 #[tactic(auto, using(text::proofs::Laws::pages, crate::proofs::Tables::form_words))]
 pub fn put_trail(page: &mut Page<'_>, k: usize)
     requires form { k < 17 }
@@ -165,7 +166,8 @@ pub fn put_trail(page: &mut Page<'_>, k: usize)
     page.put_bytes(forms()[k].trail);
 }
 
-// The words of the first phrase that is for the answer a to the step k.
+// The words of the first phrase that is for the answer a to the step k. (Here and below what is asked of the two stays
+// in the clauses: `reason_text` and `is_listed` are of numbers, and a type of both would be made anew for each record.)
 fn words_for(k: usize, a: usize) -> &'static [u8]
     requires step { k < 17 }
     requires listed { is_listed a ≡ true }
