@@ -27,10 +27,10 @@ pub use Rattle.members.proofs.Laws.{bits_none}
 use Rattle.logstore.specs.Log.{place, log_of}
 use Rattle.logstore.proofs.Laws.{pairs-length, pairs-at, pairs_set, log-length, log-other, log-gains}
 use Rattle.cluster.specs.declared.Cluster.{Cluster}
-use Rattle.cluster.specs.Ended.{outcome}
+use Rattle.cluster.specs.Ended.{outcome, settled}
 use Rattle.cluster.specs.Layout.{at, at_pair, outline_of}
 use Rattle.cluster.proofs.Laws.{at-index, at_set}
-use Rattle.refinement.specs.Refinement.{Places, logged, listed, put_log, put_list, store_at, Full, abs, Short, places_after, Turns}
+use Rattle.refinement.specs.Refinement.{Places, logged, listed, put_log, put_list, store_at, Full, abs, Short, places_after, lent, Turns, Leaves, Governs, RestStays}
 
 -- A refusal is no acceptance.
 refused : (r : Refusal) → number r ≢ 0
@@ -160,6 +160,22 @@ pub turned_away_set : (row : Cluster) (p : Places) (st : Step) (x : Result ℕ R
     → Turns st row p (outcome x row) p
 turned_away_set row p st (Ok y) e h short few full = absurd (cc)
 turned_away_set row p st (Err r) e h short few full = turned_away {A = ℕ} row p st (Err r) e h short few full
+
+-- A step of the registry and the controller of a row whose rest stays is a step of the row.
+pub governed : {st : Step} {row row' : Cluster} (x : Result ℕ Refusal) {p : Places}
+    → Governs st row.registry row.controller row.views row.joined row.len (settled x row'.registry row'.controller)
+    → RestStays row row' → row.issued ≤ 512 → Full p → Turns st row p (outcome x row') p
+governed {st} {row} {row'} x {p} g rest few full =
+    subst (λ y. Turns st row p (outcome x y) p) rest (g row.acked row.issued p few full)
+
+-- A step that is told whatever the receipts and the lists are, of a row and lists that stay, is one of row and places.
+pub told-of : {st : Step} {row row' : Cluster} {p p' : Places} (n q : ℕ)
+    → Leaves st row p n q (record row' { issued = row.issued }) (lent p'.store p'.store2 p.list p.list2)
+    → row'.issued ≡ row.issued → p'.list ≡ p.list → p'.list2 ≡ p.list2 → Leaves st row p n q row' p'
+told-of {st} {row} {row'} {p} {p'} n q h a b c =
+    subst (λ y. Leaves st row p n q y p') (λ i. record row' { issued = sym a i })
+    (subst (λ y. Leaves st row p n q (record row' { issued = row.issued }) y)
+    (λ i. lent p'.store p'.store2 (sym b i) (sym c i)) h)
 
 -- What stands at a place, written there again.
 pub set-idle : {A : Type 0} (d : A) (xs : List A) (i : ℕ) → set xs i (get_or xs i d) ≡ xs

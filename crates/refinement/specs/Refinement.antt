@@ -9,7 +9,7 @@ use Rattle.cluster.specs.declared.View.{View}
 use Rattle.cluster.specs.declared.Registry.{Registry}
 use Rattle.cluster.specs.declared.Controller.{Controller}
 use Rattle.cluster.specs.declared.Cluster.{Cluster}
-use Rattle.cluster.specs.Ended.{Outcome}
+use Rattle.cluster.specs.Ended.{Outcome, Settled}
 use Rattle.cluster.specs.Layout.{bits, registry_of, controller_of, view_of, at, at_pair, no_view, outline_of}
 pub use Rattle.cluster.specs.Stages.{HasLeader}
 
@@ -119,8 +119,14 @@ pub record Turns (st : Step) (row : Cluster) (p : Places) (x : Outcome) (p' : Pl
 abbrev pub Leaves : Step → Cluster → Places → ℕ → ℕ → Cluster → Places → Type 0
 Leaves st row p n q row' p' = Turns st row p (record { answer = n; behind = q; row = row' }) p'
 
--- A step of the registry, of the controller or of both, which writes no lent place: what it answers, who is behind it
--- and the row that it leaves, whatever the lent places are; accepted or refused, the rest of the row stays as it was.
-abbrev pub Governs : Step → Cluster → Outcome → Type 0
-Governs st row x = ((p : Places) → Short row.len → row.issued ≤ 512 → Full p → Turns st row p x p)
-    × (row_of x.row.registry x.row.controller row.views row.joined row.acked row.len row.issued ≡ x.row)
+-- A step of the registry g and the controller c: what it answers, who is behind it and what it leaves, whatever the
+-- counts, the receipts and the lent places are.
+abbrev pub Governs : Step → Registry → Controller → List View → List ℕ → List ℕ → Settled → Type 0
+Governs st g c views joined len x = (acked : List ℕ) (issued : ℕ) (p : Places) → issued ≤ 512 → Full p
+    → Leaves st (row_of g c views joined acked len issued) p
+    x.answer x.behind (row_of x.registry x.controller views joined acked len issued) p
+
+-- Of a row nothing but the registry and the controller is another.
+abbrev pub RestStays : Cluster → Cluster → Type 0
+RestStays row row' =
+    row_of row'.registry row'.controller row.views row.joined row.acked row.len row.issued ≡ row'

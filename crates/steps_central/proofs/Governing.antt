@@ -18,7 +18,8 @@ use Rattle.members.proofs.Laws.{bits_none}
 use Rattle.cluster.specs.declared.Registry.{Registry}
 use Rattle.cluster.specs.declared.Controller.{Controller}
 use Rattle.cluster.specs.declared.Cluster.{Cluster}
-use Rattle.cluster.specs.Ended.{outcome, ruled, told, settled}
+use Rattle.cluster.specs.declared.View.{View}
+use Rattle.cluster.specs.Ended.{Settled, ruled, told, settled}
 use Rattle.cluster.specs.Layout.{at, no_view, outline_of}
 use Rattle.cluster.specs.Parts.{Rules, Tells, Settles}
 use Rattle.cluster.proofs.Steps.{number-positive}
@@ -48,76 +49,73 @@ whole put st o idle s = go (accepted (outline s) st)
     go true = sym (o.state s)
     go false = idle s
 
--- A step of the row.
-module _ (st : Step) (row : Cluster) where
+module _ (st : Step) (g : Registry) (c : Controller) (views : List View) (joined len : List ℕ) (s : Short len) where
+  abbrev row : List ℕ → ℕ → Cluster
+  row acked issued = row_of g c views joined acked len issued
+
   -- One that asks no majority has no one behind it.
   nobody : ((m : Outline) → qualified m st ≡ none) → (m : Outline) → bits 0 ≡ behind m st
   nobody quiet m = bits_none ∙ same-choice (accepted m st) (quiet m)
 
-  -- The row with the registry g and the controller c.
-  abbrev with_both : Registry → Controller → Cluster
-  with_both g c = row_of g c row.views row.joined row.acked row.len row.issued
-
   -- It answers and leaves what the model's does.
-  governs : (put : RowState → RowState → RowState) → ((s : RowState) → put s s ≡ s) → Only put st
-      → (y : Result ℕ Refusal) (g : Registry) (c : Controller)
-      → ((p : Places) → Short row.len → Full p
-      → (answer y ≡ answer_of (outline (abs row p)) st)
-      × (bits (handed 0 y) ≡ behind (outline (abs row p)) st)
-      × (abs (with_both g c) p ≡ put (abs row p) (step entries (abs row p) st)))
-      → (answer y ≢ 0 → (g ≡ row.registry) × (c ≡ row.controller))
-      → Governs st row (outcome y (with_both g c))
-  governs put idle o y g c f r = (
-    λ p short few full.
-        let m = outline-abs row short few p full in
-        let h = f p short full in
-        record {
-          answer = h.0 ∙ ap (λ m. answer_of m st) m;
-          behind = h.1 ∙ ap (λ m. behind m st) m;
-          state = h.2 ∙ whole put st o idle (abs row p);
-          short = short;
-          issued = few;
-          places = same-choice (accepted (outline_of row) st) (ap (λ w. written w row p) o.places);
-          refused = λ z. let q = r z in λ i. with_both (q.0 i) (q.1 i);
-        },
-    refl,
-  )
+  governs : (put : RowState → RowState → RowState) → ((s : RowState) → put s s ≡ s) → Only put st → (x : Settled)
+      → ((acked : List ℕ) (issued : ℕ) (p : Places) → Full p
+      → (x.answer ≡ answer_of (outline (abs (row acked issued) p)) st)
+      × (bits x.behind ≡ behind (outline (abs (row acked issued) p)) st)
+      × (abs (row_of x.registry x.controller views joined acked len issued) p
+      ≡ put (abs (row acked issued) p) (step entries (abs (row acked issued) p) st)))
+      → (x.answer ≢ 0 → (x.registry ≡ g) × (x.controller ≡ c))
+      → Governs st g c views joined len x
+  governs put idle o x f r acked issued p few full =
+      let m = outline-abs (row acked issued) s few p full in
+      let h = f acked issued p full in
+      record {
+        answer = h.0 ∙ ap (λ m. answer_of m st) m;
+        behind = h.1 ∙ ap (λ m. behind m st) m;
+        state = h.2 ∙ whole put st o idle (abs (row acked issued) p);
+        short = s;
+        issued = few;
+        places = same-choice (accepted (outline_of (row acked issued)) st)
+            (ap (λ w. written w (row acked issued) p) o.places);
+        refused = λ z. let q = r z in λ i. row_of (q.0 i) (q.1 i) views joined acked len issued;
+      }
 
   -- A step of the registry alone.
   pub rules_govern : Only take_registry st → ((m : Outline) → qualified m st ≡ none)
       → (x : Result Unit Refusal) (y : Result ℕ Refusal) → answer y ≡ answer x → handed 0 y ≡ 0
-      → (g : Registry) → Rules st row.registry (ruled x g)
-      → Governs st row (outcome y (with_both g row.controller))
-  rules_govern o quiet x y same zero g h =
-      governs take_registry (λ s. refl) o y g row.controller
-      (λ p _ _. let s = abs row p in
+      → (r : Registry) → Rules st g (ruled x r) → Governs st g c views joined len (settled y r c)
+  rules_govern o quiet x y same zero r h =
+      governs take_registry (λ s. refl) o (settled y r c)
+      (λ acked issued p _. let s = abs (row acked issued) p in
       (same ∙ h.answer s, ap bits zero ∙ nobody quiet (outline s), ap (with_registry s) (h.after s)))
       (λ z. (h.refused (λ e. z (same ∙ e)), refl))
 
   -- A step of the controller alone, which is told what is so of the row. Refused it leaves the controller.
   pub tells_govern : {Known : RowState → Type 0} → Only take_controller st → ((m : Outline) → qualified m st ≡ none)
       → (x : Result Controller Refusal) (y : Result ℕ Refusal) → answer y ≡ answer x → handed 0 y ≡ 0
-      → Tells Known st row.controller (told row.controller x)
-      → ((p : Places) → Short row.len → Full p → Known (abs row p))
-      → Governs st row (outcome y (with_both row.registry (handed row.controller x)))
+      → Tells Known st c (told c x)
+      → ((acked : List ℕ) (issued : ℕ) (p : Places) → Full p → Known (abs (row acked issued) p))
+      → Governs st g c views joined len (settled y g (handed c x))
   tells_govern o quiet x y same zero h k =
-      governs take_controller (λ s. refl) o y row.registry (handed row.controller x)
-      (λ p short full. let s = abs row p in let e = k p short full in
+      governs take_controller (λ s. refl) o (settled y g (handed c x))
+      (λ acked issued p full. let s = abs (row acked issued) p in let e = k acked issued p full in
       (same ∙ h.answer s e, ap bits zero ∙ nobody quiet (outline s), ap (with_controller s) (h.after s e)))
       (λ z. (refl, h.refused (λ e. z (same ∙ e))))
 
   -- A step of both.
-  pub settles_govern : Only take_both st → (y : Result ℕ Refusal) (g : Registry) (c : Controller)
-      → Settles st row.registry row.controller (settled y g c) → Governs st row (outcome y (with_both g c))
-  settles_govern o y g c h = governs take_both (λ s. refl) o y g c
-      (λ p _ _. let s = abs row p in
+  pub settles_govern : Only take_both st → (y : Result ℕ Refusal) (r : Registry) (k : Controller)
+      → Settles st g c (settled y r k) → Governs st g c views joined len (settled y r k)
+  settles_govern o y r k h = governs take_both (λ s. refl) o (settled y r k)
+      (λ acked issued p _. let s = abs (row acked issued) p in
       (h.answer s, h.behind s, λ i. with_controller (with_registry s (h.registry s i)) (h.controller s i)))
       h.refused
 
   -- One that is refused.
-  pub refused_governs : (e : Refusal) → number e ≡ answer_of (outline_of row) st → Governs st row (outcome (Err e) row)
-  refused_governs e same =
-      (λ p short few full. turns-refused row short few p full st (number e) same (number-positive e), refl)
+  pub refused_governs : (e : Refusal)
+      → ((acked : List ℕ) (issued : ℕ) → number e ≡ answer_of (outline_of (row acked issued)) st)
+      → Governs st g c views joined len (settled (Err e) g c)
+  refused_governs e same acked issued p few full =
+      turns-refused (row acked issued) s few p full st (number e) (same acked issued) (number-positive e)
 
 -- What a row has of a replica, so has its state.
 pub found : (row : Cluster) (b : ℕ) (p : Places) → Short row.len → Full p

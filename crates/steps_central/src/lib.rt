@@ -4,12 +4,12 @@
 // layer: callers see to it that the lent places have their lengths and that no log is longer than 512.
 #![tactic(auto)]
 
-ghost use Rattle.std.specs.Prelude.{◌≡◌};
+ghost use Rattle.std.specs.Prelude.{◌≡◌, List, ℕ};
 ghost use Rattle.model.specs.State as M;
 ghost use Rattle.model.specs.Steps as S;
 ghost use Rattle.refusal.specs.Refusal.{answer, handed};
-ghost use Rattle.cluster.specs.Ended.{outcome};
-ghost use Rattle.refinement.specs.Refinement.{Short, HasLeader, Governs};
+ghost use Rattle.cluster.specs.Ended.{outcome, settled};
+ghost use Rattle.refinement.specs.Refinement.{Short, HasLeader, Governs, RestStays};
 ghost use Rattle.steps_central.specs.Opening.{Opens, OpenedWith};
 
 use cluster::{Cluster, Controller, Registry, Stage, Status, View};
@@ -72,28 +72,40 @@ fn take(row: &mut Cluster, x: Result<Controller, Refusal>) -> Result<u8, Refusal
 
 // Step 3, the registry adds b.
 pub fn add(row: &mut Cluster, b: u8) -> Result<u8, Refusal>
-    ensures { Governs (S.Step.add b) row.old (outcome result row.new) }
+    ensures step { (views : List View) (joined len : List ℕ) → Short len
+        → Governs (S.Step.add b) row.old.registry row.old.controller views joined len
+        (settled result row.new.registry row.new.controller) }
+    ensures rest { RestStays row.old row.new }
 {
     nobody(steps_registry::add(&mut row.registry, b))
 }
 
 // Step 4, the registry removes b.
 pub fn remove(row: &mut Cluster, b: u8) -> Result<u8, Refusal>
-    ensures { Governs (S.Step.remove b) row.old (outcome result row.new) }
+    ensures step { (views : List View) (joined len : List ℕ) → Short len
+        → Governs (S.Step.remove b) row.old.registry row.old.controller views joined len
+        (settled result row.new.registry row.new.controller) }
+    ensures rest { RestStays row.old row.new }
 {
     nobody(steps_registry::remove(&mut row.registry, b))
 }
 
 // Step 5, the registry changes the leader.
 pub fn change(row: &mut Cluster) -> Result<u8, Refusal>
-    ensures { Governs S.Step.change_leader row.old (outcome result row.new) }
+    ensures step { (views : List View) (joined len : List ℕ) → Short len
+        → Governs S.Step.change_leader row.old.registry row.old.controller views joined len
+        (settled result row.new.registry row.new.controller) }
+    ensures rest { RestStays row.old row.new }
 {
     nobody(steps_registry::change(&mut row.registry))
 }
 
 // Step 10, the controller takes news.
 pub fn refresh_controller(row: &mut Cluster) -> Result<u8, Refusal>
-    ensures { Governs S.Step.refresh_controller row.old (outcome result row.new) }
+    ensures step { (views : List View) (joined len : List ℕ) → Short len
+        → Governs S.Step.refresh_controller row.old.registry row.old.controller views joined len
+        (settled result row.new.registry row.new.controller) }
+    ensures rest { RestStays row.old row.new }
 {
     let c = steps_controller::refresh_controller(row.controller, row.registry);
     take(row, c)
@@ -102,7 +114,9 @@ pub fn refresh_controller(row: &mut Cluster) -> Result<u8, Refusal>
 // Step 11, the controller reads its leader. Inner layer: callers see to the leader and the lengths.
 pub fn read_leader(row: &mut Cluster) -> Result<u8, Refusal>
     requires { HasLeader row.old.controller × Short row.old.len }
-    ensures { Governs S.Step.read_leader row.old (outcome result row.new) }
+    ensures step { (joined : List ℕ) → Governs S.Step.read_leader row.old.registry row.old.controller
+        row.old.views joined row.old.len (settled result row.new.registry row.new.controller) }
+    ensures rest { RestStays row.old row.new }
 {
     // Without a leader the stage is another than leader.
     let Ok(b) = Board::new(row.controller.view.leader) else {
@@ -115,7 +129,9 @@ pub fn read_leader(row: &mut Cluster) -> Result<u8, Refusal>
 // Step 12, the controller reads b. Inner layer: callers see to the lengths.
 pub fn read(row: &mut Cluster, b: u8) -> Result<u8, Refusal>
     requires { Short row.old.len }
-    ensures { Governs (S.Step.read b) row.old (outcome result row.new) }
+    ensures step { (views : List View) → Governs (S.Step.read b) row.old.registry row.old.controller
+        views row.old.joined row.old.len (settled result row.new.registry row.new.controller) }
+    ensures rest { RestStays row.old row.new }
 {
     let b = Board::new(b)?;
     let c = steps_controller::read(row.controller, b.number, row.joined(b), row.len(b));
@@ -124,7 +140,10 @@ pub fn read(row: &mut Cluster, b: u8) -> Result<u8, Refusal>
 
 // Step 13, the registry goes normal on the controller's word.
 pub fn set_normal(row: &mut Cluster) -> Result<u8, Refusal>
-    ensures { Governs S.Step.set_normal row.old (outcome result row.new) }
+    ensures step { (views : List View) (joined len : List ℕ) → Short len
+        → Governs S.Step.set_normal row.old.registry row.old.controller views joined len
+        (settled result row.new.registry row.new.controller) }
+    ensures rest { RestStays row.old row.new }
 {
     steps_both::set_normal(&mut row.registry, &mut row.controller)
 }
@@ -132,7 +151,9 @@ pub fn set_normal(row: &mut Cluster) -> Result<u8, Refusal>
 // Step 14, the controller hears b. Inner layer: callers see to the lengths.
 pub fn hear(row: &mut Cluster, b: u8) -> Result<u8, Refusal>
     requires { Short row.old.len }
-    ensures { Governs (S.Step.hear b) row.old (outcome result row.new) }
+    ensures step { Governs (S.Step.hear b) row.old.registry row.old.controller
+        row.old.views row.old.joined row.old.len (settled result row.new.registry row.new.controller) }
+    ensures rest { RestStays row.old row.new }
 {
     let b = Board::new(b)?;
     let c = steps_controller::hear(
@@ -147,7 +168,10 @@ pub fn hear(row: &mut Cluster, b: u8) -> Result<u8, Refusal>
 
 // Step 15, the controller installs b.
 pub fn install(row: &mut Cluster, b: u8) -> Result<u8, Refusal>
-    ensures { Governs (S.Step.install b) row.old (outcome result row.new) }
+    ensures step { (views : List View) (joined len : List ℕ) → Short len
+        → Governs (S.Step.install b) row.old.registry row.old.controller views joined len
+        (settled result row.new.registry row.new.controller) }
+    ensures rest { RestStays row.old row.new }
 {
     steps_both::install(&mut row.registry, &mut row.controller, b)
 }

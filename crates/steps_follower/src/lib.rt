@@ -4,14 +4,14 @@
 // No invariant of row or places says so: `shown::fits` looks at those of any lengths, for refusal 1.
 #![tactic(auto)]
 
-ghost use Rattle.std.specs.Prelude.{◌≡◌, not, cond, ◌&&◌, ◌<◌, ◌≤◌, eqb, IfOk, length};
+ghost use Rattle.std.specs.Prelude.{◌≡◌, List, ℕ, not, cond, ◌&&◌, ◌<◌, ◌≤◌, eqb, IfOk, length};
 ghost use Rattle.model.specs.Prelude.{upd};
 ghost use Rattle.model.specs.State as M;
 ghost use Rattle.model.specs.Steps as S;
 ghost use Rattle.refusal.specs.Refusal.{answer};
 ghost use Rattle.cluster.specs.Layout.{at, at_pair, no_view, outline_of};
-ghost use Rattle.refinement.specs.Refinement.{Places, Full, Short, Led, Leaves};
-ghost use Rattle.refinement.specs.Lent.{places_of, places_in, SameLent};
+ghost use Rattle.refinement.specs.Refinement.{Places, lent, Full, Short, Led, Leaves};
+ghost use Rattle.refinement.specs.Lent.{SameLent};
 
 use cluster::{Cluster, View};
 use members::Board;
@@ -43,8 +43,14 @@ fn may_refresh(row: &Cluster, b: u8) -> Result<Board, Refusal>
 // Step 6, b takes news of the registry. Inner layer: callers see to the lengths.
 pub fn refresh(row: &mut Cluster, b: u8) -> Result<(), Refusal>
     requires { Short row.old.len }
-    ensures { (p : Places) → row.old.issued ≤ 512 → Full p
-        → Leaves (S.Step.refresh b) row.old p (answer result) 0 row.new p }
+    ensures step { (issued : ℕ) (p : Places) → issued ≤ 512 → Full p
+        → Leaves (S.Step.refresh b)
+        (record row.old { issued = issued }) p (answer result) 0 (record row.new { issued = issued }) p }
+    ensures rest { row.new ≡ record row.old {
+      views = row.new.views;
+      joined = row.new.joined;
+      acked = row.new.acked;
+    } }
 {
     let b = may_refresh(row, b)?;
     let i = b.index();
@@ -91,8 +97,13 @@ fn may_join(row: &Cluster, b: u8) -> Result<(Board, Board), Refusal>
 pub fn join(row: &mut Cluster, p: Lent<'_>, b: u8) -> Result<(), Refusal>
     requires { Led row.old.views × Short row.old.len
         × (length p.store.now ≡ 4096) × (length p.store2.now ≡ 4096) }
-    ensures { row.old.issued ≤ 512 → Full (places_of p.entry)
-        → Leaves (S.Step.join b) row.old (places_of p.entry) (answer result) 0 row.new (places_of p.entry) }
+    ensures step { (issued : ℕ) (list list2 : List ℕ) → issued ≤ 512
+        → Full (lent p.entry.store.now p.entry.store2.now list list2)
+        → Leaves (S.Step.join b)
+        (record row.old { issued = issued }) (lent p.entry.store.now p.entry.store2.now list list2)
+        (answer result) 0
+        (record row.new { issued = issued }) (lent p.entry.store.now p.entry.store2.now list list2) }
+    ensures rest { row.new ≡ record row.old { joined = row.new.joined; len = row.new.len } }
 {
     let (b, leader) = may_join(row, b)?;
     let i = b.index();
@@ -127,8 +138,14 @@ pub fn receive(row: &mut Cluster, p: &mut LentMut<'_>, b: u8) -> Result<(), Refu
     requires { Led row.old.views × Short row.old.len
         × (length p.old.store.now ≡ 4096) × (length p.old.store2.now ≡ 4096) }
     ensures same { SameLent p.old p.new }
-    ensures step { row.old.issued ≤ 512 → Full (places_in p.old)
-        → Leaves (S.Step.receive b) row.old (places_in p.old) (answer result) 0 row.new (places_in p.new) }
+    ensures step { (issued : ℕ) (list list2 : List ℕ) → issued ≤ 512
+        → Full (lent p.old.store.now p.old.store2.now list list2)
+        → Leaves (S.Step.receive b)
+        (record row.old { issued = issued }) (lent p.old.store.now p.old.store2.now list list2)
+        (answer result) 0
+        (record row.new { issued = issued }) (lent p.new.store.now p.new.store2.now list list2) }
+    ensures rest { row.new ≡ record row.old { len = row.new.len } }
+    ensures lists { (p.new.list.now ≡ p.old.list.now) × (p.new.list2.now ≡ p.old.list2.now) }
 {
     let (b, leader) = may_receive(row, b)?;
     let n = row.len(b);

@@ -4,12 +4,12 @@
 // No invariant of row or places says so: `shown::fits` looks at those of any lengths, for refusal 1.
 #![tactic(auto)]
 
-ghost use Rattle.std.specs.Prelude.{◌≡◌, ℕ, ◌<◌, ◌≤◌, IfOk, length};
+ghost use Rattle.std.specs.Prelude.{◌≡◌, List, ℕ, ◌<◌, ◌≤◌, IfOk, length};
 ghost use Rattle.model.specs.Steps as S;
 ghost use Rattle.refusal.specs.Refusal.{answer};
 ghost use Rattle.cluster.specs.Layout.{at, outline_of};
-ghost use Rattle.refinement.specs.Refinement.{Places, Full, Short, Leaves};
-ghost use Rattle.refinement.specs.Lent.{places_in, SameLent};
+ghost use Rattle.refinement.specs.Refinement.{Places, lent, Full, Short, Leaves};
+ghost use Rattle.refinement.specs.Lent.{SameLent};
 
 use cluster::Cluster;
 use members::Board;
@@ -32,8 +32,14 @@ fn may_append(row: &Cluster, b: u8) -> Result<Board, Refusal>
 pub fn append(row: &mut Cluster, p: &mut LentMut<'_>, b: u8, value: u32) -> Result<(), Refusal>
     requires { Short row.old.len × (length p.old.store.now ≡ 4096) × (length p.old.store2.now ≡ 4096) }
     ensures same { SameLent p.old p.new }
-    ensures step { row.old.issued ≤ 512 → Full (places_in p.old)
-        → Leaves (S.Step.append b value) row.old (places_in p.old) (answer result) 0 row.new (places_in p.new) }
+    ensures step { (issued : ℕ) (list list2 : List ℕ) → issued ≤ 512
+        → Full (lent p.old.store.now p.old.store2.now list list2)
+        → Leaves (S.Step.append b value)
+        (record row.old { issued = issued }) (lent p.old.store.now p.old.store2.now list list2)
+        (answer result) 0
+        (record row.new { issued = issued }) (lent p.new.store.now p.new.store2.now list list2) }
+    ensures rest { row.new ≡ record row.old { acked = row.new.acked; len = row.new.len } }
+    ensures lists { (p.new.list.now ≡ p.old.list.now) × (p.new.list2.now ≡ p.old.list2.now) }
 {
     let b = may_append(row, b)?;
     let n = row.len(b);
@@ -64,8 +70,10 @@ fn may_acknowledge(row: &Cluster, a: u8, b: u8) -> Result<(Board, Board), Refusa
 // Step 9, a acknowledges b. Inner layer: callers see to the lengths.
 pub fn acknowledge(row: &mut Cluster, a: u8, b: u8) -> Result<(), Refusal>
     requires { Short row.old.len }
-    ensures { (p : Places) → row.old.issued ≤ 512 → Full p
-        → Leaves (S.Step.acknowledge a b) row.old p (answer result) 0 row.new p }
+    ensures step { (issued : ℕ) (p : Places) → issued ≤ 512 → Full p
+        → Leaves (S.Step.acknowledge a b)
+        (record row.old { issued = issued }) p (answer result) 0 (record row.new { issued = issued }) p }
+    ensures rest { row.new ≡ record row.old { acked = row.new.acked } }
 {
     let (a, b) = may_acknowledge(row, a, b)?;
     row.acked[8 * a.index() + b.index()] = row.len(b);

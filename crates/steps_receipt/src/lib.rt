@@ -49,6 +49,7 @@ pub fn commit(row: &mut Cluster, p: &mut LentMut<'_>, b: u8) -> Result<u8, Refus
     requires { (row.old.issued ≤ 512) × Short row.old.len × Full (places_in p.old) }
     ensures same { SameLent p.old p.new }
     ensures step { Turns (S.Step.commit b) row.old (places_in p.old) (outcome result row.new) (places_in p.new) }
+    ensures rest { row.new ≡ record row.old { issued = row.new.issued } }
 {
     let (b, behind) = may_commit(row, b)?;
     let n = row.issued;

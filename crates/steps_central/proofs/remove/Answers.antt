@@ -4,7 +4,8 @@ use Rattle.model.specs.Steps.{remove}
 use Rattle.steps_central.proofs.Governing.{rules_govern}
 use Rattle.steps_central.proofs.remove.Goals as goal
 
-pub returns : goal.returns
-returns c =
-    rules_govern (remove c.args.b) c.args.row.now (record { state = λ _. refl; places = refl }) (λ _. refl)
+pub returns-clause-step : goal.returns-clause-step
+returns-clause-step c views joined len s =
+    rules_govern (remove c.args.b) c.args.row.now.registry c.args.row.now.controller views joined len s
+    (record { state = λ _. refl; places = refl }) (λ _. refl)
     c.remove.result c.nobody.result c.nobody.ensures.answer c.nobody.ensures.set _ c.remove.ensures

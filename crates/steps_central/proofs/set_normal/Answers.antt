@@ -4,6 +4,7 @@ use Rattle.model.specs.Steps.{set_normal}
 use Rattle.steps_central.proofs.Governing.{settles_govern}
 use Rattle.steps_central.proofs.set_normal.Goals as goal
 
-pub returns : goal.returns
-returns c =
-    settles_govern (set_normal) c.args.row.now (record { state = λ _. refl; places = refl }) c.set_normal.result _ _ c.set_normal.ensures
+pub returns-clause-step : goal.returns-clause-step
+returns-clause-step c views joined len s =
+    settles_govern (set_normal) c.args.row.now.registry c.args.row.now.controller views joined len s
+    (record { state = λ _. refl; places = refl }) c.set_normal.result _ _ c.set_normal.ensures

@@ -5,14 +5,14 @@ use Rattle.refinement.proofs.Turning.{turned_away}
 use Rattle.steps_follower.proofs.Afters.{join-turns}
 use Rattle.steps_follower.proofs.join.Goals as goal
 
-pub returns-in_err-b : goal.returns-in_err-b
-returns-in_err-b c few full =
-    turned_away _ _ _ c.from_residual.result c.from_residual.ensures.0 (search rules) c.requires.1 few full
+pub returns-in_err-b-clause-step : goal.returns-in_err-b-clause-step
+returns-in_err-b-clause-step c issued list list2 few full =
+    turned_away (record c.args.row.now { issued = issued }) _ _ c.from_residual.result c.from_residual.ensures.0 (search rules) c.requires.1 few full
 
-pub returns : goal.returns
-returns c few full =
+pub returns-clause-step : goal.returns-clause-step
+returns-clause-step c issued list list2 few full =
     let h = c.in_ok-b.ensures in
-    join-turns c.args.row.now c.requires.1 few _ full (search rules) (search rules) c.args.b c.in_ok-b.b.number c.index-i.result
+    join-turns (record c.args.row.now { issued = issued }) c.requires.1 few _ full (search rules) (search rules) c.args.b c.in_ok-b.b.number c.index-i.result
     c.in_ok-b.leader.number c.len.result c.len-2.result c.shared.result c.view.result.term h.boards.0
     c.index-i.ensures.place h.boards.1 c.len.ensures c.len-2.ensures (ap (λ (v : View). v.term) c.view.ensures) h.answer
     c.shared.ensures
