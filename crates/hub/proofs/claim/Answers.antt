@@ -1,12 +1,8 @@
 -- `hub::claim` meets its contract. Assumes nothing.
-use Rattle.hub.proofs.claim.Statement.{statement}
-use Rattle.hub.proofs.claim.Tie as tie
 use Rattle.hub.proofs.Putting.{put-back}
 use Rattle.hub.proofs.Mixing.{links-safe}
 use Rattle.hub.proofs.Fixed.{lent-fixed}
+use Rattle.hub.proofs.claim.Goals as goal
 
-returns : tie.Need-returns
+pub returns : goal.returns
 returns c = (put-back, links-safe, lent-fixed)
-
-pub claim_spec : {M : Type 1} → statement M
-claim_spec = tie.close (tie.spec returns)
