@@ -15,6 +15,8 @@ use refusal::Refusal;
 
 // Sends a record to its field check and its step; what is handed back are the members behind it. Inner layer: callers
 // see to it that refusal 1 lets the row and the lent places through.
+// Row and places stay two parameters: a row is lent alone too (`lending`), and its places are lent to be read (`Lent`)
+// or written (`LentMut`).
 pub fn send(row: &mut Cluster, p: &mut LentMut<'_>, r: Record) -> Result<u8, Refusal>
     requires { Ready row.old × Full (places_in p.old) }
     ensures same { SameLent p.old p.new }

@@ -69,7 +69,7 @@ fn put_heard(page: &mut Page<'_>, h: u16, j: u16)
     put_two(page, j);
 }
 
-// Writes what the controller heard of the eight boards.
+// Writes what the controller heard of the eight boards. By the index: the law `each_page` is by place.
 #[tactic(auto, using(text::proofs::Laws::each_page))]
 fn put_heards(page: &mut Page<'_>, k: &Controller)
     requires { HasRoom page.old (texts (heard_bytes (controller_of k.now))) }

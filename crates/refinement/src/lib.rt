@@ -7,7 +7,8 @@ ghost use Rattle.refinement.specs.Lent.{places_of, places_in};
 
 use cluster::Cluster;
 
-// The lent places, to be read: the log store and the receipts, values and terms.
+// The lent places, to be read: the log store and the receipts, values and terms. Four slices: document 02, Paper 4, has
+// a second store and a second list beside the first ones, and the hub lends them of any length.
 #[derive(Clone, Copy)]
 pub struct Lent<'a> {
     pub store: &'a [u32],

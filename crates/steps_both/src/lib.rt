@@ -80,7 +80,7 @@ fn ranked_not_above(c: &Controller, b: Board) -> u8
 fn are_enough(c: &Controller, b: Board, fit: u8) -> bool
     ensures { result ≡ (leb 1 (at 0 c.now.heard b.number) && is_quorum (bits c.now.view.members) (bits fit)) }
 {
-    1 <= heard_at(c, b.number) && members::is_quorum(c.view.members, fit)
+    1 <= c.heard[b.index()] && members::is_quorum(c.view.members, fit)
 }
 
 // Step 15: what is answered about b, where b and the members not ranked above b are heard and enough or not.

@@ -1,7 +1,9 @@
 // The opening, and the steps of the registry and the controller: add (3), remove (4), change leader (5), controller
 // news (10), read leader (11), read (12), set normal (13), hear (14), install (15), as steps of a row. Each promise is
-// for a row with logs of at most 512 entries and at most 512 receipts, and for all lent places of their lengths. Inner
-// layer: callers see to it that the lent places have their lengths and that no log is longer than 512.
+// for logs of at most 512 entries, for every number of receipts up to 512, and for all lent places of their lengths.
+// Inner layer: callers see to it that no log is longer than 512 where a step looks at one. The nine stay functions of
+// their own, of a line each under their step's promise. A log's length stays a clause: `shown::fits` looks at rows of
+// any, for refusal 1.
 #![tactic(auto)]
 
 ghost use Rattle.std.specs.Prelude.{◌≡◌, List, ℕ};

@@ -1,7 +1,8 @@
 // The steps of a leader but its receipt: append (1), acknowledge (9), on a row and the lent places. Its `may_` function
 // makes a step's checks, in the paper's order. Inner layer: callers see to it that the lent places have their lengths
 // and that no log is longer than 512.
-// No invariant of row or places says so: `shown::fits` looks at those of any lengths, for refusal 1.
+// No invariant of row or places says so: `shown::fits` looks at those of any lengths, for refusal 1, and a type that says
+// it would be made anew of both in each step, and taken apart for what changes.
 #![tactic(auto)]
 
 ghost use Rattle.std.specs.Prelude.{◌≡◌, List, ℕ, ◌<◌, ◌≤◌, IfOk, length};

@@ -1,6 +1,7 @@
 // The receipt of a leader: commit (2), on a row and the lent places. Inner layer: callers see to it that there are at
 // most 512 receipts, that the lent places have their lengths and that no log is longer than 512.
-// No invariant of row or places says so: `shown::fits` looks at those of any lengths, for refusal 1.
+// No invariant of row or places says so: `shown::fits` looks at those of any lengths, for refusal 1, and a type that says
+// it would be made anew of both in each step, and taken apart for what changes.
 #![tactic(auto)]
 
 ghost use Rattle.std.specs.Prelude.{◌≡◌, ◌<◌, ◌≤◌, IfOk};
