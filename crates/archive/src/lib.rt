@@ -31,12 +31,14 @@ fn save_run(sheet: &[u8], p: &mut LentMut<'_>, out: &mut [u8]) -> Result<usize, 
 
 // Runs a sheet and writes the image of its row. It returns the image's length; refusal 2 for a sheet of wrong length or
 // without a valid opening, then 3 for a slice that is shorter than the image: both leave the slice untouched.
+// Not inlined into the entry for C: there clang 22 kept a value in r11 over its probe of the stack, which writes r11.
+#[inline(never)]
 pub fn save_sheet(sheet: &[u8], out: &mut [u8]) -> Result<usize, Refusal>
     ensures result { result ≡ save_outcome sheet.now out.old }
     ensures image { out.new ≡ save_left sheet.now out.old }
 {
     ensure(records::is_sheet(sheet), Refusal::Sheet)?;
-    // The places are of this frame: no function can hand out places of its own, and handing them out by value would
+    // The places are of this frame: no function can hand out references to its own, and handing them out by value would
     // copy 27,648 bytes.
     let mut p = LentMut {
         store: &mut [0; 4096],
@@ -55,7 +57,7 @@ pub fn show_image(image: &[u8], out: &mut [u8], scratch: &mut [u8]) -> Result<us
     ensures text { out.new ≡ show_left image.now out.old scratch.old }
     ensures scratch { scratch.new ≡ scratch_left scratch.old }
 {
-    // The places are of this frame: no function can hand out places of its own, and handing them out by value would
+    // The places are of this frame: no function can hand out references to its own, and handing them out by value would
     // copy 27,648 bytes.
     let mut p = LentMut {
         store: &mut [0; 4096],

@@ -49,7 +49,7 @@ pub fn plan_sheet(sheet: &[u8], out: &mut [u8]) -> Result<usize, Refusal>
 {
     ensure(records::is_sheet(sheet), Refusal::Sheet)?;
     ensure(16512 <= out.len(), Refusal::Room)?;
-    // The places are of this frame: no function can hand out places of its own, and handing them out by value would
+    // The places are of this frame: no function can hand out references to its own, and handing them out by value would
     // copy 27,648 bytes.
     let mut p = LentMut {
         store: &mut [0; 4096],
@@ -71,7 +71,7 @@ pub fn plan_image(image: &[u8], out: &mut [u8], scratch: &mut [u8]) -> Result<us
     ensures scratch { scratch.new ≡ scratch_left out.old scratch.old }
 {
     ensure(16512 <= out.len(), Refusal::Room)?;
-    // The places are of this frame: no function can hand out places of its own, and handing them out by value would
+    // The places are of this frame: no function can hand out references to its own, and handing them out by value would
     // copy 27,648 bytes.
     let mut p = LentMut {
         store: &mut [0; 4096],

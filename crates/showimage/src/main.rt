@@ -4,9 +4,9 @@
 use std::io;
 
 // The longest image has 37,122 bytes: of a longer one so much is read that it is seen to be too long. The lines of a
-// row have 20 to 8,650 bytes (`LengthsTell`, archive::sample), so refusal 3 does not happen here. Of its own in each of
-// the six programs: one function of the lengths and the call would need a clause that what a call hands back lies in
-// its slice, and with that be longer than these lines.
+// row have 20 to 8,650 bytes (`LengthsTell`, archive::sample), so refusal 3 does not happen here. This `main` stands in
+// each of the six programs: one function of both lengths and the call would need a clause that the length handed back
+// lies in the slice, and each program would still say its lengths, its call and that proof.
 fn main(rt: HostRuntime) -> io::Result<()> {
     let mut image = [0u8; 37130];
     let mut text = [0u8; 8650];

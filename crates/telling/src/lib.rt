@@ -1,6 +1,6 @@
 // A record and its answer in words: the writer of one English line (document 02, Paper 5). Inner layer: callers see to
-// the room, and that the answer is on the list. An answer is a number, as C gives it to `describe_record` and as
-// `verdict_text` has it: not each number is a refusal, so any may come in.
+// the room, and that the answer is on the list. An answer is a number, as `verdict_text` has it and as C gives it to
+// `describe_record`, which looks first whether it is on the list.
 #![tactic(auto, using(text::proofs::Laws::pages))]
 
 ghost use Rattle.std.specs.Prelude.{true, ◌≡◌, ◌<◌, ◌≤◌, length};

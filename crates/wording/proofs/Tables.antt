@@ -16,12 +16,12 @@ use Rattle.phrases.proofs.Testing.{passes}
 use Rattle.phrases.proofs.Listed.{is_there, there}
 use Rattle.wording.specs.declared.Form.{Form}
 use Rattle.wording.specs.declared.Reason.{Reason}
-use Rattle.wording.specs.Tables.{form_row, form_line, reason_row, reason_line, HoldsForms, HoldsReasons}
+use Rattle.wording.specs.Tables.{words_in, steps_in, form_row, form_line, reason_row, reason_line, HoldsForms, HoldsReasons}
 
 -- The forms
 
 form_at : (fs : List Form) (k : ℕ) (d : Form) → HoldsForms fs → k < 17
-    → ((get_or fs k d).lead.now ≡ lead_text k) × ((get_or fs k d).trail.now ≡ trail_text k)
+    → (words_in (get_or fs k d).lead ≡ lead_text k) × (words_in (get_or fs k d).trail ≡ trail_text k)
 unfolding HoldsForms
 form_at fs k d h l = (ap (λ p. p.0) e, ap (λ p. p.1) e)
   where
@@ -35,10 +35,10 @@ pub forms-length : (fs : List Form) → HoldsForms fs → length fs ≡ 17
 unfolding HoldsForms
 forms-length fs h = sym (length-map fs form_row) ∙ ap length h
 
-pub lead-at : (fs : List Form) (k : ℕ) (d : Form) → HoldsForms fs → k < 17 → (get_or fs k d).lead.now ≡ lead_text k
+pub lead-at : (fs : List Form) (k : ℕ) (d : Form) → HoldsForms fs → k < 17 → words_in (get_or fs k d).lead ≡ lead_text k
 lead-at fs k d h l = (form_at fs k d h l).0
 
-pub trail-at : (fs : List Form) (k : ℕ) (d : Form) → HoldsForms fs → k < 17 → (get_or fs k d).trail.now ≡ trail_text k
+pub trail-at : (fs : List Form) (k : ℕ) (d : Form) → HoldsForms fs → k < 17 → words_in (get_or fs k d).trail ≡ trail_text k
 trail-at fs k d h l = (form_at fs k d h l).1
 
 pub ruleset form_words = (forms-length, lead-at, trail-at)
@@ -55,7 +55,7 @@ has_any k (n ∷ ns) = ap₂ (λ (x y : Bool). x || y) (eqb_comm n k) (has_any k
 -- The first phrase that is
 
 abbrev pub test : ℕ → ℕ → Reason → Bool
-test k a r = eqb a r.answer && has k r.steps.now
+test k a r = eqb a r.answer && has k (steps_in r.steps)
 
 -- The words that a list of rows tells.
 tell : List (ℕ × List ℕ × Text) → ℕ → ℕ → Option Text
@@ -63,9 +63,9 @@ tell [] k a = None
 tell (x ∷ xs) k a = cond (eqb a x.0 && has k x.1) (Some x.2) (tell xs k a)
 
 words_of : Option Reason → Option Text
-words_of o = option_map (λ r. r.words.now) o
+words_of o = option_map (λ r. words_in r.words) o
 
-pick : (b : Bool) (r : Reason) (o : Option Reason) → words_of (cond b (Some r) o) ≡ cond b (Some r.words.now) (words_of o)
+pick : (b : Bool) (r : Reason) (o : Option Reason) → words_of (cond b (Some r) o) ≡ cond b (Some (words_in r.words)) (words_of o)
 unfolding words_of
 pick true r o = refl
 pick false r o = refl
@@ -74,7 +74,7 @@ found : (rs : List Reason) (k a : ℕ) → words_of (find (test k a) rs) ≡ tel
 unfolding tell words_of
 found [] k a = refl
 found (r ∷ rs) k a =
-    pick (test k a r) r (find (test k a) rs) ∙ ap (λ o. cond (test k a r) (Some r.words.now) o) (found rs k a)
+    pick (test k a r) r (find (test k a) rs) ∙ ap (λ o. cond (test k a r) (Some (words_in r.words)) o) (found rs k a)
 
 told : (qs : List P.Reason) (k a : ℕ) → T (is_there qs k a)
     → tell (map reason_line qs) k a ≡ Some (word (phrase_in qs k a))
@@ -91,7 +91,7 @@ told (q ∷ qs) k a t = go (is_for k a q) t (told qs k a)
 -- What a search of the table comes to.
 pub record Found (o : Option (Bor Reason)) (t : Text) : Type 0 where
   pub some : IsSome o
-  pub words : (x : Bor Reason) → o ≡ Some x → x.now.words.now ≡ t
+  pub words : (x : Bor Reason) → o ≡ Some x → words_in x.now.words ≡ t
 
 pub finds : (rs : List Reason) (o : Option (Bor Reason)) (k a : ℕ) → HoldsReasons rs
     → option_map (λ x. x.now) o ≡ find (test k a) rs → k < 17 → is_listed a ≡ true → Found o (reason_text k a)
@@ -129,9 +129,9 @@ answers_of : (rs : List Reason) → map (λ r. r.answer) rs ≡ map (λ (x : ℕ
 answers_of [] = refl
 answers_of (r ∷ rs) = ap (λ xs. r.answer ∷ xs) (answers_of rs)
 
-steps_of : (rs : List Reason) → map (λ r. r.steps.now) rs ≡ map (λ (x : ℕ × List ℕ × Text). x.1) (map reason_row rs)
+steps_of : (rs : List Reason) → map (λ r. steps_in r.steps) rs ≡ map (λ (x : ℕ × List ℕ × Text). x.1) (map reason_row rs)
 steps_of [] = refl
-steps_of (r ∷ rs) = ap (λ xs. r.steps.now ∷ xs) (steps_of rs)
+steps_of (r ∷ rs) = ap (λ xs. (steps_in r.steps) ∷ xs) (steps_of rs)
 
 -- They are those of the list.
 pub answer_at : (rs : List Reason) (i : ℕ) → HoldsReasons rs → get_or (map (λ r. r.answer) rs) i 0 ≡ (reason_at i).answer
@@ -147,7 +147,7 @@ answer-small rs i h l =
     omega (arith, answer_at rs i h, leb→le (reason_at i).answer 19 t)
 
 pub step-at : (rs : List Reason) (i k : ℕ) → HoldsReasons rs
-    → has k (get_or (map (λ r. r.steps.now) rs) i []) ≡ has k (reason_at i).steps
+    → has k (get_or (map (λ r. steps_in r.steps) rs) i []) ≡ has k (reason_at i).steps
 unfolding HoldsReasons
 step-at rs i k h =
     ap (has k) (ap (λ ks. get_or ks i []) (steps_of rs ∙ ap (map (λ (x : ℕ × List ℕ × Text). x.1)) h)

@@ -18,4 +18,4 @@ pub unwrap-requires : goal.unwrap-requires
 unwrap-requires c = (found c).some
 
 pub returns : goal.returns
-returns c = (found (goal.at.returns c).After-find).words c.unwrap.result c.unwrap.ensures
+returns c = rw c.text.ensures ((found (goal.at.returns c).After-find).words c.unwrap.result c.unwrap.ensures)
