@@ -9,7 +9,7 @@
  * every line, what each step asks and does, and who causes each refusal.
  *
  * Platform. The archive is for x86-64 with the System V calling convention:
- * ELF, position-independent, some 45 KiB of code and constants, no data that is
+ * ELF, position-independent, some 48 KiB of code and constants, no data that is
  * written. It asks for no instruction set beyond SSE2, which every x86-64 has.
  * (A tzcnt in it runs as bsf on older processors, and both agree wherever the
  * result is used.) It allocates nothing, makes no system call, and calls two
@@ -18,13 +18,13 @@
  * pointer that the convention gives a function (the red zone): a handler that
  * runs on the same stack must leave them alone.
  *
- * Stack. On every sheet that was tried a call of run_sheet took at most 46,928
+ * Stack. On every sheet that was tried a call of run_sheet took at most 45,840
  * bytes, with memcpy and memset bound beforehand (link with -z now; bound at
- * their first call, that call took 46,952). No proof bounds it. The pages are
- * touched in order, so a guard page is met before anything below it. A call of
- * explain_sheet took at most 39,432 bytes, one of describe_record 3,384, one of
- * save_sheet 38,704, one of show_image 38,588, one of plan_sheet 40,920, one of
- * plan_image 33,016, one of seed_sheet 32, one of look_up_majority 528.
+ * their first call, that call takes some more). No proof bounds it. The pages
+ * are touched in order, so a guard page is met before anything below it. A call
+ * of explain_sheet took at most 37,104 bytes, one of describe_record 424, one of
+ * save_sheet 37,504, one of show_image 37,883, one of plan_sheet 37,224, one of
+ * plan_image 29,147, one of seed_sheet 24, one of look_up_majority 8.
  *
  * Reentrant. Nothing is kept between calls: calls may run in several threads,
  * or one inside a handler that interrupts another, each with its own slices.
