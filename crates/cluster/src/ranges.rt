@@ -9,7 +9,7 @@ ghost use Rattle.cluster.specs.Layout.{view_of, registry_of, controller_of, at_p
 use crate::{Cluster, Controller, Registry, Stage, Status, View};
 use members::Board;
 
-// Whether each of the eight passes the test.
+// Whether each of the eight passes the test. Inner layer: callers see to it that the test answers for each.
 pub fn every_board<F: Fn(Board) -> bool>(test: F) -> bool
     requires { F.IsAlwaysCallable test }
     ensures { (p : Members) → ((b : Board) (r : Bool) → F.post test b r → r ≡ p b.number) → result ≡ every (eight p) }

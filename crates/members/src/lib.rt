@@ -33,7 +33,7 @@ impl Board {
         }
     }
 
-    // The replica at a place among the eight, from 0 on.
+    // The replica at a place among the eight, from 0 on. Inner layer: callers see to the place.
     pub fn at(i: usize) -> Board
         requires { i < 8 }
         ensures { result.number ≡ i + 1 }
@@ -97,7 +97,7 @@ pub fn without(m: u8, b: u8) -> u8
     }
 }
 
-// The replicas that pass a test.
+// The replicas that pass a test. Inner layer: callers see to it that the test answers for each.
 pub fn gather<F: Fn(Board) -> bool>(test: F) -> u8
     requires { F.IsAlwaysCallable test }
     ensures { (p : Q.Members) → ((b : Board) (t : Bool) → F.post test b t → t ≡ p b.number)
@@ -111,7 +111,7 @@ pub fn gather<F: Fn(Board) -> bool>(test: F) -> u8
     q
 }
 
-// The members of the set that pass a test.
+// The members of the set that pass a test. Inner layer: callers see to it that the test answers for each.
 pub fn filter<F: Fn(Board) -> bool>(m: u8, test: F) -> u8
     requires { F.IsAlwaysCallable test }
     ensures { (p : Q.Members) → ((b : Board) (t : Bool) → F.post test b t → t ≡ p b.number)

@@ -7,9 +7,8 @@ use native.Mathlib.Nat.{zero-add, add-zero, add-suc, suc-add, mul-suc, not-suc-l
 use native.Mathlib.Numerals.{add-one}
 use native.Mathlib.Omega.{arith}
 use lib.Dec.{ltb, leb}
-use lib.ListN.{length, take, drop, set, length-append}
-use lib.Seq.{length-sets, sets-eq, length-take-le, drop_at, drop-drop, take-append_seam, take-set-le, drop-set-lt, set_comm}
-use borrow.Rule.Slice.PartMut.{put_mid}
+use lib.ListN.{length, take, drop, get_or, set, length-append}
+use lib.Seq.{length-sets, sets-eq, length-take-le, take-suc, drop_at, take-append_seam, take-set-le, drop-set-lt, set_comm}
 use borrow.Author.Tests.{leb-true, lt-ltb, le-ltb, ltb-true, ltb-false, lt-leb, le-leb}
 use Rattle.std.specs.Prelude.{Result, Ok, Err}
 use Rattle.refusal.specs.declared.Refusal.{Refusal}
@@ -63,13 +62,18 @@ over-holds d at xs h =
     rw (sets-eq xs d at h, append_assoc (take at d) xs rest, drop_at (take at d) (xs ++ rest) at l)
     (take-append_seam xs rest)
 
--- A part of a slice into which a text was copied.
-pub over_part : (d xs ys : Text) (at : ℕ) → at + length xs ≤ length d → ys ≡ xs
-    → put_mid at (at + length xs - at) d ys ≡ over d at xs
-unfolding over
-over_part d xs ys at h e =
-    let n : at + length xs - at ≡ length xs = omega arith in
-    rw (e, sets-eq xs d at h, n, drop-drop (length xs) at d) (sym (append_assoc (take at d) xs (drop (at + length xs) d)))
+-- The first i bytes of a text and then the next are the first i + 1.
+pub over-more : (d : Text) (at : ℕ) (xs : Text) (i : ℕ) → i < length xs
+    → set (over d at (take i xs)) (at + i) (get_or xs i 0) ≡ over d at (take (i + 1) xs)
+over-more d at xs i h =
+    let l : length (take i xs) ≡ i = length-take-le i xs (omega arith) in
+    sym (rw (
+      add-one i,
+      take-suc xs i 0 h,
+      over-append d at (take i xs) (get_or xs i 0 ∷ []),
+      l,
+      over-one (over d at (take i xs)) (at + i) (get_or xs i 0),
+    ))
 
 -- A store past the text may as well come before it.
 pub over-set : (d : Text) (at : ℕ) (xs : Text) (i v : ℕ) → at + length xs ≤ i

@@ -53,14 +53,15 @@ impl<'a> Page<'a> {
         self.at += 1;
     }
 
-    // Writes the bytes of a text.
+    // Writes the bytes of a text. By a loop: `copy_from_slice` makes the archive for C ask for memmove.
     pub fn put_bytes(&mut self, text: &[u8])
         requires { HasRoom self.old text.now }
         ensures { Puts self.old text.now self.new }
     {
-        let end = self.at + text.len();
-        self.out[self.at..end].copy_from_slice(text);
-        self.at = end;
+        for (i, &b) in text.iter().enumerate() {
+            self.out[self.at + i] = b;
+        }
+        self.at += text.len();
     }
 
     // Writes a number. The digits are stored from the last to the first, each from what is left of n. By an index: a
