@@ -28,7 +28,7 @@ pub fn claim()
 
 // Writes the image of a row into a slice: the image's length, or refusal 1 for what every call refuses with 1, then 3
 // for a slice that is shorter than this image; both leave the slice as it was.
-pub fn save(row: &Cluster, p: Lent<'_>, out: &mut [u8]) -> Result<usize, Refusal>
+pub fn save(row: &Cluster, p: Lent<'_, '_>, out: &mut [u8]) -> Result<usize, Refusal>
     ensures answer { result ≡ saved row.now (places_of p.entry) out.old }
     ensures within { IfOk result (λ n. n ≤ length out.old) }
     ensures saves { Saves row.now (places_of p.entry) out.old (returned result) out.new }

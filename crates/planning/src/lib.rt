@@ -20,7 +20,7 @@ pub fn claim()
 // The records that lead the row to normal, from the start of a slice of at least 16,512 bytes, and their number.
 // Refusal 1 of a row or places that it turns away, then 3 for a shorter slice, then 20 where there is no list: the slice
 // is as it was then.
-pub fn plan(row: &Cluster, p: Lent<'_>, out: &mut [u8]) -> Result<usize, Refusal>
+pub fn plan(row: &Cluster, p: Lent<'_, '_>, out: &mut [u8]) -> Result<usize, Refusal>
     ensures { Plans row.now (places_of p.entry) out.old (planned result) out.new }
 {
     ensure(shown::fits(row, p), Refusal::Invalid)?;

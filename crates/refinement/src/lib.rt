@@ -8,13 +8,14 @@ ghost use Rattle.refinement.specs.Lent.{places_of, places_in};
 use cluster::Cluster;
 
 // The lent places, to be read: the log store and the receipts, values and terms. Four slices: document 02, Paper 4, has
-// a second store and a second list beside the first ones, and the hub lends them of any length.
+// a second store and a second list beside the first ones, and the hub lends them of any length. Two lifetimes: who
+// holds shown values may write terms.
 #[derive(Clone, Copy)]
-pub struct Lent<'a> {
+pub struct Lent<'a, 'b> {
     pub store: &'a [u32],
-    pub store2: &'a [u16],
+    pub store2: &'b [u16],
     pub list: &'a [u32],
-    pub list2: &'a [u16],
+    pub list2: &'b [u16],
 }
 
 // The lent places, to be written.
@@ -28,7 +29,7 @@ pub struct LentMut<'a> {
 
 impl<'a> LentMut<'a> {
     // The same places, to be read.
-    pub fn lent(&self) -> Lent<'_>
+    pub fn lent(&self) -> Lent<'_, '_>
         ensures { places_of result ≡ places_in self.now }
     {
         Lent {

@@ -44,7 +44,7 @@ fn play(rt: &impl Print, row: &mut Cluster, p: &mut LentMut<'_>, records: &[u8])
 }
 
 // Writes the image of a row, or nothing.
-fn keep(rt: &impl Print, row: &Cluster, p: Lent<'_>) -> io::Result<()> {
+fn keep(rt: &impl Print, row: &Cluster, p: Lent<'_, '_>) -> io::Result<()> {
     let mut image = [0u8; 37122];
     match image::save(row, p, &mut image) {
         Ok(n) => rt.write_all(&image[..n]),

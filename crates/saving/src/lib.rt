@@ -78,7 +78,7 @@ fn put_chain(page: &mut Page<'_>, k: usize, values: &[u32], terms: &[u16])
 
 // Writes the records of the nine lists, board 1's log first and the receipts last. Inner layer: callers see to the
 // lengths.
-pub fn put_chains(page: &mut Page<'_>, row: &Cluster, p: Lent<'_>)
+pub fn put_chains(page: &mut Page<'_>, row: &Cluster, p: Lent<'_, '_>)
     requires { Full (places_of p) × Short row.now.len × (row.now.issued ≤ 512)
         × HasRoom page.old (bytes_of (records_all 1 (lists_in row.now (places_of p)))) }
     ensures { Puts page.old (bytes_of (records_all 1 (lists_in row.now (places_of p.entry)))) page.new }

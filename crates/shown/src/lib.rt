@@ -15,14 +15,14 @@ use members::Board;
 use refinement::Lent;
 
 // Whether the lent places have their lengths.
-pub fn lengths(p: Lent<'_>) -> bool
+pub fn lengths(p: Lent<'_, '_>) -> bool
     ensures { result ≡ lengths_fit (places_of p.entry) }
 {
     p.store.len() == 4096 && p.store2.len() == 4096 && p.list.len() == 512 && p.list2.len() == 512
 }
 
 // Whether refusal 1 lets the row and the lent places through; and what the row's type fixes, for the callers' proofs.
-pub fn fits(row: &Cluster, p: Lent<'_>) -> bool
+pub fn fits(row: &Cluster, p: Lent<'_, '_>) -> bool
     ensures test { result ≡ valid row.now (places_of p.entry) }
     ensures shape { Shape row.now }
 {
@@ -45,7 +45,7 @@ fn leader_len(row: &Cluster) -> u16
 
 // The shown part of a store and a list of numbers, the values or the terms; an empty part of the list where refusal 1
 // turns the row or the lent places away. Callers see to it that these are lent places.
-fn part<'a, T: Copy>(row: &Cluster, p: Lent<'_>, store: &'a [T], list: &'a [T]) -> &'a [T]
+fn part<'a, T: Copy>(row: &Cluster, p: Lent<'_, '_>, store: &'a [T], list: &'a [T]) -> &'a [T]
     requires { valid row.now (places_of p) ≡ true → (length store.now ≡ 4096) × (length list.now ≡ 512) }
     ensures part { result.now ≡ shown_part row.now (places_of p.entry) store.now list.now }
     ensures place { result.ref_ptr ≡ shown_at (type_size T.row) row.now (places_of p.entry)
@@ -60,7 +60,7 @@ fn part<'a, T: Copy>(row: &Cluster, p: Lent<'_>, store: &'a [T], list: &'a [T]) 
 
 // The shown list, its values: a part of the store or of the list, not a copy (the promise says where it begins); an
 // empty part of the list where refusal 1 turns the row or the lent places away.
-pub fn visible<'a>(row: &Cluster, p: Lent<'a>) -> &'a [u32]
+pub fn visible<'a>(row: &Cluster, p: Lent<'a, '_>) -> &'a [u32]
     ensures values { result.now ≡ shown_values row.now (places_of p.entry) }
     ensures place { result.ref_ptr ≡ shown_at 4 row.now (places_of p.entry)
         p.entry.store.ref_ptr p.entry.list.ref_ptr }
@@ -70,7 +70,7 @@ pub fn visible<'a>(row: &Cluster, p: Lent<'a>) -> &'a [u32]
 
 // The like part of the terms, in the same way: of the second store or of the second list. Two names of `part`: README
 // and docs/ name both as calls.
-pub fn visible_terms<'a>(row: &Cluster, p: Lent<'a>) -> &'a [u16]
+pub fn visible_terms<'a>(row: &Cluster, p: Lent<'_, 'a>) -> &'a [u16]
     ensures terms { result.now ≡ shown_terms row.now (places_of p.entry) }
     ensures place { result.ref_ptr ≡ shown_at 2 row.now (places_of p.entry)
         p.entry.store2.ref_ptr p.entry.list2.ref_ptr }

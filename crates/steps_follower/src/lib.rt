@@ -95,7 +95,7 @@ fn may_join(row: &Cluster, b: u8) -> Result<(Board, Board), Refusal>
 }
 
 // Step 7, b joins. Inner layer: callers see to the lengths and the leaders.
-pub fn join(row: &mut Cluster, p: Lent<'_>, b: u8) -> Result<(), Refusal>
+pub fn join(row: &mut Cluster, p: Lent<'_, '_>, b: u8) -> Result<(), Refusal>
     requires { Led row.old.views × Short row.old.len
         × (length p.store.now ≡ 4096) × (length p.store2.now ≡ 4096) }
     ensures step { (issued : ℕ) (list list2 : List ℕ) → issued ≤ 512

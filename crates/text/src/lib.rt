@@ -44,7 +44,7 @@ impl<'a> Page<'a> {
         Page { out, at: 0 }
     }
 
-    // Writes one byte.
+    // Writes one byte. Inner layer: callers see to the room.
     pub fn put_byte(&mut self, b: u8)
         requires { HasRoom self.old (b ∷ []) }
         ensures { Puts self.old (b ∷ []) self.new }
@@ -53,7 +53,8 @@ impl<'a> Page<'a> {
         self.at += 1;
     }
 
-    // Writes the bytes of a text. By a loop: `copy_from_slice` makes the archive for C ask for memmove.
+    // Writes the bytes of a text. By a loop: `copy_from_slice` makes the archive for C ask for memmove. Inner layer:
+    // callers see to the room.
     pub fn put_bytes(&mut self, text: &[u8])
         requires { HasRoom self.old text.now }
         ensures { Puts self.old text.now self.new }
@@ -65,7 +66,8 @@ impl<'a> Page<'a> {
     }
 
     // Writes a number. The digits are stored from the last to the first, each from what is left of n. By an index: a
-    // loop over the places from the last one on would divide once more, for the first digit.
+    // loop over the places from the last one on would divide once more, for the first digit. Inner layer: callers see
+    // to the room.
     pub fn put_number(&mut self, n: u32)
         requires { HasRoom self.old (digits n) }
         ensures { Puts self.old (digits n) self.new }
@@ -82,7 +84,7 @@ impl<'a> Page<'a> {
         self.at = end;
     }
 
-    // Writes a number and a space after it.
+    // Writes a number and a space after it. Inner layer: callers see to the room.
     #[tactic(auto, using(crate::proofs::Laws::pages))]
     pub fn put_field(&mut self, n: u32)
         requires { HasRoom self.old (digits n ++ (32 ∷ [])) }
