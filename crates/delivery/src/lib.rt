@@ -1,7 +1,7 @@
 // A list that leads a row to normal, given out in a lent slice.
 #![tactic(auto)]
 
-ghost use Rattle.std.specs.Prelude.{true, ◌≤◌, length};
+ghost use Rattle.std.specs.Prelude.{◌≤◌, length};
 ghost use Rattle.orders.specs.Orders.{noted};
 ghost use Rattle.delivery.specs.Delivery.{delivered, Gives};
 ghost use Rattle.delivery.specs.Planned.{planned};
@@ -10,12 +10,15 @@ use orders::Orders;
 use refusal::{Refusal, ensure};
 use text::Page;
 
-// Gives out the list that was noted as orders, and how many records it has; refusal 20 of one that is too long. Inner
-// layer: callers see to the room: a clause, since C lends a slice of any length, and refusal 3 comes before the list.
-pub fn deliver(orders: &Orders, out: &mut [u8]) -> Result<usize, Refusal>
-    requires { 16512 ≤ length out.old }
-    ensures { Gives (delivered true (noted orders.now)) out.old (planned result) out.new }
+// Gives out the list that was noted as orders, and how many records it has; refusal 20 where it is not sound, or too
+// long. Inner layer: callers see to the room: a clause, since C lends a slice of any length, and refusal 3 comes before
+// the list.
+pub fn deliver(sound: bool, orders: &Orders<'_>, out: &mut [u8]) -> Result<usize, Refusal>
+    requires few { orders.now.count ≤ 64 }
+    requires room { 16512 ≤ length out.old }
+    ensures { Gives (delivered sound (noted orders.now)) out.old (planned result) out.new }
 {
+    ensure(sound, Refusal::NoPlan)?;
     let n = orders.total();
     ensure(n <= 2064, Refusal::NoPlan)?;
     orders.put(&mut Page::new(&mut *out));

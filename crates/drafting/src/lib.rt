@@ -4,6 +4,7 @@
 
 ghost use Rattle.std.specs.Prelude.{◌≡◌, ◌+◌, ◌≤◌, length};
 ghost use Rattle.model.specs.State.{entries};
+ghost use Rattle.members.specs.Mask.{bits};
 ghost use Rattle.cluster.specs.Layout.{status_of};
 ghost use Rattle.refinement.specs.Refinement.{abs};
 ghost use Rattle.refinement.specs.Lent.{places_in};
@@ -15,67 +16,86 @@ ghost use Rattle.delivery.specs.Delivery.{Gives};
 
 use cluster::{Cluster, Status};
 use members::Board;
-use orders::Orders;
-use pieces::{Sketch, Step};
+use orders::{Order, Orders};
+use pieces::Sketch;
 use refinement::LentMut;
-use refusal::{Refusal, ensure};
+use refusal::Refusal;
+
+// The steps of the two parts, and the refusal by which the controller's news is left out, as the papers number them.
+const REFRESH_CONTROLLER: u8 = 10;
+
+const SET_NORMAL: u8 = 13;
+
+const INSTALL: u8 = 15;
+
+const NOTHING_DUE: u8 = 12;
+
+// Whether b is in the set, whatever b is.
+fn contains(m: u8, b: u8) -> bool
+    ensures { result ≡ bits m b }
+{
+    match Board::new(b) {
+        Ok(b) => members::has(m, b),
+        Err(_) => false,
+    }
+}
 
 // The loops of the two parts stay two: as one, over a closure, they would need its clauses beside theirs, and they have
 // five lines each.
 
 // If choosing: from controller news to install.
-fn choosing_part(s: &mut Sketch<'_>) -> Result<(), Refusal>
-    requires { s.old.orders.count + 18 ≤ 54 }
-    ensures { Moves 18 (P.choosing_part entries) s.old result s.new }
+fn choosing_part(s: &mut Sketch<'_>)
+    requires { s.old.orders.count + 18 ≤ length s.old.orders.list.now }
+    ensures { Moves 18 (P.choosing_part entries) s.old s.new }
 {
     let m = s.row.registry.view.members;
     let q = ranking::first(m, members::majority(m));
-    s.put_unless(Step::RefreshController, Refusal::NothingDue)?;
+    s.put_unless(REFRESH_CONTROLLER, 0, NOTHING_DUE);
     for i in 0..8 {
         let b = Board::at(i);
         if members::has(q, b) {
-            s.hears(b)?;
+            s.hears(b.number);
         }
     }
-    let b = Board::new(ranking::highest(&s.row.controller, q)).map_err(|_| Refusal::NoPlan)?;
-    s.put(Step::Install(b))
+    let b = ranking::highest(&s.row.controller, q);
+    s.put(INSTALL, b);
 }
 
 // If waiting: from controller news to set normal.
-fn waiting_part(s: &mut Sketch<'_>) -> Result<(), Refusal>
-    requires { s.old.orders.count + 36 ≤ 54 }
-    ensures { Moves 36 (P.waiting_part entries) s.old result s.new }
+fn waiting_part(s: &mut Sketch<'_>)
+    requires { s.old.orders.count + 36 ≤ length s.old.orders.list.now }
+    ensures { Moves 36 (P.waiting_part entries) s.old s.new }
 {
     let v = s.row.registry.view;
-    let l = Board::new(v.leader).map_err(|_| Refusal::NoPlan)?;
-    ensure(members::has(v.members, l), Refusal::NoPlan)?;
+    let l = v.leader;
     let q = ranking::first(
-        members::remove(v.members, l),
+        members::without(v.members, l),
         members::majority(v.members) - 1,
     );
-    s.put_unless(Step::RefreshController, Refusal::NothingDue)?;
-    s.informs(l, l)?;
-    s.reads_leader()?;
+    s.sound &= contains(v.members, l);
+    s.put_unless(REFRESH_CONTROLLER, 0, NOTHING_DUE);
+    s.informs(l, l);
+    s.reads_leader();
     for i in 0..8 {
         let b = Board::at(i);
         if members::has(q, b) {
-            s.follows(l, b)?;
+            s.follows(l, b.number);
         }
     }
-    s.put(Step::SetNormal)
+    s.put(SET_NORMAL, 0);
 }
 
 // The whole list: "none if normal. If choosing: ..; then as waiting."
-fn draft(s: &mut Sketch<'_>) -> Result<(), Refusal>
-    requires { s.old.orders.count ≡ 0 }
-    ensures { Moves 54 (P.draft entries (status_of s.old.row.registry.status)) s.old result s.new }
+fn draft(s: &mut Sketch<'_>)
+    requires { s.old.orders.count + 54 ≤ length s.old.orders.list.now }
+    ensures { Moves 54 (P.draft entries (status_of s.old.row.registry.status)) s.old s.new }
 {
     match s.row.registry.status {
-        Status::Normal => Ok(()),
+        Status::Normal => {}
         Status::Waiting => waiting_part(&mut *s),
         Status::Choosing => {
-            choosing_part(&mut *s)?;
-            waiting_part(&mut *s)
+            choosing_part(&mut *s);
+            waiting_part(&mut *s);
         }
     }
 }
@@ -88,11 +108,19 @@ pub fn plan(row: &Cluster, places: LentMut<'_>, out: &mut [u8]) -> Result<usize,
     requires room { 16512 ≤ length out.old }
     ensures { Gives (P.plan entries (abs row.now (places_in places.entry))) out.old (planned result) out.new }
 {
+    let none = Order {
+        step: 0,
+        board: 0,
+        times: 0,
+    };
+    // As many as a list has at most: 18 in the choosing part, 36 in the waiting part. An array, as no heap is used.
+    let mut list = [none; 54];
     let mut s = Sketch {
         row: *row,
         places,
-        orders: Orders::new(),
+        orders: Orders::new(&mut list),
+        sound: true,
     };
-    draft(&mut s)?;
-    delivery::deliver(&s.orders, &mut *out)
+    draft(&mut s);
+    delivery::deliver(s.sound, &s.orders, &mut *out)
 }

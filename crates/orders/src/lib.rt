@@ -1,13 +1,13 @@
 // A list of records of a step and a board kept in few bytes, as orders, and written out as a sheet's records.
 #![tactic(auto)]
 
-ghost use Rattle.std.specs.Prelude.{◌≤◌};
+ghost use Rattle.std.specs.Prelude.{◌≤◌, length};
 
 use records::Record;
 use text::Page;
 
 // A record of a step and a board, and how often it stands in a row. Both are numbers, board 0 for none, as `of` has
-// them and as they are written; `pieces::Step`, of which orders are made, has no case for the place not yet taken.
+// them and as they are written.
 #[derive(Clone, Copy)]
 pub struct Order {
     pub step: u8,
@@ -41,50 +41,46 @@ impl Order {
     }
 }
 
-// The orders of a list: the first `count` of 54, as no list has more (18 for the choosing part, 36 for the waiting
-// part). An array with its count, as no heap is used.
-#[derive(Clone, Copy)]
-pub struct Orders {
-    list: [Order; 54],
+// The orders of a list: the first `count` in a slice that the caller lends, which has as many places as the caller has
+// room for; no heap is used.
+#[derive(Drop)]
+pub struct Orders<'a> {
+    pub list: &'a mut [Order],
     pub count: usize,
-    pub ghost few: { count ≤ 54 },
+    pub ghost few: { count ≤ length list.now },
 }
 
-impl Orders {
+impl<'a> Orders<'a> {
     ghost use Rattle.std.specs.Prelude.{◌≡◌, ◌<◌, suc, ◌++◌, [], length, replicate};
     ghost use Rattle.model.specs.Records.{of};
     ghost use Rattle.text.specs.Text.{HasRoom, Puts};
     ghost use Rattle.records.specs.Bytes.{sheet_bytes};
-    ghost use Rattle.orders.specs.Orders.{noted};
+    ghost use Rattle.orders.specs.Orders.{noted, SameList};
 
     // No order yet.
-    pub fn new() -> Orders
+    pub fn new(list: &'a mut [Order]) -> Orders<'a>
         ensures none { noted result ≡ [] }
         ensures count { result.count ≡ 0 }
+        ensures same { result.list.ghost_name ≡ list.entry.ghost_name }
+        ensures list { result.list.now ≡ list.old }
     {
-        let none = Order {
-            step: 0,
-            board: 0,
-            times: 0,
-        };
-        Orders {
-            list: [none; 54],
-            count: 0,
-        }
+        Orders { list, count: 0 }
     }
 
-    // One order more.
+    // One order more, where there is room.
     pub fn push(&mut self, order: Order)
-        requires { self.old.count < 54 }
+        requires { self.old.count < length self.old.list.now }
         ensures more { noted self.new ≡ noted self.old ++ replicate order.times (of order.step order.board) }
         ensures count { self.new.count ≡ suc self.old.count }
+        ensures same { SameList self.old self.new }
     {
         self.list[self.count] = order;
         self.count += 1;
     }
 
-    // How many records they are.
+    // How many records they are. At most 64 orders, so that the sum fits.
     pub fn total(&self) -> usize
+        requires { self.now.count ≤ 64 }
         ensures { result ≡ length (noted self.now) }
     {
         let mut n = 0;

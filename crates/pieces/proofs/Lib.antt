@@ -1,4 +1,3 @@
 pub mod Keeping
 pub mod Trying
-pub mod Sinking
 pub mod Standing

@@ -1,4 +1,4 @@
--- From the inner step to a step that was tried. Assumes nothing.
+-- From the inner step to a record that was tried. Assumes nothing.
 use mathlib.Core.Bool.{cond}
 use mathlib.Core.Logic.{◌≢◌}
 use mathlib.Core.Path.{◌≡◌, sym, subst, ap, ◌∙◌}
@@ -13,8 +13,7 @@ use Rattle.cluster.specs.Ended.{Outcome}
 use Rattle.cluster.specs.Layout.{outline_of}
 use Rattle.refinement.specs.Refinement.{Places, Full, abs, Shape, Ready, written, places_after, Turns}
 use Rattle.refinement.proofs.Turning.{outline-abs}
-use Rattle.pieces.specs.Fitting.{Leaders, Fit}
-use Rattle.pieces.proofs.Keeping.{Keeps}
+use Rattle.pieces.specs.Fitting.{Leaders, Keeps, Fit}
 
 -- A row on which a record can be tried is ready for its step.
 pub fit-ready : (row : Cluster) (p : Places) → Shape row → Fit row p → Ready row

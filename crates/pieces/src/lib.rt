@@ -1,161 +1,173 @@
-// The pieces of a list that leads a row to normal (document 02, Paper 10): each step is tried on the row, in turn.
+// The pieces of a list that leads a row to normal (document 02, Paper 10): each record is tried on the row, in turn.
 // Inner layer: the places are written, so callers lend copies, or places that they have done with.
 #![tactic(auto)]
 
+ghost use Rattle.std.specs.Prelude.{◌≡◌};
+ghost use Rattle.cluster.specs.Layout.{at, no_view};
 ghost use Rattle.refinement.specs.Lent.{places_in};
-ghost use Rattle.pieces.specs.Fitting.{Fit};
+ghost use Rattle.pieces.specs.Fitting.{Fit, Keeps};
 
-use cluster::{Cluster, Stage};
+use cluster::{Cluster, Stage, View};
 use members::Board;
 use orders::{Order, Orders};
+use records::Record;
 use refinement::LentMut;
-use refusal::{Refusal, ensure};
+use refusal::{Refusal, answer};
 
-// A step of a list, with its board where it has one.
-#[derive(Clone, Copy)]
-pub enum Step {
-    Refresh(Board),
-    Join(Board),
-    Receive(Board),
-    RefreshController,
-    ReadLeader,
-    Read(Board),
-    SetNormal,
-    Hear(Board),
-    Install(Board),
-}
+// The steps that the pieces make, and the refusals by which they leave some out, as the papers number them. Numbers:
+// `put` and `put_unless` take any step that keeps the leaders, and any refusal.
+const REFRESH: u8 = 6;
 
-impl Step {
-    ghost use Rattle.std.specs.Prelude.{◌≡◌};
-    ghost use Rattle.model.specs.Records as R;
-    ghost use Rattle.pieces.specs.Pieces.{record_of};
+const JOIN: u8 = 7;
 
-    // It, n times in a row.
-    fn times(self, n: u16) -> Order
-        ensures order { R.of result.step result.board ≡ record_of self }
-        ensures times { result.times ≡ n }
-    {
-        let (step, board) = match self {
-            Step::Refresh(b) => (6, b.number),
-            Step::Join(b) => (7, b.number),
-            Step::Receive(b) => (8, b.number),
-            Step::RefreshController => (10, 0),
-            Step::ReadLeader => (11, 0),
-            Step::Read(b) => (12, b.number),
-            Step::SetNormal => (13, 0),
-            Step::Hear(b) => (14, b.number),
-            Step::Install(b) => (15, b.number),
-        };
-        Order {
-            step,
-            board,
-            times: n,
-        }
+const RECEIVE: u8 = 8;
+
+const READ_LEADER: u8 = 11;
+
+const READ: u8 = 12;
+
+const HEAR: u8 = 14;
+
+const JOINING: u8 = 11;
+
+const NOTHING_DUE: u8 = 12;
+
+// The length of the log of b among eight, 0 where b is no replica.
+fn length_of(len: [u16; 8], b: u8) -> u16
+    ensures { result ≡ at 0 len b }
+{
+    match Board::new(b) {
+        Ok(b) => len[b.index()],
+        Err(_) => 0,
     }
 }
 
-// A list in the making: the row after its steps so far, the places on which they were tried, and their orders. A step
-// that is refused is error 20, and ends it.
+// The leader in the view of b among eight, 0 where b is no replica.
+fn leader_of(views: [View; 8], b: u8) -> u8
+    ensures { result ≡ (at no_view views b).leader }
+{
+    match Board::new(b) {
+        Ok(b) => views[b.index()].leader,
+        Err(_) => 0,
+    }
+}
+
+// A list in the making: the row after its records so far, the places on which they were tried, their orders, and
+// whether nothing was met that is error 20. That is a flag, as a piece goes on after an error: what it promises is the
+// model's draft, with what comes after an error too.
 #[derive(Drop)]
 pub struct Sketch<'a> {
     pub row: Cluster,
     pub places: LentMut<'a>,
-    pub orders: Orders,
+    pub orders: Orders<'a>,
+    pub sound: bool,
     pub ghost fit: { Fit row (places_in places) },
 }
 
 impl Sketch<'_> {
-    ghost use Rattle.std.specs.Prelude.{◌≡◌, ◌≢◌, ◌+◌, ◌<◌, ◌≤◌};
+    ghost use Rattle.std.specs.Prelude.{◌≢◌, ◌+◌, ◌<◌, ◌≤◌, length};
     ghost use Rattle.model.specs.State.{entries};
+    ghost use Rattle.model.specs.Records as R;
     ghost use Rattle.recovery.specs.Plan as P;
-    ghost use Rattle.refusal.specs.Refusal.{number};
-    ghost use Rattle.pieces.specs.Pieces.{record_of, Tried, Moves};
+    ghost use Rattle.pieces.specs.Pieces.{Tried, Moves};
 
-    // Tries a step.
-    fn attempt(&mut self, step: Step) -> Result<u8, Refusal>
-        ensures { Tried (record_of step) self.old result self.new }
+    // Tries the record of a step and a board.
+    fn attempt(&mut self, step: u8, board: u8) -> Result<u8, Refusal>
+        requires { Keeps (R.step_of (R.of step board)) }
+        ensures { Tried (R.of step board) self.old result self.new }
     {
         let _view = self.row.views[0]; // So the proof knows how long the row's arrays are.
-        dispatch::send(&mut self.row, &mut self.places, step.times(1).record())
+        dispatch::send(&mut self.row, &mut self.places, Record::of(step, board))
     }
 
-    // One step more.
-    pub fn put(&mut self, step: Step) -> Result<(), Refusal>
-        requires { self.old.orders.count < 54 }
-        ensures { Moves 1 (P.put entries (record_of step)) self.old result self.new }
+    // One record more.
+    pub fn put(&mut self, step: u8, board: u8)
+        requires keeps { Keeps (R.step_of (R.of step board)) }
+        requires room { self.old.orders.count < length self.old.orders.list.now }
+        ensures { Moves 1 (P.put entries (R.of step board)) self.old self.new }
     {
-        self.attempt(step).map_err(|_| Refusal::NoPlan)?;
-        self.orders.push(step.times(1));
-        Ok(())
+        let ok = self.attempt(step, board).is_ok();
+        self.orders.push(Order {
+            step,
+            board,
+            times: 1,
+        });
+        self.sound &= ok;
     }
 
-    // One step more, left out where it would be refused with `skip`.
-    pub fn put_unless(&mut self, step: Step, skip: Refusal) -> Result<(), Refusal>
-        requires { self.old.orders.count < 54 }
-        ensures { Moves 1 (P.put_unless entries (number skip) (record_of step)) self.old result self.new }
+    // One record more, left out where it would be refused with `skip`.
+    pub fn put_unless(&mut self, step: u8, board: u8, skip: u8)
+        requires keeps { Keeps (R.step_of (R.of step board)) }
+        requires refusal { 1 ≤ skip }
+        requires room { self.old.orders.count < length self.old.orders.list.now }
+        ensures { Moves 1 (P.put_unless entries skip (R.of step board)) self.old self.new }
     {
-        match self.attempt(step) {
-            Ok(_) => {
-                self.orders.push(step.times(1));
-                Ok(())
-            }
-            Err(e) => ensure(e == skip, Refusal::NoPlan),
+        let x = self.attempt(step, board);
+        if answer(&x) == skip {
+            return;
         }
+        self.orders.push(Order {
+            step,
+            board,
+            times: 1,
+        });
+        self.sound &= x.is_ok();
     }
 
     // Choosing: news and hearing of b.
-    pub fn hears(&mut self, b: Board) -> Result<(), Refusal>
-        requires { self.old.orders.count + 2 ≤ 54 }
-        ensures { Moves 2 (P.hears entries b.number) self.old result self.new }
+    pub fn hears(&mut self, b: u8)
+        requires { self.old.orders.count + 2 ≤ length self.old.orders.list.now }
+        ensures { Moves 2 (P.hears entries b) self.old self.new }
     {
-        self.put_unless(Step::Refresh(b), Refusal::NothingDue)?;
-        self.put_unless(Step::Hear(b), Refusal::NothingDue)
+        self.put_unless(REFRESH, b, NOTHING_DUE);
+        self.put_unless(HEAR, b, NOTHING_DUE);
     }
 
     // As many receives as bring b to the length of l: one order.
-    pub fn receives(&mut self, l: Board, b: Board) -> Result<(), Refusal>
-        requires { self.old.orders.count < 54 }
-        ensures { Moves 1 (P.receives entries l.number b.number) self.old result self.new }
+    pub fn receives(&mut self, l: u8, b: u8)
+        requires { self.old.orders.count < length self.old.orders.list.now }
+        ensures { Moves 1 (P.receives entries l b) self.old self.new }
     {
-        let n = self.row.len[l.index()].saturating_sub(self.row.len[b.index()]);
+        let n = length_of(self.row.len, l).saturating_sub(length_of(self.row.len, b));
         for _ in 0..n {
-            self.attempt(Step::Receive(b)).map_err(|_| Refusal::NoPlan)?;
+            let ok = self.attempt(RECEIVE, b).is_ok();
+            self.sound &= ok;
         }
-        self.orders.push(Step::Receive(b).times(n));
-        Ok(())
+        self.orders.push(Order {
+            step: RECEIVE,
+            board: b,
+            times: n,
+        });
     }
 
     // Waiting: news of b, after which it has the leader l in its view.
-    pub fn informs(&mut self, l: Board, b: Board) -> Result<(), Refusal>
-        requires { self.old.orders.count < 54 }
-        ensures { Moves 1 (P.informs entries l.number b.number) self.old result self.new }
+    pub fn informs(&mut self, l: u8, b: u8)
+        requires { self.old.orders.count < length self.old.orders.list.now }
+        ensures { Moves 1 (P.informs entries l b) self.old self.new }
     {
-        self.put_unless(Step::Refresh(b), Refusal::NothingDue)?;
-        ensure(
-            self.row.views[b.index()].leader == l.number,
-            Refusal::NoPlan,
-        )
+        self.put_unless(REFRESH, b, NOTHING_DUE);
+        self.sound &= leader_of(self.row.views, b) == l;
     }
 
     // News, join, receives and reading of b, for the leader l.
-    pub fn follows(&mut self, l: Board, b: Board) -> Result<(), Refusal>
-        requires { self.old.orders.count + 4 ≤ 54 }
-        ensures { Moves 4 (P.follows entries l.number b.number) self.old result self.new }
+    pub fn follows(&mut self, l: u8, b: u8)
+        requires { self.old.orders.count + 4 ≤ length self.old.orders.list.now }
+        ensures { Moves 4 (P.follows entries l b) self.old self.new }
     {
-        self.informs(l, b)?;
-        self.put_unless(Step::Join(b), Refusal::Joining)?;
-        self.receives(l, b)?;
-        self.put_unless(Step::Read(b), Refusal::NothingDue)
+        self.informs(l, b);
+        self.put_unless(JOIN, b, JOINING);
+        self.receives(l, b);
+        self.put_unless(READ, b, NOTHING_DUE);
     }
 
     // Read leader, left out in stage boards.
-    pub fn reads_leader(&mut self) -> Result<(), Refusal>
-        requires { self.old.orders.count < 54 }
-        ensures { Moves 1 (P.reads_leader entries) self.old result self.new }
+    pub fn reads_leader(&mut self)
+        requires { self.old.orders.count < length self.old.orders.list.now }
+        ensures { Moves 1 (P.reads_leader entries) self.old self.new }
     {
         if self.row.controller.stage == Stage::Boards {
-            return Ok(());
+            return;
         }
-        self.put(Step::ReadLeader)
+        self.put(READ_LEADER, 0);
     }
 }

@@ -6,4 +6,4 @@ use Rattle.orders.proofs.Orders.push.Goals as goal
 pub returns-clause-more : goal.returns-clause-more
 returns-clause-more c =
     let o = c.args.self.now in
-    pushed o.count o.list c.args.order (omega (arith, c.requires, c.well_formed))
+    pushed o.count o.list.now c.args.order (omega (arith, c.requires, c.well_formed))

@@ -5,4 +5,4 @@ use Rattle.orders.specs.Orders.{orders}
 use Rattle.orders.proofs.Orders.put.Given as goal
 
 abbrev pub invariant-loop-order : goal.invariant-loop-order
-invariant-loop-order l = Puts l.fn.page (sheet_bytes (orders l.order-index l.fn.self.list)) l.page
+invariant-loop-order l = Puts l.fn.page (sheet_bytes (orders l.order-index l.fn.self.list.now)) l.page

@@ -10,5 +10,5 @@ pub loop-order-preserved : goal.loop-order-preserved
 loop-order-preserved c =
     let o = c.args.self.now in
     let l = c.loop-order in
-    let more = count-next l.order-index o.list _ (taken o.count o.list l.order-index c.loop-order-test.true) in
+    let more = count-next l.order-index o.list.now _ (taken o.count o.list.now l.order-index c.loop-order-test.true) in
     (omega (arith, l.invariant.0, more), omega (arith, l.invariant.1))

@@ -4,4 +4,4 @@ use Rattle.orders.specs.Orders.{orders}
 use Rattle.orders.proofs.Orders.total.Given as goal
 
 abbrev pub invariant-loop-order : goal.invariant-loop-order
-invariant-loop-order l = (l.n ≡ length (orders l.order-index l.fn.self.list)) × (l.n ≤ 65535 * l.order-index)
+invariant-loop-order l = (l.n ≡ length (orders l.order-index l.fn.self.list.now)) × (l.n ≤ 65535 * l.order-index)

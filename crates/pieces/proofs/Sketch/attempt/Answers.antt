@@ -1,8 +1,7 @@
 -- `pieces::Sketch::attempt` meets its contract: the inner step. Assumes nothing.
-use Rattle.std.proofs.Common.{◌∙◌, rules}
+use Rattle.std.proofs.Common.{rules}
+use Rattle.model.specs.Records.{of}
 use Rattle.refinement.specs.Lent.{places_in}
-use Rattle.pieces.specs.Pieces.{record_of}
-use Rattle.pieces.proofs.Keeping.{keeps}
 use Rattle.pieces.proofs.Trying.{fit-ready, turned, fits-still, answered, unchanged}
 use Rattle.pieces.proofs.Sketch.attempt.Goals as goal
 
@@ -14,17 +13,18 @@ send-requires c =
 pub invariant_of-self : goal.invariant_of-self
 invariant_of-self c =
     let s = c.args.self.now in
-    let t = turned (c.record.ensures ∙ c.times.ensures.order) c.send.ensures.step in
-    record { fit = fits-still (record_of c.args.step) s.row (places_in s.places) s.fit (keeps c.args.step) t }
+    let t = turned c.of.ensures c.send.ensures.step in
+    record { fit = fits-still (of c.args.step c.args.board) s.row (places_in s.places) s.fit c.requires t }
 
 pub returns : goal.returns
 returns c =
     let s = c.args.self.now in
-    let t = turned (c.record.ensures ∙ c.times.ensures.order) c.send.ensures.step in
+    let t = turned c.of.ensures c.send.ensures.step in
     record {
-      answer = answered (record_of c.args.step) s.row (places_in s.places) s.fit t;
+      answer = answered (of c.args.step c.args.board) s.row (places_in s.places) s.fit t;
       state = t.state;
       orders = search rules;
+      sound = search rules;
       refused = unchanged t;
       same = c.send.ensures.same;
     }

@@ -1,4 +1,4 @@
--- `pieces::Sketch::reads_leader` meets its contract: the step, or none in stage boards. Assumes nothing.
+-- `pieces::Sketch::reads_leader` meets its contract: the record, or none in stage boards. Assumes nothing.
 use Rattle.pieces.proofs.Standing.{reads-none, reads-put}
 use Rattle.pieces.proofs.Sketch.reads_leader.Goals as goal
 

@@ -11,4 +11,4 @@ abbrev pub invariant-loop : goal.invariant-loop
 invariant-loop l =
     (l.self.orders ≡ l.fn.self.orders)
     × SameLent l.fn.self.places l.self.places
-    × ((m : Draft Entry) → Plays m l.fn.self → Plays (times l.counter (put entries (of 8 l.b.number)) m) l.self)
+    × ((m : Draft Entry) → Plays m l.fn.self → Plays (times l.counter (put entries (of 8 l.b)) m) l.self)
