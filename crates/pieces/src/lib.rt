@@ -80,7 +80,7 @@ impl Sketch<'_> {
         dispatch::send(&mut self.row, &mut self.places, Record::of(step, board))
     }
 
-    // One record more.
+    // One record more. Inner layer: callers see to the step and to the room.
     pub fn put(&mut self, step: u8, board: u8)
         requires keeps { Keeps (R.step_of (R.of step board)) }
         requires room { self.old.orders.count < length self.old.orders.list.now }
@@ -95,7 +95,8 @@ impl Sketch<'_> {
         self.sound &= ok;
     }
 
-    // One record more, left out where it would be refused with `skip`.
+    // One record more, left out where it would be refused with `skip`. Inner layer: callers see to the step, to a
+    // refusal and to the room.
     pub fn put_unless(&mut self, step: u8, board: u8, skip: u8)
         requires keeps { Keeps (R.step_of (R.of step board)) }
         requires refusal { 1 ≤ skip }
@@ -114,7 +115,7 @@ impl Sketch<'_> {
         self.sound &= x.is_ok();
     }
 
-    // Choosing: news and hearing of b.
+    // Choosing: news and hearing of b. Inner layer: callers see to the room.
     pub fn hears(&mut self, b: u8)
         requires { self.old.orders.count + 2 ≤ length self.old.orders.list.now }
         ensures { Moves 2 (P.hears entries b) self.old self.new }
@@ -123,7 +124,7 @@ impl Sketch<'_> {
         self.put_unless(HEAR, b, NOTHING_DUE);
     }
 
-    // As many receives as bring b to the length of l: one order.
+    // As many receives as bring b to the length of l: one order. Inner layer: callers see to the room.
     pub fn receives(&mut self, l: u8, b: u8)
         requires { self.old.orders.count < length self.old.orders.list.now }
         ensures { Moves 1 (P.receives entries l b) self.old self.new }
@@ -140,7 +141,7 @@ impl Sketch<'_> {
         });
     }
 
-    // Waiting: news of b, after which it has the leader l in its view.
+    // Waiting: news of b, after which it has the leader l in its view. Inner layer: callers see to the room.
     pub fn informs(&mut self, l: u8, b: u8)
         requires { self.old.orders.count < length self.old.orders.list.now }
         ensures { Moves 1 (P.informs entries l b) self.old self.new }
@@ -149,7 +150,7 @@ impl Sketch<'_> {
         self.sound &= leader_of(self.row.views, b) == l;
     }
 
-    // News, join, receives and reading of b, for the leader l.
+    // News, join, receives and reading of b, for the leader l. Inner layer: callers see to the room.
     pub fn follows(&mut self, l: u8, b: u8)
         requires { self.old.orders.count + 4 ≤ length self.old.orders.list.now }
         ensures { Moves 4 (P.follows entries l b) self.old self.new }
@@ -160,7 +161,7 @@ impl Sketch<'_> {
         self.put_unless(READ, b, NOTHING_DUE);
     }
 
-    // Read leader, left out in stage boards.
+    // Read leader, left out in stage boards. Inner layer: callers see to the room.
     pub fn reads_leader(&mut self)
         requires { self.old.orders.count < length self.old.orders.list.now }
         ensures { Moves 1 (P.reads_leader entries) self.old self.new }
