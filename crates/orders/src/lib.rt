@@ -67,7 +67,7 @@ impl<'a> Orders<'a> {
         Orders { list, count: 0 }
     }
 
-    // One order more, where there is room.
+    // One order more. Inner layer: callers see to the room.
     pub fn push(&mut self, order: Order)
         requires { self.old.count < length self.old.list.now }
         ensures more { noted self.new ≡ noted self.old ++ replicate order.times (of order.step order.board) }
@@ -78,7 +78,7 @@ impl<'a> Orders<'a> {
         self.count += 1;
     }
 
-    // How many records they are. At most 64 orders, so that the sum fits.
+    // How many records they are. Inner layer: callers see to it that there are 64 orders at most, so the sum fits.
     pub fn total(&self) -> usize
         requires { self.now.count ≤ 64 }
         ensures { result ≡ length (noted self.now) }
@@ -90,7 +90,7 @@ impl<'a> Orders<'a> {
         n
     }
 
-    // Writes their records.
+    // Writes their records. Inner layer: callers see to the room.
     pub fn put(&self, page: &mut Page<'_>)
         requires { HasRoom page.old (sheet_bytes (noted self.now)) }
         ensures { Puts page.old (sheet_bytes (noted self.now)) page.new }
