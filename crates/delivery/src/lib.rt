@@ -11,8 +11,8 @@ use refusal::{Refusal, ensure};
 use text::Page;
 
 // Gives out the list that was noted as orders, and how many records it has; refusal 20 where it is not sound, or too
-// long. Inner layer: callers see to the number of orders and to the room: a clause, since C lends a slice of any length,
-// and refusal 3 comes before the list.
+// long. Inner layer: callers see to the number of orders, and to the room: a clause, since C lends a slice of any
+// length, and refusal 3 comes before the list.
 pub fn deliver(sound: bool, orders: &Orders<'_>, out: &mut [u8]) -> Result<usize, Refusal>
     requires few { orders.now.count ≤ 64 }
     requires room { 16512 ≤ length out.old }

@@ -48,7 +48,8 @@ module _ (s : Sketch) (q : ℕ) where
     choosing-moves h b e k =
         let named : (m : Draft Entry) → Stands m s → b ≡ highest (heard (bits q) m).state.controller (bits q) =
         λ m j. e ∙ ap (λ (w : RowState). highest w.controller (bits q)) (h.stands m j).plays.state in
-        moves-as (λ m j. ap (λ i. put entries (of 15 i) (heard (bits q) m)) (named m j) ∙ chosen-is m j) (moves-then h k)
+        moves-as (λ m j. ap (λ i. put entries (of 15 i) (heard (bits q) m)) (named m j) ∙ chosen-is m j)
+        (moves-then h k)
 
 -- The waiting part, for the leader l, the members m and the boards q: up to the leader's reading, and whole.
 unfoldable pub prepared : ℕ → Members → Draft Entry → Draft Entry
@@ -97,7 +98,8 @@ module _ {s t : Sketch} where
 -- Nothing is noted yet, and no error was met; so what was made is the list of the state, and so it is given out.
 pub gives-plan : {s t : Sketch} → noted s.orders ≡ [] → s.sound ≡ true
     → Moves 54 (draft entries (abs s.row (places_in s.places)).registry.status) s t → {out out' : Text} {x : Planned}
-    → Gives (delivered t.sound (noted t.orders)) out x out' → Gives (plan entries (abs s.row (places_in s.places))) out x out'
+    → Gives (delivered t.sound (noted t.orders)) out x out'
+    → Gives (plan entries (abs s.row (places_in s.places))) out x out'
 unfolding plan
 gives-plan {s} {t} none sound h {out} {out'} {x} g =
     let j : Stands (start (abs s.row (places_in s.places))) s =

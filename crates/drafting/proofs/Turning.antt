@@ -12,7 +12,8 @@ use Rattle.pieces.specs.Pieces.{Moves}
 use Rattle.pieces.proofs.Standing.{moves-as, moves-none, moves-then}
 
 -- Fewer orders are as many at most.
-pub moves-within : {k : ℕ} {f : Draft Entry → Draft Entry} {s t : Sketch} (n : ℕ) → k ≤ n → Moves k f s t → Moves n f s t
+pub moves-within : {k : ℕ} {f : Draft Entry → Draft Entry} {s t : Sketch} (n : ℕ) → k ≤ n → Moves k f s t
+    → Moves n f s t
 moves-within n h j = record { few = omega (arith, h, j.few); stands = j.stands; same = j.same; list = j.list }
 
 module _ (q : Members) (f : ℕ → Draft Entry → Draft Entry) where

@@ -78,7 +78,7 @@ impl<'a> Orders<'a> {
         self.count += 1;
     }
 
-    // How many records they are. Inner layer: callers see to it that the orders are 64 at most, so that the sum fits.
+    // How many records they are. Inner layer: callers see to it that there are 64 orders at most, so the sum fits.
     pub fn total(&self) -> usize
         requires { self.now.count ≤ 64 }
         ensures { result ≡ length (noted self.now) }

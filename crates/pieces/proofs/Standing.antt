@@ -58,7 +58,7 @@ number-tag ImageNumber = refl
 number-tag ImageLinks = refl
 number-tag NoPlan = refl
 
--- Two are the same just where their numbers are.
+-- Two are the same just where their numbers are. (Cited by guiding.)
 pub number_same : (e d : Refusal) → eqb (number e) (number d) ≡ sameb the_type e d
 number_same e d = rw (number-tag e, number-tag d) (eqb-suc-suc (tag_of the_type e) (tag_of the_type d))
 
@@ -72,7 +72,8 @@ accepted-ok (Err e) m st h = sym (nonzero-refused m st (λ z. omega (arith, numb
 
 -- A record that was tried
 
-module _ {r : Record} {s t : Sketch} {x : Result ℕ Refusal} (a : Tried r s x t) (m : P.Draft Entry) (k : Plays m s) where
+module _ {r : Record} {s t : Sketch} {x : Result ℕ Refusal}
+    (a : Tried r s x t) (m : P.Draft Entry) (k : Plays m s) where
   -- The model's answer.
   answer-of : answer_of (outline m.state) (step_of r) ≡ answer x
   answer-of = ap (λ (w : RowState). answer_of (outline w) (step_of r)) (sym k.state) ∙ sym a.answer
@@ -164,9 +165,9 @@ need-moves {f = f} b h w o l e = record {
 
 module _ {r : Record} {s t : Sketch} {x : Result ℕ Refusal} (a : Tried r s x t) where
   -- It was noted.
-  pub put-moves : (u : Sketch) → abs u.row (places_in u.places) ≡ abs t.row (places_in t.places) → SameLent t.places u.places
-      → noted u.orders ≡ noted t.orders ++ (r ∷ []) → u.orders.count ≡ suc t.orders.count → SameList t.orders u.orders
-      → u.sound ≡ t.sound && is_ok x → Moves 1 (put entries r) s u
+  pub put-moves : (u : Sketch) → abs u.row (places_in u.places) ≡ abs t.row (places_in t.places)
+      → SameLent t.places u.places → noted u.orders ≡ noted t.orders ++ (r ∷ [])
+      → u.orders.count ≡ suc t.orders.count → SameList t.orders u.orders → u.sound ≡ t.sound && is_ok x → Moves 1 (put entries r) s u
   unfolding put
   put-moves u w places n c list e = record {
     few = omega (arith, c, ap (λ o. o.count) a.orders);
@@ -181,7 +182,8 @@ module _ {r : Record} {s t : Sketch} {x : Result ℕ Refusal} (a : Tried r s x t
   }
 
   -- A record with another answer than n is not left out.
-  pub kept-moves : (n : ℕ) → answer x ≢ n → {u : Sketch} → Moves 1 (put entries r) s u → Moves 1 (put_unless entries n r) s u
+  pub kept-moves : (n : ℕ) → answer x ≢ n → {u : Sketch} → Moves 1 (put entries r) s u
+      → Moves 1 (put_unless entries n r) s u
   unfolding put_unless
   kept-moves n ne h = moves-as (λ m j. ap (λ b. cond b m (put entries r m)) (sym
       (ap (λ k. eqb k n) (answer-of a m j.plays) ∙ ne_eqb (answer x) n ne))) h
@@ -249,10 +251,12 @@ times_more n f d = rw (add-one n) (times-again n f d)
 
 -- One more of the same is tried.
 pub plays-more : {r : Record} {s t : Sketch} {x : Result ℕ Refusal} → Tried r s x t → (n : ℕ) (m : P.Draft Entry)
-    → Plays (times n (put entries r) m) s → (u : Sketch) → abs u.row (places_in u.places) ≡ abs t.row (places_in t.places)
-    → u.sound ≡ t.sound && is_ok x → Plays (times (n + 1) (put entries r) m) u
+    → Plays (times n (put entries r) m) s → (u : Sketch)
+    → abs u.row (places_in u.places) ≡ abs t.row (places_in t.places) → u.sound ≡ t.sound && is_ok x
+    → Plays (times (n + 1) (put entries r) m) u
 plays-more {r} a n m k u w e =
-    subst (λ d. Plays d u) (sym (times_more n (put entries r) m)) (plays-put a (times n (put entries r) m) k {u = u} w e)
+    subst (λ d. Plays d u) (sym (times_more n (put entries r) m))
+    (plays-put a (times n (put entries r) m) k {u = u} w e)
 
 -- The same record n times.
 times-records : (n : ℕ) (r : Record) (m : P.Draft Entry)

@@ -19,7 +19,8 @@ loop-i-preserved c =
     let l = c.loop-i in
     elim c.if-has.branch [
       | then-has w ↦
-          turns-more q (hears entries) 2 l.i l.invariant _ c.at-b.ensures (sym c.has.ensures ∙ w.if-has.true) w.hears.ensures w.s-is
+          turns-more q (hears entries) 2 l.i l.invariant _ c.at-b.ensures (sym c.has.ensures ∙ w.if-has.true)
+          w.hears.ensures w.s-is
       | else-has w ↦
           turns-skip q (hears entries) 2 l.i l.invariant _ c.at-b.ensures (sym c.has.ensures ∙ w.if-has.false) w.s-is
     ]

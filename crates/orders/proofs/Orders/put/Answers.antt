@@ -11,12 +11,14 @@ pub put-requires : goal.put-requires
 put-requires c =
     let o = c.args.self.now in
     let l = c.loop-order in
-    order-room _ _ o.list.now o.count l.order-index _ (taken-below o.count o.list.now l.order-index c.loop-order-test.true)
+    order-room _ _ o.list.now o.count l.order-index _
+    (taken-below o.count o.list.now l.order-index c.loop-order-test.true)
     (taken o.count o.list.now l.order-index c.loop-order-test.true) c.requires l.invariant
 
 pub loop-order-preserved : goal.loop-order-preserved
 loop-order-preserved c =
     let o = c.args.self.now in
     let l = c.loop-order in
-    puts_as (sym (bytes-next l.order-index o.list.now _ (taken o.count o.list.now l.order-index c.loop-order-test.true)))
+    puts_as
+    (sym (bytes-next l.order-index o.list.now _ (taken o.count o.list.now l.order-index c.loop-order-test.true)))
     (puts-then l.invariant c.put.ensures)

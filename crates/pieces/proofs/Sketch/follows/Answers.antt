@@ -6,4 +6,5 @@ use Rattle.pieces.proofs.Sketch.follows.Goals as goal
 pub returns : goal.returns
 unfolding follows
 returns c =
-    moves-then (moves-then (moves-then c.informs.ensures c.put_unless.ensures) c.receives.ensures) c.put_unless-2.ensures
+    moves-then (moves-then (moves-then c.informs.ensures c.put_unless.ensures) c.receives.ensures)
+    c.put_unless-2.ensures

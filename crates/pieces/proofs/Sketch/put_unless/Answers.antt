@@ -1,4 +1,5 @@
--- `pieces::Sketch::put_unless` meets its contract: the record is tried, and noted unless it is left out. Assumes nothing.
+-- `pieces::Sketch::put_unless` meets its contract: the record is tried, and noted unless it is left out. Assumes
+-- nothing.
 use Rattle.std.proofs.Common.{◌&&◌, refl, sym, ap, ◌∙◌}
 use Rattle.pieces.proofs.Standing.{same-lent, put-moves, kept-moves, left-moves}
 use Rattle.pieces.proofs.Sketch.put_unless.Goals as goal
