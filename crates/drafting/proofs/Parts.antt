@@ -1,6 +1,6 @@
 -- The parts of a list on a row: the choosing part, the waiting part, the whole. Assumes nothing.
 use mathlib.Core.Bool.{Bool, true, false, ◌&&◌}
-use mathlib.Core.List.{[]}
+use mathlib.Core.List.{List, []}
 use mathlib.Core.Path.{◌≡◌, refl, sym, subst, ap, ap₂, ◌∙◌}
 use Prim.Native.Nat.{ℕ, ◌-◌}
 use native.Mathlib.Omega.{arith}
@@ -14,7 +14,9 @@ use Rattle.text.specs.Text.{Text}
 use Rattle.refinement.specs.Refinement.{abs}
 use Rattle.refinement.specs.Lent.{places_in, SameLent}
 use Rattle.recovery.specs.Plan.{Draft, first_of, highest, start, turns, put, put_unless, need, informs_controller, hears, choosing_part, informs, follows, reads_leader, waiting_part, draft, plan}
-use Rattle.orders.specs.Orders.{noted}
+use Rattle.orders.specs.declared.Order.{Order}
+use Rattle.orders.specs.Orders.{all_of}
+use Rattle.orders.specs.Noted.{noted}
 use Rattle.delivery.specs.Planned.{Planned}
 use Rattle.delivery.specs.Delivery.{delivered, Gives}
 use Rattle.pieces.specs.declared.Sketch.{Sketch}
@@ -97,12 +99,13 @@ module _ {s t : Sketch} where
 
 -- Nothing is noted yet, and no error was met; so what was made is the list of the state, and so it is given out.
 pub gives-plan : {s t : Sketch} → noted s.orders ≡ [] → s.sound ≡ true
-    → Moves 54 (draft entries (abs s.row (places_in s.places)).registry.status) s t → {out out' : Text} {x : Planned}
-    → Gives (delivered t.sound (noted t.orders)) out x out'
+    → Moves 54 (draft entries (abs s.row (places_in s.places)).registry.status) s t
+    → (os : List Order) → all_of os ≡ noted t.orders → {out out' : Text} {x : Planned}
+    → Gives (delivered t.sound (all_of os)) out x out'
     → Gives (plan entries (abs s.row (places_in s.places))) out x out'
 unfolding plan
-gives-plan {s} {t} none sound h {out} {out'} {x} g =
+gives-plan {s} {t} none sound h os e {out} {out'} {x} g =
     let j : Stands (start (abs s.row (places_in s.places))) s =
     record { plays = record { state = refl; sound = sound }; records = none } in
     let k = h.stands _ j in
-    subst (λ q. Gives q out x out') (ap₂ delivered k.plays.sound k.records) g
+    subst (λ q. Gives q out x out') (ap₂ delivered k.plays.sound (e ∙ k.records)) g

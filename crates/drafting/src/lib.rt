@@ -122,5 +122,5 @@ pub fn plan(row: &Cluster, places: LentMut<'_>, out: &mut [u8]) -> Result<usize,
         sound: true,
     };
     draft(&mut s);
-    delivery::deliver(s.sound, &s.orders, &mut *out)
+    delivery::deliver(s.sound, s.orders.kept(), &mut *out)
 }

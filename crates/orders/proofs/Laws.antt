@@ -115,9 +115,13 @@ order-room p q os k i x h e room w =
       length-replicate x.times (of x.step x.board),
     )
 
--- The first k orders hold what all of them hold.
-pub taken-below : (k : ℕ) (os : List Order) (i : ℕ) → i < length (take k os) → i < k
-taken-below k os i h = omega (arith, length-take k os)
+-- Orders past the first k are none of them.
+orders-take : (j k : ℕ) (os : List Order) → j ≤ k → orders j (take k os) ≡ orders j os
+unfolding orders
+orders-take zero k os h = refl
+orders-take (suc j) k os h = rw (orders-take j k os (omega arith), get_or-take k os j no_order (omega arith))
 
-pub taken : (k : ℕ) (os : List Order) (i : ℕ) → i < length (take k os) → get_or (take k os) i no_order ≡ get_or os i no_order
-taken k os i h = get_or-take k os i no_order (taken-below k os i h)
+pub all-taken : (k : ℕ) (os : List Order) → k ≤ length os → orders (length (take k os)) (take k os) ≡ orders k os
+all-taken k os h =
+    let n : length (take k os) ≡ k = omega (arith, length-take k os) in
+    ap (λ j. orders j (take k os)) n ∙ orders-take k k os (omega arith)

@@ -1,1 +1,2 @@
 pub mod Orders
+pub mod Noted

@@ -1,7 +1,10 @@
 // A list of records of a step and a board kept in few bytes, as orders, and written out as a sheet's records.
 #![tactic(auto)]
 
-ghost use Rattle.std.specs.Prelude.{◌≤◌, length};
+ghost use Rattle.std.specs.Prelude.{◌≡◌, ◌≤◌, length};
+ghost use Rattle.text.specs.Text.{HasRoom, Puts};
+ghost use Rattle.records.specs.Bytes.{sheet_bytes};
+ghost use Rattle.orders.specs.Orders.{all_of};
 
 use records::Record;
 use text::Page;
@@ -16,11 +19,9 @@ pub struct Order {
 }
 
 impl Order {
-    ghost use Rattle.std.specs.Prelude.{◌≡◌, replicate};
+    ghost use Rattle.std.specs.Prelude.{replicate};
     ghost use Rattle.model.specs.Records.{of};
-    ghost use Rattle.text.specs.Text.{HasRoom, Puts};
     ghost use Rattle.records.specs.Record.{record_of};
-    ghost use Rattle.records.specs.Bytes.{sheet_bytes};
 
     // Its record.
     pub fn record(self) -> Record
@@ -41,6 +42,28 @@ impl Order {
     }
 }
 
+// How many records the orders are. Inner layer: callers see to it that there are 64 at most, so that the sum fits.
+pub fn total(orders: &[Order]) -> usize
+    requires { length orders.now ≤ 64 }
+    ensures { result ≡ length (all_of orders.now) }
+{
+    let mut n = 0;
+    for order in orders {
+        n += order.times as usize;
+    }
+    n
+}
+
+// Writes the records of the orders. Inner layer: callers see to the room.
+pub fn put_orders(orders: &[Order], page: &mut Page<'_>)
+    requires { HasRoom page.old (sheet_bytes (all_of orders.now)) }
+    ensures { Puts page.old (sheet_bytes (all_of orders.now)) page.new }
+{
+    for order in orders {
+        order.put(&mut *page);
+    }
+}
+
 // The orders of a list: the first `count` in a slice that the caller lends, which has as many places as the caller has
 // room for; no heap is used.
 #[derive(Drop)]
@@ -51,11 +74,9 @@ pub struct Orders<'a> {
 }
 
 impl<'a> Orders<'a> {
-    ghost use Rattle.std.specs.Prelude.{◌≡◌, ◌<◌, suc, ◌++◌, [], length, replicate};
+    ghost use Rattle.std.specs.Prelude.{◌<◌, suc, ◌++◌, [], replicate};
     ghost use Rattle.model.specs.Records.{of};
-    ghost use Rattle.text.specs.Text.{HasRoom, Puts};
-    ghost use Rattle.records.specs.Bytes.{sheet_bytes};
-    ghost use Rattle.orders.specs.Orders.{noted, SameList};
+    ghost use Rattle.orders.specs.Noted.{noted, SameList};
 
     // No order yet.
     pub fn new(list: &'a mut [Order]) -> Orders<'a>
@@ -78,25 +99,11 @@ impl<'a> Orders<'a> {
         self.count += 1;
     }
 
-    // How many records they are. Inner layer: callers see to it that there are 64 orders at most, so the sum fits.
-    pub fn total(&self) -> usize
-        requires { self.now.count ≤ 64 }
-        ensures { result ≡ length (noted self.now) }
+    // Those that are kept.
+    pub fn kept(&self) -> &[Order]
+        ensures records { all_of result.now ≡ noted self.now }
+        ensures count { length result.now ≡ self.now.count }
     {
-        let mut n = 0;
-        for order in &self.list[..self.count] {
-            n += order.times as usize;
-        }
-        n
-    }
-
-    // Writes their records. Inner layer: callers see to the room.
-    pub fn put(&self, page: &mut Page<'_>)
-        requires { HasRoom page.old (sheet_bytes (noted self.now)) }
-        ensures { Puts page.old (sheet_bytes (noted self.now)) page.new }
-    {
-        for order in &self.list[..self.count] {
-            order.put(&mut *page);
-        }
+        &self.list[..self.count]
     }
 }

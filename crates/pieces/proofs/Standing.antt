@@ -30,7 +30,7 @@ use Rattle.refinement.specs.Lent.{places_in, SameLent}
 use Rattle.recovery.specs.Plan.{in_boards, times, put, put_unless, need, receives, informs, reads_leader}
 use Rattle.recovery.specs.Plan as P
 use Rattle.orders.specs.declared.Orders.{Orders}
-use Rattle.orders.specs.Orders.{noted, SameList}
+use Rattle.orders.specs.Noted.{noted, SameList}
 use Rattle.pieces.specs.declared.Sketch.{Sketch}
 use Rattle.pieces.specs.Pieces.{Tried, Plays, Stands, Moves}
 

@@ -9,7 +9,7 @@ use Rattle.model.specs.Records.{Record, step_of}
 use Rattle.refinement.specs.Refinement.{abs}
 use Rattle.refinement.specs.Lent.{places_in, SameLent}
 use Rattle.recovery.specs.Plan as P
-use Rattle.orders.specs.Orders.{noted, SameList}
+use Rattle.orders.specs.Noted.{noted, SameList}
 use Rattle.pieces.specs.declared.Sketch.{Sketch}
 
 -- The record r was tried, in the places that were lent: the answer and what is left are the model's, and one that is

@@ -4,4 +4,4 @@ use Rattle.drafting.proofs.Parts.{gives-plan}
 use Rattle.drafting.proofs.plan.Goals as goal
 
 pub returns : goal.returns
-returns c = gives-plan c.new.ensures.none refl c.draft.ensures c.deliver.ensures
+returns c = gives-plan c.new.ensures.none refl c.draft.ensures _ c.kept.ensures.records c.deliver.ensures

@@ -1,7 +1,7 @@
 -- The loop's invariant: the records of the orders so far are counted.
 use Rattle.std.proofs.Common.{◌≡◌, ◌*◌, ◌≤◌, length}
 use Rattle.orders.specs.Orders.{orders}
-use Rattle.orders.proofs.Orders.total.Given as goal
+use Rattle.orders.proofs.total.Given as goal
 
 abbrev pub invariant-loop-order : goal.invariant-loop-order
-invariant-loop-order l = (l.n ≡ length (orders l.order-index l.fn.self.list.now)) × (l.n ≤ 65535 * l.order-index)
+invariant-loop-order l = (l.n ≡ length (orders l.order-index l.orders)) × (l.n ≤ 65535 * l.order-index)

@@ -2,7 +2,7 @@
 use Rattle.text.specs.Text.{Puts}
 use Rattle.records.specs.Bytes.{sheet_bytes}
 use Rattle.orders.specs.Orders.{orders}
-use Rattle.orders.proofs.Orders.put.Given as goal
+use Rattle.orders.proofs.put_orders.Given as goal
 
 abbrev pub invariant-loop-order : goal.invariant-loop-order
-invariant-loop-order l = Puts l.fn.page (sheet_bytes (orders l.order-index l.fn.self.list.now)) l.page
+invariant-loop-order l = Puts l.fn.page (sheet_bytes (orders l.order-index l.orders)) l.page
