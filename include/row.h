@@ -20,11 +20,11 @@
  *
  * Stack. On every sheet that was tried a call of run_sheet took at most 45,840
  * bytes, with memcpy and memset bound beforehand (link with -z now; bound at
- * their first call, that call takes some more). No proof bounds it. The pages
- * are touched in order, so a guard page is met before anything below it. A call
- * of explain_sheet took at most 37,104 bytes, one of describe_record 424, one of
- * save_sheet 37,504, one of show_image 37,883, one of plan_sheet 37,224, one of
- * plan_image 29,147, one of seed_sheet 24, one of look_up_majority 8.
+ * their first call, that call took 48,744). No proof bounds it. The pages are
+ * touched in order, so a guard page is met before anything below it. A call of
+ * explain_sheet took at most 37,104 bytes, one of describe_record 376, one of
+ * save_sheet 37,552, one of show_image 37,888, one of plan_sheet 37,320, one of
+ * plan_image 29,152, one of seed_sheet 40, one of look_up_majority 8.
  *
  * Reentrant. Nothing is kept between calls: calls may run in several threads,
  * or one inside a handler that interrupts another, each with its own slices.
