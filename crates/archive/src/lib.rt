@@ -66,7 +66,8 @@ pub fn show_image(image: &[u8], out: &mut [u8], scratch: &mut [u8]) -> Result<us
         list2: &mut [0; 512],
     };
     let (mut row, _) = steps::opening(1);
-    image::load(&mut row, image, &mut p, scratch)?;
+    let taken = image::load(&mut row, image, &mut p, scratch); // Named for the edits of this test.
+    taken?;
     let list = p.list;
     let list2 = p.list2;
     let mut end = [0; 8704];

@@ -8,29 +8,29 @@ use Rattle.text.proofs.Laws.{puts-length, puts_back}
 use Rattle.archive.proofs.Archiving.{not-shown, taken-range, taken-terms, taken-full, taken-issued, is-shown}
 use Rattle.archive.proofs.show_image.Goals as goal
 
-pub returns-in_err-load-clause-result : goal.returns-in_err-load-clause-result
-returns-in_err-load-clause-result c =
-    let r : c.from_residual.result ≡ Err c.in_err-load.field-0.0 = grind (arith, c.in_err-load.was) in
-    r ∙ (not-shown c.args.image.now _ _ c.args.scratch.now _ _ _ refl c.load.ensures.loads c.args.out.now
-    c.in_err-load.field-0.0 (ap answer c.in_err-load.was)).0
+pub returns-in_err-taken-clause-result : goal.returns-in_err-taken-clause-result
+returns-in_err-taken-clause-result c =
+    let r : c.from_residual.result ≡ Err c.in_err-taken.field-0.0 = grind (arith, c.in_err-taken.was) in
+    r ∙ (not-shown c.args.image.now _ _ c.args.scratch.now _ _ _ refl c.load-taken.ensures.loads c.args.out.now
+    c.in_err-taken.field-0.0 (ap answer c.in_err-taken.was)).0
 
-pub returns-in_err-load-clause-text : goal.returns-in_err-load-clause-text
-returns-in_err-load-clause-text c =
-    (not-shown c.args.image.now _ _ c.args.scratch.now _ _ _ refl c.load.ensures.loads c.args.out.now
-    c.in_err-load.field-0.0 (ap answer c.in_err-load.was)).1
+pub returns-in_err-taken-clause-text : goal.returns-in_err-taken-clause-text
+returns-in_err-taken-clause-text c =
+    (not-shown c.args.image.now _ _ c.args.scratch.now _ _ _ refl c.load-taken.ensures.loads c.args.out.now
+    c.in_err-taken.field-0.0 (ap answer c.in_err-taken.was)).1
 
 pub put_ending-requires-clause-row : goal.put_ending-requires-clause-row
 put_ending-requires-clause-row c =
-    taken-range c.args.image.now _ _ c.args.scratch.now _ _ _ refl c.load.ensures.loads (ap answer c.in_ok-load.was)
+    taken-range c.args.image.now _ _ c.args.scratch.now _ _ _ refl c.load-taken.ensures.loads (ap answer c.in_ok-taken.was)
 
 pub put_ending-requires-clause-terms : goal.put_ending-requires-clause-terms
 put_ending-requires-clause-terms c =
-    taken-terms c.args.image.now _ _ c.args.scratch.now _ _ _ refl c.load.ensures.loads (ap answer c.in_ok-load.was)
+    taken-terms c.args.image.now _ _ c.args.scratch.now _ _ _ refl c.load-taken.ensures.loads (ap answer c.in_ok-taken.was)
 
 pub put_ending-requires-clause-long : goal.put_ending-requires-clause-long
 put_ending-requires-clause-long c =
-    let l = c.load.ensures.loads in
-    let z = ap answer c.in_ok-load.was in
+    let l = c.load-taken.ensures.loads in
+    let z = ap answer c.in_ok-taken.was in
     let f = taken-full c.args.image.now _ _ c.args.scratch.now _ _ _ refl l z in
     (taken-issued c.args.image.now _ _ c.args.scratch.now _ _ _ refl l z, f.list ∙ sym f.list2)
 
@@ -42,12 +42,12 @@ pub returns-clause-result : goal.returns-clause-result
 returns-clause-result c =
     let back = puts_back c.put_ending.ensures.text c.new-page.ensures.start
     (omega (arith, c.put_ending.ensures.most, puts-length c.put_ending.ensures.text, ap length c.new-page.ensures.text)) in
-    (is-shown c.args.image.now _ _ c.args.scratch.now _ _ _ refl c.load.ensures.loads (ap answer c.in_ok-load.was) _
+    (is-shown c.args.image.now _ _ c.args.scratch.now _ _ _ refl c.load-taken.ensures.loads (ap answer c.in_ok-taken.was) _
     c.args.out.now _ _ back c.deliver.ensures).0
 
 pub returns-clause-text : goal.returns-clause-text
 returns-clause-text c =
     let back = puts_back c.put_ending.ensures.text c.new-page.ensures.start
     (omega (arith, c.put_ending.ensures.most, puts-length c.put_ending.ensures.text, ap length c.new-page.ensures.text)) in
-    (is-shown c.args.image.now _ _ c.args.scratch.now _ _ _ refl c.load.ensures.loads (ap answer c.in_ok-load.was) _
+    (is-shown c.args.image.now _ _ c.args.scratch.now _ _ _ refl c.load-taken.ensures.loads (ap answer c.in_ok-taken.was) _
     c.args.out.now _ _ back c.deliver.ensures).1
