@@ -11,7 +11,7 @@ use text::deliver;
 
 // The line of a record and its answer. It returns the line's length; refusal 1 for a record that is not 8 bytes long or
 // an answer that is not on the list, then 3 for a slice that is shorter than the line; both leave the slice untouched.
-#[tactic(auto, unfolding(phrases::specs::Describe::outcome_of, phrases::specs::Describe::left))]
+#[tactic(auto, using(crate::proofs::Describing::describing))]
 pub fn describe_record(bytes: &[u8], answer: usize, line: &mut [u8]) -> Result<usize, Refusal>
     ensures { (result ≡ outcome_of bytes.now answer line.old)
         × (line.new ≡ left bytes.now answer line.old) }

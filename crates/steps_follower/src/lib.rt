@@ -28,6 +28,16 @@ fn restart(acked: &mut [u16; 64], b: Board, n: u16)
     acked[8 * i + i] = n;
 }
 
+// Step 6: the counts of b, whose log has n entries: they begin anew where its leader epoch changed.
+fn counts_after(acked: &mut [u16; 64], changed: bool, b: Board, n: u16)
+    ensures { at_pair acked.new
+        ≡ cond changed (upd (at_pair acked.old) b.number (upd M.zeros b.number n)) (at_pair acked.old) }
+{
+    if changed {
+        restart(acked, b, n);
+    }
+}
+
 // Step 6: the checks of b's news of the registry, and the replica b where they pass.
 fn may_refresh(row: &Cluster, b: u8) -> Result<Board, Refusal>
     ensures answer { answer result ≡ S.answer_of (outline_of row.now) (S.Step.refresh b) }
@@ -59,11 +69,9 @@ pub fn refresh(row: &mut Cluster, b: u8) -> Result<(), Refusal>
     let news = row.registry.view;
     let changed = row.view(b).term != news.term;
     row.views[i] = news;
-    if changed {
-        restart(&mut row.acked, b, n);
-        if news.leader == b.number {
-            row.joined[i] = news.term;
-        }
+    counts_after(&mut row.acked, changed, b, n);
+    if changed && news.leader == b.number {
+        row.joined[i] = news.term;
     }
     Ok(())
 }

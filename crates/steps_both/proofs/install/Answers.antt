@@ -1,5 +1,5 @@
 -- `steps_both::install` meets its contract. Assumes nothing.
-use Rattle.std.proofs.Common.{add-one, ◌∙◌}
+use Rattle.std.proofs.Common.{rules, add-one, ◌∙◌}
 use Rattle.std.proofs.lemmas.Result.{err_from_is_err_and}
 use Rattle.model.specs.Steps as S
 use Rattle.cluster.proofs.Steps.{settles_refused, settles_accepted}
@@ -19,9 +19,9 @@ pub returns : goal.returns
 returns c =
     let a = c.args in
     let b = c.in_ok-b in
-    settles_accepted (S.install a.b) a.r.now _ a.c.now _ c.ranked_not_above-fit.result
+    settles_accepted (S.install a.b) a.r.now _ a.c.now _ _
     (λ s. rw (b.ensures.test, ← b.ensures.number)
     (c.in_ok-may_install.ensures.checks ∙ rw (c.are_enough.ensures, c.ranked_not_above-fit.ensures)))
-    (λ s. rw (← b.ensures.number) c.ranked_not_above-fit.ensures)
+    (λ s. rw (← b.ensures.number) (search rules))
     (λ s. rw (add-one a.r.now.view.epoch, b.ensures.number))
     (λ s. c.deaf.ensures ∙ rw (add-one a.r.now.view.epoch, b.ensures.number))
