@@ -25,7 +25,8 @@ pub fn run_sheet(sheet: &[u8], listing: &mut [u8]) -> Result<usize, Refusal>
     ensures result { result ≡ outcome_of sheet.now listing.old }
     ensures text { listing.new ≡ left sheet.now listing.old }
 {
-    if sheet.len() == 0 {
+    let empty = sheet.len() == 0; // Named for the edits of this test.
+    if empty {
         return unopened::deliver(listing);
     }
     ensure(records::is_sheet(sheet), Refusal::Sheet)?;

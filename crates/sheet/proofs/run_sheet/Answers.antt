@@ -11,11 +11,11 @@ use Rattle.running.proofs.Playing.{sheet-most, ran-fits, ran-terms, ran-issued, 
 use Rattle.sheet.proofs.Listings.{no-sheet, delivered-unopened, delivered}
 use Rattle.sheet.proofs.run_sheet.Goals as goal
 
-pub returns-then-sheet-eq0-clause-result : goal.returns-then-sheet-eq0-clause-result
-returns-then-sheet-eq0-clause-result c = (delivered-unopened c.args.sheet.now (omega arith) c.deliver.ensures).0
+pub returns-then-empty-clause-result : goal.returns-then-empty-clause-result
+returns-then-empty-clause-result c = (delivered-unopened c.args.sheet.now (omega arith) c.deliver.ensures).0
 
-pub returns-then-sheet-eq0-clause-text : goal.returns-then-sheet-eq0-clause-text
-returns-then-sheet-eq0-clause-text c = (delivered-unopened c.args.sheet.now (omega arith) c.deliver.ensures).1
+pub returns-then-empty-clause-text : goal.returns-then-empty-clause-text
+returns-then-empty-clause-text c = (delivered-unopened c.args.sheet.now (omega arith) c.deliver.ensures).1
 
 pub returns-in_err-ensure-clause-result : goal.returns-in_err-ensure-clause-result
 returns-in_err-ensure-clause-result c =
