@@ -4,6 +4,9 @@ use mathlib.Core.List.{List, []}
 use mathlib.Core.Path.{◌≡◌, refl, sym, subst, ap, ap₂, ◌∙◌}
 use Prim.Native.Nat.{ℕ, ◌-◌}
 use native.Mathlib.Omega.{arith}
+use Rattle.std.specs.Prelude.{Result, Err}
+use Rattle.refusal.specs.declared.Refusal.{Refusal}
+use Rattle.refusal.specs.declared.Refusal.TheVariants.{NoPlan}
 use Rattle.model.specs.Prelude.{upd}
 use Rattle.model.specs.Members.{Members, size, quorum}
 use Rattle.model.specs.State.{Entry, entries, RowState, Status, normal, waiting}
@@ -13,11 +16,11 @@ use Rattle.cluster.specs.Layout.{controller_of}
 use Rattle.text.specs.Text.{Text}
 use Rattle.refinement.specs.Refinement.{abs}
 use Rattle.refinement.specs.Lent.{places_in, SameLent}
-use Rattle.recovery.specs.Plan.{Draft, first_of, highest, start, turns, put, put_unless, need, informs_controller, hears, choosing_part, informs, follows, reads_leader, waiting_part, draft, plan}
+use Rattle.recovery.specs.Plan.{Draft, first_of, highest, start, turns, error, put, put_unless, need, informs_controller, hears, choosing_part, informs, follows, reads_leader, waiting_part, draft, plan}
 use Rattle.orders.specs.declared.Order.{Order}
 use Rattle.orders.specs.Orders.{all_of}
 use Rattle.orders.specs.Noted.{noted}
-use Rattle.delivery.specs.Planned.{Planned}
+use Rattle.delivery.specs.Planned.{Planned, planned}
 use Rattle.delivery.specs.Delivery.{delivered, Gives}
 use Rattle.pieces.specs.declared.Sketch.{Sketch}
 use Rattle.pieces.specs.Pieces.{Stands, Moves}
@@ -97,15 +100,39 @@ module _ {s t : Sketch} where
   unfolding draft
   draft-choosing g e h = subst (λ i. Moves 54 (draft entries i) s t) (sym e) h
 
--- Nothing is noted yet, and no error was met; so what was made is the list of the state, and so it is given out.
-pub gives-plan : {s t : Sketch} → noted s.orders ≡ [] → s.sound ≡ true
+-- Nothing is noted yet, and no error was met: the draft that begins.
+pub start-stands : (s : Sketch) → noted s.orders ≡ [] → s.sound ≡ true
+    → Stands (start (abs s.row (places_in s.places))) s
+start-stands s none sound = record { plays = record { state = refl; sound = sound }; records = none }
+
+module _ (w : RowState) where
+  drafted : Draft Entry
+  drafted = draft entries w.registry.status (start w)
+
+  -- What stands for the draft of a state is its list, and so it is given out.
+  pub gives-plan : (s : Sketch) → Stands (draft entries w.registry.status (start w)) s
+      → {out out' : Text} {x : Planned} → Gives (delivered s.sound (noted s.orders)) out x out'
+      → Gives (plan entries w) out x out'
+  unfolding plan
+  gives-plan s j {out} {out'} {x} g =
+      subst (λ q. Gives q out x out') (ap₂ delivered j.plays.sound j.records) g
+
+  -- Where its draft has error 20, so has the state.
+  pub gives-error : {e : Refusal} → (e ≡ NoPlan) × ((draft entries w.registry.status (start w)).sound ≡ false)
+      → {y : Result ℕ Refusal} → y ≡ Err e → {out : Text} → Gives (plan entries w) out (planned y) out
+  unfolding plan drafted
+  gives-error h {y} i {out} =
+      let none : delivered drafted.sound drafted.records ≡ error = ap (λ t. delivered t drafted.records) h.1 in
+      subst (λ z. Gives (plan entries w) out (planned z) out) (sym (i ∙ ap Err h.0))
+      (subst (λ q. Gives q out (planned (Err NoPlan)) out) (sym none)
+      (record { answer = refl; count = refl; left = refl }))
+
+-- So is given out what was made of the draft that begins, as a list of the orders.
+pub gives-drafted : {s t : Sketch} → noted s.orders ≡ [] → s.sound ≡ true
     → Moves 54 (draft entries (abs s.row (places_in s.places)).registry.status) s t
     → (os : List Order) → all_of os ≡ noted t.orders → {out out' : Text} {x : Planned}
     → Gives (delivered t.sound (all_of os)) out x out'
     → Gives (plan entries (abs s.row (places_in s.places))) out x out'
-unfolding plan
-gives-plan {s} {t} none sound h os e {out} {out'} {x} g =
-    let j : Stands (start (abs s.row (places_in s.places))) s =
-    record { plays = record { state = refl; sound = sound }; records = none } in
-    let k = h.stands _ j in
-    subst (λ q. Gives q out x out') (ap₂ delivered k.plays.sound (e ∙ k.records)) g
+gives-drafted {s} {t} none sound h os e {out} {out'} {x} g =
+    gives-plan (abs s.row (places_in s.places)) t (h.stands _ (start-stands s none sound))
+    (subst (λ rs. Gives (delivered t.sound rs) out x out') e g)

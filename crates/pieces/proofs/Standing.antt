@@ -1,5 +1,5 @@
 -- Pieces of a list on a row: a record more, one left out, one piece after the other. Assumes nothing.
-use mathlib.Core.Bool.{Bool, true, false, cond, ◌&&◌}
+use mathlib.Core.Bool.{Bool, true, false, cond, ◌&&◌, true≢false}
 use mathlib.Core.List.{[], ◌∷◌, ◌++◌, append-nil, append_assoc}
 use mathlib.Core.Logic.{◌≢◌}
 use mathlib.Core.Path.{◌≡◌, refl, sym, subst, ap, ap₂, ◌∙◌}
@@ -70,6 +70,11 @@ accepted-ok : (x : Result ℕ Refusal) (m : Outline) (st : Step) → answer_of m
 accepted-ok (Ok n) m st h = sym (zero-accepted m st h)
 accepted-ok (Err e) m st h = sym (nonzero-refused m st (λ z. omega (arith, number-tag e, h, z)))
 
+-- What is no acceptance is not answered 0.
+refused-some : (x : Result ℕ Refusal) → is_ok x ≡ false → answer x ≢ 0
+refused-some (Ok n) e = absurd (true≢false e)
+refused-some (Err d) e = λ z. omega (arith, number-tag d, z)
+
 -- A record that was tried
 
 module _ {r : Record} {s t : Sketch} {x : Result ℕ Refusal}
@@ -79,7 +84,7 @@ module _ {r : Record} {s t : Sketch} {x : Result ℕ Refusal}
   answer-of = ap (λ (w : RowState). answer_of (outline w) (step_of r)) (sym k.state) ∙ sym a.answer
 
   -- It is a record more, accepted or not;
-  plays-put : {u : Sketch} → abs u.row (places_in u.places) ≡ abs t.row (places_in t.places)
+  pub plays-put : {u : Sketch} → abs u.row (places_in u.places) ≡ abs t.row (places_in t.places)
       → u.sound ≡ t.sound && is_ok x → Plays (put entries r m) u
   unfolding put
   plays-put w e = record {
@@ -88,11 +93,14 @@ module _ {r : Record} {s t : Sketch} {x : Result ℕ Refusal}
   }
 
   -- refused, it leaves everything.
-  plays-refused : answer x ≢ 0 → Plays m t
-  plays-refused n = record {
+  plays-left : answer x ≢ 0 → Plays m t
+  plays-left n = record {
     state = ap₂ abs (a.refused n).0 (a.refused n).1 ∙ k.state;
     sound = a.sound ∙ k.sound;
   }
+
+  pub plays-refused : is_ok x ≡ false → Plays m t
+  plays-refused e = plays-left (refused-some x e)
 
 -- The places and the list that were lent
 
@@ -195,7 +203,7 @@ module _ {r : Record} {s t : Sketch} {x : Result ℕ Refusal} (a : Tried r s x t
       (ap (λ k. eqb k n) (answer-of a m j.plays) ∙ eq-eqb (answer x) n e))) (record {
         few = omega (arith, ap (λ o. o.count) a.orders);
         stands = λ m j. record {
-          plays = plays-refused a m j.plays (λ z. absurd (omega (arith, some, e, z)));
+          plays = plays-left a m j.plays (λ z. absurd (omega (arith, some, e, z)));
           records = ap noted a.orders ∙ j.records;
         };
         same = a.same;
@@ -246,7 +254,7 @@ unfolding times
 times-again zero f d = refl
 times-again (suc n) f d = times-again n f (f d)
 
-times_more : {A : Type 0} (n : ℕ) (f : A → A) (d : A) → times (n + 1) f d ≡ f (times n f d)
+pub times_more : {A : Type 0} (n : ℕ) (f : A → A) (d : A) → times (n + 1) f d ≡ f (times n f d)
 times_more n f d = rw (add-one n) (times-again n f d)
 
 -- One more of the same is tried.
